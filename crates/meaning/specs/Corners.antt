@@ -1,0 +1,277 @@
+-- The corners of document 01's rules, as docs/DECISIONS.md reads them: tables as that of `Examples`, one for each card to begin with.
+-- Assumes nothing.
+use Prim.Native.Nat.{ℕ, zero, suc, _+_}
+use mathlib.Core.Bool.{Bool, true, false, _&&_}
+use mathlib.Core.List.{List, [], _∷_, _++_}
+use lib.ListN.{length, replicate}
+use lib.Dec.{T, eqb}
+use Rattle.meaning.specs.Octets.{same, two, four}
+use Rattle.meaning.specs.Wire.{rootIn, element, tlv, mapping, withdraw, release, recordOf}
+use Rattle.meaning.specs.Card.{Route, Tree, Use, free, mapped, awaiting, Card, withTrees, withLabels, freeLabels, lookupName}
+use Rattle.meaning.specs.Events.{Out, tell, Event, receive, join, leave, route, event, start}
+use Rattle.meaning.specs.Computing.{computing}
+use Rattle.meaning.specs.Examples.{Row, anew, then, enough, flat, feed, agrees, wrong, NoneWrong, A, wide, firstCard, heard, wrote}
+
+-- ---- messages that are not as they should be
+
+-- a message of any type and any body; its length field is right
+unfoldable pub packed : ℕ → List ℕ → List ℕ
+packed kind body = two kind ++ (two (4 + length body) ++ (four 77 ++ body))
+
+-- its TLVs, each before what follows it
+unfoldable pub fec : List ℕ → List ℕ → List ℕ
+fec value rest = tlv 0x0100 value rest
+
+unfoldable pub label : ℕ → List ℕ → List ℕ
+label l rest = tlv 0x0200 (four l) rest
+
+unfoldable pub said : List ℕ → Event
+said body = receive 1 (packed mapping body)
+
+-- an element of any type, family and address length, with an opaque length of k whatever follows
+unfoldable pub odd : ℕ → ℕ → ℕ → ℕ → List ℕ → List ℕ
+odd kind family size k opaque = kind ∷ (two family ++ (size ∷ (rootIn A ++ (two k ++ opaque))))
+
+-- a row with other room
+abbrev pub inRoom : ℕ → Row → Row
+inRoom n r = record { anew = r .anew; room = n; does = r .does; answer = r .answer; octets = r .octets; free = r .free; asked = r .asked; gives = r .gives }
+
+-- refused with that number on the card of case 1, whose lookups stay empty
+abbrev pub refuses : Event → ℕ → Row
+refuses e n = anew e n [] 256 16 []
+
+-- Mapping <A, 100> from 1 taken on that card
+abbrev pub maps : Event → Row
+maps e = anew e 0 (recordOf 1 (tell 0 mapping A 16)) 255 16 (1 ∷ 100 ∷ [])
+
+-- a tree of a 16-octet root
+unfoldable pub other : List ℕ
+other = element 2 (replicate 16 32) (9 ∷ [])
+
+unfoldable pub readings : List Row
+readings =
+    -- 1: neighbour 16, though there are no octets
+    refuses (receive 16 []) 1 ∷
+    -- 2: a length field one short, one long; before any other number
+    refuses (receive 1 (two mapping ++ (two 32 ++ (four 77 ++ fec A (label 100 []))))) 2 ∷
+    refuses (receive 1 (two 0x0401 ++ (two 34 ++ (four 77 ++ fec A (label 100 []))))) 2 ∷
+    -- 3: another type; the U bit of a known one (reading 1); before 4
+    refuses (receive 1 (packed 0x0401 (fec A (label 100 [])))) 3 ∷
+    refuses (receive 1 (packed 0x8400 (fec A (label 100 [])))) 3 ∷
+    refuses (receive 1 (packed 0x0401 (fec A (label 100 (0 ∷ []))))) 3 ∷
+    -- 4: one to three octets of a head are left over (reading 2), and a value that runs past, also behind a TLV that is stepped over
+    refuses (said (fec A (label 100 (0 ∷ [])))) 4 ∷
+    refuses (said (fec A (label 100 (0x80 ∷ 1 ∷ 0 ∷ [])))) 4 ∷
+    refuses (said (fec A (label 100 (0x80 ∷ 1 ∷ 0 ∷ 1 ∷ [])))) 4 ∷
+    refuses (said (fec A (label 100 (tlv 0x8001 (5 ∷ []) (0x80 ∷ 1 ∷ 0 ∷ 1 ∷ []))))) 4 ∷
+    -- 4, not 5: no FEC, and a later head runs past; not 6: no element, and a further value runs past
+    refuses (said (label 100 (0 ∷ 0 ∷ 0 ∷ []))) 4 ∷
+    refuses (said (fec (odd 2 1 4 7 (replicate 7 7)) (label 100 (0x80 ∷ 1 ∷ 0 ∷ 1 ∷ [])))) 4 ∷
+    -- 5: Label first; FEC with the U bit (reading 1); FEC alone; a U-bit TLV between FEC and Label; nothing
+    refuses (said (label 100 (fec A []))) 5 ∷
+    refuses (said (tlv 0x8100 A (label 100 []))) 5 ∷
+    refuses (said (fec A [])) 5 ∷
+    refuses (said (fec A (tlv 0x8001 [] (label 100 [])))) 5 ∷
+    refuses (said []) 5 ∷
+    -- 6: no octet; a prefix; family 3; family 2 with four octets; family 1 with sixteen; two elements; an octet behind one
+    refuses (said (fec [] (label 100 []))) 6 ∷
+    refuses (said (fec (odd 2 1 4 7 (replicate 7 7)) (label 100 []))) 6 ∷
+    refuses (said (fec (odd 6 3 4 7 (replicate 7 7)) (label 100 []))) 6 ∷
+    refuses (said (fec (odd 6 2 4 7 (replicate 7 7)) (label 100 []))) 6 ∷
+    refuses (said (fec (odd 6 1 16 7 (replicate 7 7)) (label 100 []))) 6 ∷
+    refuses (said (fec (A ++ A) (label 100 []))) 6 ∷
+    refuses (said (fec (A ++ (0 ∷ [])) (label 100 []))) 6 ∷
+    -- 6 and 7 (reading 3): an opaque length of 33 that fills is 7, one that does not is 6; 0 likewise
+    refuses (said (fec (odd 6 1 4 33 (replicate 33 7)) (label 100 []))) 7 ∷
+    refuses (said (fec (odd 6 1 4 33 (replicate 7 7)) (label 100 []))) 6 ∷
+    refuses (said (fec (odd 6 1 4 0 []) (label 100 []))) 7 ∷
+    refuses (said (fec (odd 6 1 4 0 (replicate 7 7)) (label 100 []))) 6 ∷
+    -- 7 before 8
+    refuses (said (fec (odd 6 1 4 0 []) (tlv 0x0200 (0 ∷ 0 ∷ 100 ∷ []) []))) 7 ∷
+    -- 8: three octets, five; a bit above the twenty (reading 4); before 9
+    refuses (said (fec A (tlv 0x0200 (0 ∷ 0 ∷ 100 ∷ []) []))) 8 ∷
+    refuses (said (fec A (tlv 0x0200 (0 ∷ 0 ∷ 0 ∷ 100 ∷ 0 ∷ []) []))) 8 ∷
+    refuses (said (fec A (label 0x100064 []))) 8 ∷
+    refuses (said (fec A (label 15 (tlv 0x0001 [] [])))) 8 ∷
+    -- 9: a further TLV with U bit clear, with the F bit too; a second Label (reading 4); behind one that is stepped over
+    refuses (said (fec A (label 100 (tlv 0x0001 (5 ∷ []) [])))) 9 ∷
+    refuses (said (fec A (label 100 (tlv 0x4001 (5 ∷ []) [])))) 9 ∷
+    refuses (said (fec A (label 100 (label 100 [])))) 9 ∷
+    refuses (said (fec A (label 100 (tlv 0x8001 (5 ∷ []) (tlv 0x0001 [] []))))) 9 ∷
+    -- further TLVs with U bit set are stepped over, F bit or not
+    maps (said (fec A (label 100 (tlv 0x8001 (5 ∷ []) (tlv 0xC002 [] []))))) ∷
+    -- a Withdraw of an unknown tree: Release, table as before; one of another label: Release, and the branch stays
+    anew (heard 5 withdraw A 100) 0 (wrote 1 5 release 100) 256 16 [] ∷
+    maps (heard 1 mapping A 100) ∷
+    then (heard 1 withdraw A 101) 0 (wrote 2 1 release 101) 255 16 (1 ∷ 100 ∷ []) ∷
+    -- 10: the branch stands with another label; with the same: nothing; a Mapping from the upstream is a branch
+    then (heard 1 mapping A 101) 10 [] 255 16 (1 ∷ 100 ∷ []) ∷
+    then (heard 1 mapping A 100) 0 [] 255 16 (1 ∷ 100 ∷ []) ∷
+    then (heard 0 mapping A 100) 0 [] 255 16 (0 ∷ 100 ∷ 1 ∷ 100 ∷ []) ∷
+    -- 13 (reading 8): a label that is still mapped; one that is free; one outside the block
+    then (heard 0 release A 16) 13 [] 255 16 (0 ∷ 100 ∷ 1 ∷ 100 ∷ []) ∷
+    then (heard 0 release A 17) 13 [] 255 16 (0 ∷ 100 ∷ 1 ∷ 100 ∷ []) ∷
+    then (heard 0 release A 272) 13 [] 255 272 [] ∷
+    -- a leaf joins, twice, and leaves, twice: 14
+    then (join A) 0 [] 255 16 (0 ∷ 100 ∷ 1 ∷ 100 ∷ 1 ∷ []) ∷
+    then (join A) 0 [] 255 16 (0 ∷ 100 ∷ 1 ∷ 100 ∷ 1 ∷ []) ∷
+    then (leave A) 0 [] 255 16 (0 ∷ 100 ∷ 1 ∷ 100 ∷ []) ∷
+    then (leave A) 14 [] 255 16 (0 ∷ 100 ∷ 1 ∷ 100 ∷ []) ∷
+    -- the route goes to this node, the branches stay, the label awaits; the same route again; no route; the same again (reading 6)
+    then (route (rootIn A) 16) 0 (wrote 3 0 withdraw 16) 255 16 [] ∷
+    then (route (rootIn A) 16) 0 [] 255 16 [] ∷
+    then (route (rootIn A) 17) 0 [] 255 16 [] ∷
+    then (route (rootIn A) 17) 0 [] 255 16 [] ∷
+    -- back to neighbour 0: a new label, while 16 still awaits (reading 10)
+    then (route (rootIn A) 0) 0 (wrote 4 0 mapping 17) 254 17 (0 ∷ 100 ∷ 1 ∷ 100 ∷ []) ∷
+    -- 13 (reading 8): the Release names another tree; then the tree itself: taken
+    then (heard 0 release (wide 7) 16) 13 [] 254 16 [] ∷
+    then (heard 0 release A 16) 0 [] 255 17 (0 ∷ 100 ∷ 1 ∷ 100 ∷ []) ∷
+    -- a leaf alone, no route known: the tree stands without a label, and needs none (reading 5)
+    anew (join other) 0 [] 256 16 [] ∷
+    -- its route comes, and it gets one; it leaves, and the label is withdrawn
+    then (route (rootIn other) 9) 0 (recordOf 1 (tell 9 mapping other 16)) 255 16 (1 ∷ []) ∷
+    then (leave other) 0 (recordOf 2 (tell 9 withdraw other 16)) 255 16 [] ∷
+    -- 14 (reading 8): a tree that does not stand
+    then (leave other) 14 [] 255 16 [] ∷
+    -- leaf orders begin at 6
+    refuses (join (1 ∷ [])) 6 ∷
+    refuses (join (wide 0)) 7 ∷
+    refuses (leave (wide 33)) 7 ∷
+    -- a route order: 1 before 6; 6; no route for an unknown root is the route that it has (reading 6)
+    refuses (route (1 ∷ []) 18) 1 ∷
+    refuses (route (1 ∷ []) 17) 6 ∷
+    refuses (route (replicate 16 1) 17) 0 ∷
+    -- 16 (reading 7): one octet short; just enough; no room is enough for nothing; a Withdraw without room for its Release leaves the branch
+    inRoom 40 (refuses (heard 1 mapping A 100) 16) ∷
+    inRoom 41 (maps (heard 1 mapping A 100)) ∷
+    inRoom 0 (then (heard 2 mapping A 200) 0 [] 255 16 (1 ∷ 100 ∷ 2 ∷ 200 ∷ [])) ∷
+    inRoom 40 (then (heard 2 withdraw A 200) 16 [] 255 16 (1 ∷ 100 ∷ 2 ∷ 200 ∷ [])) ∷
+    -- 16 comes last
+    inRoom 0 (then (heard 2 mapping A 201) 10 [] 255 16 (1 ∷ 100 ∷ 2 ∷ 200 ∷ [])) ∷
+    []
+
+-- ---- few labels, many trees, many roots
+
+-- the k-th tree of A's root
+unfoldable pub kin : ℕ → List ℕ
+kin k = element 1 (rootIn A) (k ∷ [])
+
+-- on the card of case 1, n of them, each with a leaf and so with a label
+unfoldable pub grown : ℕ → Card
+grown zero = firstCard
+grown (suc n) = event enough (grown n) (join (kin n)) .card
+
+-- all free labels but the first n await release
+unfoldable pub scarce : ℕ → List Use → List Use
+scarce n [] = []
+scarce zero (free ∷ us) = awaiting 9 [] ∷ scarce zero us
+scarce (suc n) (free ∷ us) = free ∷ scarce n us
+scarce n (mapped k a ∷ us) = mapped k a ∷ scarce n us
+scarce n (awaiting k a ∷ us) = awaiting k a ∷ scarce n us
+
+unfoldable pub left : ℕ → Card → Card
+left n c = withLabels (scarce n (c .labels)) c
+
+-- 64 trees of A's root, each with a leaf and a label mapped to neighbour 0; the other labels await release
+unfoldable pub crowd : ℕ → ℕ → List Tree
+crowd zero k = []
+crowd (suc n) k = record { name = kin k; branches = replicate 16 0; leaf = true; label = 16 + k } ∷ crowd n (suc k)
+
+unfoldable pub usedBy : List Tree → List Use
+usedBy [] = replicate 192 (awaiting 9 [])
+usedBy (t ∷ ts) = mapped 0 (t .name) ∷ usedBy ts
+
+unfoldable pub fullCard : Card
+fullCard = let ts = crowd 64 0 in withTrees ts (withLabels (usedBy ts) firstCard)
+
+unfoldable pub fullRows : List Row
+fullRows =
+    -- 11, not 12: a new tree; and even where it needs no label
+    anew (join (kin 64)) 11 [] 0 16 (1 ∷ []) ∷
+    anew (join other) 11 [] 0 16 (1 ∷ []) ∷
+    -- a further branch to a standing tree is taken; a Withdraw of an unknown tree is answered (reading 5)
+    anew (heard 5 mapping (kin 0) 100) 0 [] 0 16 (5 ∷ 100 ∷ 1 ∷ []) ∷
+    anew (heard 5 withdraw A 100) 0 (wrote 1 5 release 100) 0 16 (1 ∷ []) ∷
+    -- 12 before 16, none moved
+    inRoom 0 (anew (route (rootIn A) 3) 12 [] 0 16 (1 ∷ [])) ∷
+    []
+
+unfoldable pub scarceRows : List Row
+scarceRows =
+    -- 12: three trees need a label each, two are free, though three will be given up (reading 6); to this node none is needed
+    anew (route (rootIn A) 3) 12 [] 2 16 (1 ∷ []) ∷
+    anew (route (rootIn A) 16) 0 (recordOf 4 (tell 0 withdraw (kin 0) 16) ++ (recordOf 5 (tell 0 withdraw (kin 1) 17) ++ recordOf 6 (tell 0 withdraw (kin 2) 18))) 2 16 [] ∷
+    -- a tree that went and came back is the newest (reading 10)
+    anew (leave (kin 0)) 0 (recordOf 4 (tell 0 withdraw (kin 0) 16)) 2 16 [] ∷
+    then (join (kin 0)) 0 (recordOf 5 (tell 0 mapping (kin 0) 19)) 1 19 (1 ∷ []) ∷
+    then (route (rootIn A) 17) 0 (recordOf 6 (tell 0 withdraw (kin 1) 17) ++ (recordOf 7 (tell 0 withdraw (kin 2) 18) ++ recordOf 8 (tell 0 withdraw (kin 0) 19))) 1 19 [] ∷
+    -- 12: a new tree, with none free; one whose root has no route needs none (reading 5)
+    then (join (kin 5)) 0 [] 1 20 [] ∷
+    then (route (rootIn A) 3) 12 [] 1 20 [] ∷
+    []
+
+-- one label is free
+unfoldable pub lastRows : List Row
+lastRows =
+    anew (join (kin 5)) 0 (recordOf 4 (tell 0 mapping (kin 5) 19)) 0 19 (1 ∷ []) ∷
+    then (join (kin 6)) 12 [] 0 19 (1 ∷ []) ∷
+    then (join other) 0 [] 0 19 (1 ∷ []) ∷
+    []
+
+-- a root of four octets
+unfoldable pub root : ℕ → List ℕ
+root k = 10 ∷ 0 ∷ 0 ∷ k ∷ []
+
+unfoldable pub rooted : ℕ → Card
+rooted zero = start 16 .card
+rooted (suc n) = event enough (rooted n) (route (root n) 16) .card
+
+unfoldable pub rootRows : List Row
+rootRows =
+    -- 15: a new root, also to this node (reading 6); "no route" and a root that stands pass
+    anew (route (root 32) 3) 15 [] 256 16 [] ∷
+    anew (route (root 32) 16) 15 [] 256 16 [] ∷
+    anew (route (root 32) 17) 0 [] 256 16 [] ∷
+    anew (route (root 0) 3) 0 [] 256 16 [] ∷
+    then (route (root 1) 17) 0 [] 256 16 [] ∷
+    then (route (root 32) 3) 0 [] 256 16 [] ∷
+    then (route (root 1) 3) 15 [] 256 16 [] ∷
+    []
+
+-- ---- what no row shows
+
+-- the roots that have a route, in their order, one after the other
+unfoldable pub rootsOf : List Route → List ℕ
+rootsOf [] = []
+rootsOf (r ∷ rs) = r .root ++ rootsOf rs
+
+-- Reading 9: a changed route stays in its place, a removed one closes the gap, a new one comes last.
+unfoldable pub rerouted : Card
+rerouted =
+    let changed = event enough (rooted 3) (route (root 1) 5) .card in
+    let removed = event enough changed (route (root 0) 17) .card in
+    event enough removed (route (root 0) 7) .card
+
+-- 17: the base's range, and a refused start's card
+unfoldable pub startsAs : ℕ → ℕ → ℕ → Bool
+startsAs base answer becomes = eqb (start base .answer) answer && eqb (start base .card .base) becomes && eqb (freeLabels (start base .card)) 256
+
+unfoldable pub others : Bool
+others =
+    same (rootsOf (rerouted .routes)) (root 1 ++ (root 2 ++ root 0))
+    && startsAs 15 17 16 && startsAs 16 0 16 && startsAs 1048320 0 1048320 && startsAs 1048321 17 16
+    -- Reading 11: a lookup by name; octets that 6 or 7 refuse name none
+    && same (feed (lookupName (kin 0) (grown 2))) (1 ∷ []) && same (feed (lookupName A (grown 2))) []
+    && same (feed (lookupName [] (grown 2))) [] && same (feed (lookupName (wide 0) (grown 2))) []
+
+-- ---- the one statement
+
+pub corners-shown : NoneWrong (wrong 1 firstCard firstCard readings)
+    × NoneWrong (wrong 1 fullCard firstCard fullRows)
+    × NoneWrong (wrong 1 (left 2 (grown 3)) firstCard scarceRows)
+    × NoneWrong (wrong 1 (left 1 (grown 3)) firstCard lastRows)
+    × NoneWrong (wrong 1 (rooted 32) firstCard rootRows)
+    × T others
+unfolding computing readings other packed fec label said odd wrong firstCard agrees flat feed A wide heard wrote kin grown scarce left crowd usedBy fullCard fullRows scarceRows lastRows root rooted rootRows rootsOf rerouted startsAs others
+corners-shown = (tt, tt, tt, tt, tt, tt)

@@ -1,0 +1,12 @@
+pub mod Octets
+pub mod Lists
+pub mod Wire
+pub mod Card
+pub mod Events
+pub mod Computing
+pub mod Examples
+pub mod Corners
+pub mod WireLaws
+pub mod RoundTrip
+pub mod Calls
+pub mod Refusals
