@@ -1,0 +1,108 @@
+// Slices of octets and of numbers: every loop over them lives here. A caller lends the part that it means, `&mut s[a..e]`.
+ghost use mathlib.Core.Path.{_≡_};
+ghost use Prim.Native.Nat.{ℕ, _+_, _-_, _≤_, _<_};
+ghost use lib.ListN.{length, take, drop, getD, replicate};
+ghost use Rattle.meaning.specs.Octets.{same, twoAt, fourAt};
+ghost use Rattle.octets.specs.Part.{mid, shifted};
+
+fn wide(x: u8) -> u64
+    ensures { λ r. ⌜ (r ≡ x) × (r < 256) ⌝ }
+{
+    x as u64
+}
+
+// The octet at a place, and 0 past the end, as the definitions read it.
+pub fn at(s: &[u8], i: usize) -> u64
+    ensures { λ r. ⌜ (r ≡ getD (now (s .entry)) i 0) × (r < 256) ⌝ }
+{
+    if i < s.len() { wide(s[i]) } else { 0 }
+}
+
+// Big-endian numbers of two octets and of four.
+pub fn two_at(s: &[u8], i: usize) -> u64
+    requires { ⌜ i + 1 < 18446744073709551616 ⌝ }
+    ensures { λ r. ⌜ (r ≡ twoAt (now (s .entry)) i) × (r < 65536) ⌝ }
+{
+    at(s, i) * 256 + at(s, i + 1)
+}
+
+pub fn four_at(s: &[u8], i: usize) -> u64
+    requires { ⌜ i + 3 < 18446744073709551616 ⌝ }
+    ensures { λ r. ⌜ (r ≡ fourAt (now (s .entry)) i) × (r < 4294967296) ⌝ }
+{
+    two_at(s, i) * 65536 + two_at(s, i + 2)
+}
+
+// Whether two slices hold the same octets.
+pub fn equal(a: &[u8], b: &[u8]) -> bool
+    ensures { λ r. ⌜ r ≡ same (now (a .entry)) (now (b .entry)) ⌝ }
+{
+    if a.len() != b.len() {
+        return false;
+    }
+    let mut i = 0;
+    while i < a.len() {
+        if a[i] != b[i] {
+            return false;
+        }
+        i += 1;
+    }
+    true
+}
+
+pub fn copy(dst: &mut [u8], src: &[u8])
+    requires { ⌜ length (now src) ≡ length (now dst) ⌝ }
+    ensures { λ _. ⌜ now (dst .exit) ≡ now (src .entry) ⌝ }
+{
+    let mut i = 0;
+    while i < src.len() {
+        dst[i] = src[i];
+        i += 1;
+    }
+}
+
+// n octets from one place of a slice to a later one, which they do not reach.
+pub fn copy_within(s: &mut [u8], from: usize, to: usize, n: usize)
+    requires { ⌜ (from + n ≤ to) × (to + n ≤ length (now s)) ⌝ }
+    ensures { λ _. ⌜ now (s .exit) ≡ mid to n (now (s .entry)) (take n (drop from (now (s .entry)))) ⌝ }
+{
+    let mut i = 0;
+    while i < n {
+        s[to + i] = s[from + i];
+        i += 1;
+    }
+}
+
+pub fn zero(dst: &mut [u64])
+    ensures { λ _. ⌜ now (dst .exit) ≡ replicate (length (now (dst .entry))) 0 ⌝ }
+{
+    let mut i = 0;
+    while i < dst.len() {
+        dst[i] = 0;
+        i += 1;
+    }
+}
+
+pub fn shift_octets(d: &mut [u8], w: usize)
+    requires { ⌜ w ≤ length (now d) ⌝ }
+    ensures { λ _. ⌜ now (d .exit) ≡ shifted w (now (d .entry)) ⌝ }
+{
+    let n = d.len() - w;
+    let mut i = 0;
+    while i < n {
+        d[i] = d[i + w];
+        i += 1;
+    }
+}
+
+pub fn shift_numbers(d: &mut [u64], w: usize)
+    requires { ⌜ w ≤ length (now d) ⌝ }
+    ensures { λ _. ⌜ now (d .exit) ≡ shifted w (now (d .entry)) ⌝ }
+{
+    let n = d.len() - w;
+    let mut i = 0;
+    while i < n {
+        d[i] = d[i + w];
+        i += 1;
+    }
+}

@@ -1,0 +1,470 @@
+-- Every event keeps the table sound, and makes of each tree what it says.
+-- Assumes nothing.
+use Prim.Native.Nat.{ℕ, zero, suc, _+_, _-_, _≤_, _<_, suc-le-suc, zero-le}
+use native.Mathlib.Nat.{le-of-suc-le-suc, not-suc-le-zero, le-refl, le-trans}
+use native.Mathlib.Omega.{arith}
+use mathlib.Core.Path.{_≡_, refl, sym, ap, ap₂, _∙_, subst}
+use mathlib.Core.Bool.{Bool, true, false, not, _&&_, _||_}
+use mathlib.Core.List.{List, [], _∷_, _++_}
+use lib.ListN.{take, drop, getD, length, set, length-set, replicate}
+use lib.Dec.{eqb, leb, ltb}
+use borrow.Author.Tests.{eqb-true, eqb-false, eq-eqb, ne-eqb, ltb-true, ltb-false, leb-true, not-true, not-false}
+use Rattle.meaning.specs.Octets.{pick, place, count, any, same, put, cut, fourAt, _when_else_}
+use Rattle.meaning.specs.Wire.{Tlv, fecOf, labelOf, isLabel, isKind, mapping, withdraw, release, Message, messageIn, messageRefusal, elementRefusal, Sent}
+use Rattle.meaning.specs.Card.{Tree, Use, free, mapped, awaiting, Card, noRoute, withRoutes, withTrees, withLabels, withBranch, withLeaf, withLabel, named, bare, treePlace, treeOf, treeAt, isEmpty, isFree, isAwaiting, mappedTo, useOf, heldFor, freeLabels, routeOf}
+use Rattle.meaning.specs.Events.{Outcome, refused, taken, unless, Moved, tell, setUse, relabel, need, labelsShort, upstream, upstreamOf, entered, swept, treeRefusal, enter, become, branch, onMapping, lessBranch, onWithdraw, notAwaited, onRelease, onMessage, noNeighbour, onOctets, onJoin, onLeave, moveAll, needAll, routesWith, routeRefusal, reRoute, onRoute, Event, receive, join, leave, route, outcome}
+use Rattle.promise.specs.Promise.{Given, remove, noteSent, noteAll, noteTaken, NoneLive}
+use Rattle.meaning.specs.Lists.{by-test, picked, same-eq, same-refl, same-no, count-set, count-new, no-when}
+use Rattle.meaning.specs.WireLaws.{element-0}
+use Rattle.meaning.specs.RoundTrip.{both, AllSendable, Sendable, Sayable, sendable-append}
+use Rattle.promise.specs.LiveLaws.{Linked, linked-eq, upd, free-linked, Books, books-eq, books-remove, books-removed}
+use Rattle.promise.specs.CardLaws.{use-after, in-block, shape, Proper, Tidy, tree-name, tree-sized, entered-is, entered-tidy, put-within, at-named, swept-is, swept-tidy, swept-use, swept-labels, swept-base, swept-routes}
+use Rattle.promise.specs.RuleLaws.{Ruled, upstream-same, route-ruled, put-other-at, swept-at}
+use Rattle.promise.specs.LabelLaws.{at-other, held-other, relabel-own, Sound, Fine, relabel-fine, relabel-none, none-append, note-append, shape-name, Kept, all-kept, use-place}
+
+-- ---- what an event that is taken makes of the tree named a
+
+unfoldable pub byMessage : ℕ → Message → Tree → Tree
+byMessage n m t = pick (eqb (m .kind) mapping) (withBranch n (m .label) t) (pick (eqb (m .kind) withdraw) (lessBranch n (m .label) t) t)
+
+unfoldable pub became : Event → List ℕ → Tree → Tree
+became (receive n s) a t = pick (same (messageIn s .name) a) (byMessage n (messageIn s) t) t
+became (join e) a t = pick (same e a) (withLeaf true t) t
+became (leave e) a t = pick (same e a) (withLeaf false t) t
+became (route r via) a t = t
+
+-- whether an event names the tree a; a route order may touch any
+unfoldable pub names : Event → List ℕ → Bool
+names (receive n s) a = same (messageIn s .name) a
+names (join e) a = same e a
+names (leave e) a = same e a
+names (route r via) a = true
+
+-- ---- what is to be kept, from a table c with gs live
+
+pub record Follows (c : Card) (gs : List Given) (f : List ℕ → Tree → Tree) (touched : List ℕ → Bool) (ms : List Sent) (after : Card) : Type 0 where
+  pub sound : Sound after (noteAll ms gs)
+  pub fair : NoneLive ms gs
+  pub said : AllSendable ms
+  pub shapes : (b : List ℕ) → shape (treeOf b after) ≡ shape (f b (treeOf b c))
+  pub apart : (b : List ℕ) → touched b ≡ false → treeOf b after ≡ treeOf b c
+  pub ruled : Ruled c → Ruled after
+
+unfoldable pub Keeps : Card → List Given → (List ℕ → Tree → Tree) → (List ℕ → Bool) → Outcome → Type 0
+Keeps c gs f t (refused n) = n ≡ 0 → ⊥
+Keeps c gs f t (taken ms after) = Follows c gs f t ms after
+
+unless-keeps : (c : Card) (gs : List Given) (f : List ℕ → Tree → Tree) (t : List ℕ → Bool) (n : ℕ) (o : Outcome) → (n ≡ 0 → Keeps c gs f t o) → Keeps c gs f t (unless n o)
+unfolding unless Keeps
+unless-keeps c gs f t zero o h = h refl
+unless-keeps c gs f t (suc n) o h = λ z. omega arith
+
+refused-keeps : (c : Card) (gs : List Given) (f : List ℕ → Tree → Tree) (t : List ℕ → Bool) (n : ℕ) → Keeps c gs f t (refused (suc n))
+unfolding Keeps
+refused-keeps c gs f t n = λ z. omega arith
+
+keeps-eq : (c : Card) (gs : List Given) (f g : List ℕ → Tree → Tree) (t : List ℕ → Bool) (o : Outcome) → ((a : List ℕ) (x : Tree) → f a x ≡ g a x) → Keeps c gs f t o → Keeps c gs g t o
+unfolding Keeps
+keeps-eq c gs f g t (refused n) e k = k
+keeps-eq c gs f g t (taken ms after) e k = record { sound = k .sound; fair = k .fair; said = k .said; shapes = λ b. k .shapes b ∙ ap shape (e b (treeOf b c)); apart = k .apart; ruled = k .ruled }
+
+-- messages that make no label live, and mark none
+unfoldable pub Quiet : List Given → List Sent → Type 0
+Quiet gs ms = (noteAll ms gs ≡ gs) × NoneLive ms gs × AllSendable ms
+
+none-quiet : (gs : List Given) → Quiet gs []
+unfolding Quiet noteAll NoneLive AllSendable
+none-quiet gs = (refl, tt, tt)
+
+-- what is known of a message that 1 to 9 pass, from neighbour n
+pub record Heard (n : ℕ) (a : List ℕ) (l : ℕ) : Type 0 where
+  pub near : n < 16
+  pub name : elementRefusal a ≡ 0
+  pub low : 16 ≤ l
+  pub high : l ≤ 1048575
+
+release-quiet : (gs : List Given) (n : ℕ) (a : List ℕ) (l : ℕ) → Heard n a l → Quiet gs (tell n release a l ∷ [])
+unfolding Quiet noteAll noteSent NoneLive AllSendable isKind
+release-quiet gs n a l g = (
+  refl,
+  ((λ e. absurd (omega arith)), tt),
+  (record { near = g .near; says = record { kind = refl; kind-fits = omega arith; name = g .name; low = g .low; high = g .high } }, tt),
+)
+
+label-ok : (v : List ℕ) → isLabel v ≡ true → (16 ≤ fourAt v 0) × (fourAt v 0 ≤ 1048575)
+unfolding isLabel
+label-ok v e =
+    let a = both (eqb (length v) 4 && leb 16 (fourAt v 0)) (leb (fourAt v 0) 1048575) e in
+    let b = both (eqb (length v) 4) (leb 16 (fourAt v 0)) (a .0) in
+    (leb-true _ _ (b .1), leb-true _ _ (a .1))
+
+heard : (n : ℕ) (s : List ℕ) → n < 16 → messageRefusal s ≡ 0 → Heard n (messageIn s .name) (messageIn s .label)
+unfolding messageRefusal messageIn
+heard n s near e =
+    let p2 = no-when 1 _ _ e in
+    let p3 = no-when 2 _ _ (p2 .1) in
+    let p4 = no-when 3 _ _ (p3 .1) in
+    let p5 = no-when 4 _ _ (p4 .1) in
+    let p6 = no-when 5 _ _ (p5 .1) in
+    let p7 = no-when 6 _ _ (p6 .1) in
+    let p8 = no-when 7 _ _ (p7 .1) in
+    let l = label-ok (labelOf s .value) (not-false _ (p8 .0)) in
+    record { near = near; name = element-0 (fecOf s .value) (not-false _ (p6 .0)) (not-false _ (p7 .0)); low = l .0; high = l .1 }
+
+upstream-near : (via : ℕ) → eqb (upstream via) noRoute ≡ false → upstream via < 16
+unfolding upstream
+upstream-near via =
+    by-test (ltb via 16)
+    (λ e. rw e (λ _. ltb-true via 16 e))
+    (λ e. rw e (λ z. absurd (let z′ : _≡_ {A = ℕ} 0 1 = cc in omega arith)))
+
+with-near : (c : Card) (t : Tree) → eqb (upstreamOf c t) noRoute ≡ false → upstreamOf c t < 16
+unfolding upstreamOf
+with-near c t =
+    by-test (isEmpty t)
+    (λ e. rw e (λ z. absurd (let z′ : _≡_ {A = ℕ} 0 1 = cc in omega arith)))
+    (λ e. rw e (upstream-near _))
+
+-- ---- one tree's event
+
+unfoldable pub onlyFor : List ℕ → (Tree → Tree) → List ℕ → Tree → Tree
+onlyFor a f b t = pick (same a b) (f t) t
+
+pub getD-put {ℓ} : {A : Type ℓ} (t : A → Bool) (l : List A) (x d : A) → getD (put l (place t l) x) (place t l) d ≡ x
+unfolding place put
+getD-put t [] x d = refl
+getD-put t (y ∷ l) x d = by-test (t y) (λ e. rw e refl) (λ e. rw e (getD-put t l x d))
+
+module _ (c : Card) (gs : List Given) (S : Sound c gs) (a : List ℕ) (good : elementRefusal a ≡ 0) (f : Tree → Tree)
+    (keeps-name : (t : Tree) → f t .name ≡ t .name) (keeps-label : (t : Tree) → f t .label ≡ t .label) (keeps-size : (t : Tree) → length (f t .branches) ≡ length (t .branches)) where
+  its : Tree
+  its = f (treeOf a c)
+
+  its-name : its .name ≡ a
+  unfolding its
+  its-name = keeps-name (treeOf a c) ∙ tree-name a c
+
+  its-size : length (its .branches) ≡ 16
+  unfolding its
+  its-size = keeps-size (treeOf a c) ∙ tree-sized a c (S .tidy)
+
+  its-place : ℕ
+  its-place = treePlace (its .name) c
+
+  entered-tree : (b : List ℕ) → treeOf b (entered c its) ≡ onlyFor a f b (treeOf b c)
+  unfolding onlyFor its
+  entered-tree b =
+      entered-is c (S .tidy) its b
+      ∙ ap (λ (x : List ℕ). pick (same x b) its (treeOf b c)) its-name
+      ∙ by-test (same a b)
+      (λ k. rw k (ap (λ (x : List ℕ). f (treeOf x c)) (same-eq a b k)))
+      (λ k. rw k refl)
+
+  entered-label : (b : List ℕ) → treeOf b (entered c its) .label ≡ treeOf b c .label
+  unfolding onlyFor
+  entered-label b = ap (λ (t : Tree). t .label) (entered-tree b) ∙ picked (λ (t : Tree). t .label ≡ treeOf b c .label) (same a b) (λ _. keeps-label (treeOf b c)) (λ _. refl)
+
+  entered-use : (l : ℕ) → useOf l (entered c its) ≡ useOf l c
+  unfolding useOf entered withTrees
+  entered-use l = refl
+
+  entered-sound : Sound (entered c its) gs
+  entered-sound = record {
+    tidy = entered-tidy c (S .tidy) its (unfold Proper in (its-size, ap elementRefusal its-name ∙ good));
+    low = unfold entered withTrees in S .low;
+    high = unfold entered withTrees in S .high;
+    many = unfold entered withTrees in S .many;
+    linked = linked-eq _ _ _ _ entered-label entered-use (S .linked);
+    books = books-eq _ _ gs entered-use (S .books);
+    sum = unfold entered withTrees freeLabels in S .sum;
+  }
+
+  its-within : its-place < length (entered c its .trees)
+  unfolding its-place entered withTrees treePlace
+  its-within = put-within (named (its .name)) (c .trees) its
+
+  its-at : treeAt its-place (entered c its) ≡ its
+  unfolding its-place treeAt entered withTrees treePlace
+  its-at = getD-put (named (its .name)) (c .trees) its (bare [])
+
+  module _ (enough : need c its (upstreamOf c its) ≤ freeLabels c) where
+    entered-enough : need (entered c its) (treeAt its-place (entered c its)) (upstreamOf c its) ≤ freeLabels (entered c its)
+    entered-enough = rw its-at (unfold need heldFor useOf freeLabels entered withTrees in enough)
+
+    relabelled : Moved
+    relabelled = relabel its-place (upstreamOf c its) (entered c its)
+
+    fine : Fine its-place (entered c its) gs relabelled
+    unfolding relabelled
+    fine = relabel-fine (entered c its) gs entered-sound its-place its-within (upstreamOf c its) (with-near c its) entered-enough
+
+    bare-label : isEmpty (treeAt its-place (relabelled .card)) ≡ true → treeAt its-place (relabelled .card) .label ≡ 0
+    unfolding upstreamOf relabelled
+    bare-label e =
+        let empty : isEmpty its ≡ true = sym (same-empty _ _ (fine .at its-place ∙ ap shape its-at)) ∙ e in
+        relabel-none (entered c its) gs entered-sound its-place its-within (upstreamOf c its) (with-near c its) entered-enough (rw empty refl)
+      where
+        same-empty : (t s : Tree) → shape t ≡ shape s → isEmpty t ≡ isEmpty s
+        same-empty t s e = unfold isEmpty shape withLabel in ap (λ (x : Tree). isEmpty x) e
+
+    within-after : its-place < length (relabelled .card .trees)
+    within-after = rw (fine .size) its-within
+
+    swept-tree : (b : List ℕ) → treeOf b (swept its-place (relabelled .card)) ≡ treeOf b (relabelled .card)
+    swept-tree b = swept-is (relabelled .card) (fine .sound .tidy) its-place within-after bare-label b
+
+    swept-sound : Sound (swept its-place (relabelled .card)) (noteAll (relabelled .sent) gs)
+    swept-sound = record {
+      tidy = swept-tidy (relabelled .card) (fine .sound .tidy) its-place within-after bare-label;
+      low = rw (swept-base (relabelled .card) its-place) (fine .sound .low);
+      high = rw (swept-base (relabelled .card) its-place) (fine .sound .high);
+      many = ap length (swept-labels (relabelled .card) its-place) ∙ fine .sound .many;
+      linked = linked-eq _ _ _ _ (λ b. ap (λ (t : Tree). t .label) (swept-tree b)) (λ l. swept-use (relabelled .card) its-place l) (fine .sound .linked);
+      books = books-eq _ _ _ (λ l. swept-use (relabelled .card) its-place l) (fine .sound .books);
+      sum = unfold freeLabels in rw (swept-labels (relabelled .card) its-place) (unfold freeLabels in fine .sound .sum);
+    }
+
+    abbrev end : Card
+    end = swept its-place (relabelled .card)
+
+    end-routes : end .routes ≡ c .routes
+    end-routes = swept-routes (relabelled .card) its-place ∙ fine .routes ∙ unfold entered withTrees in refl
+
+    -- a tree at another place is as it was
+    else-at : (k : ℕ) → k < length (relabelled .card .trees) → (its-place ≡ k → ⊥) → (k < length (c .trees)) × (treeAt k (relabelled .card) ≡ treeAt k c) × (heldFor (relabelled .card) (treeAt k c) ≡ heldFor c (treeAt k c))
+    else-at k h d =
+        let h₁ : k < length (entered c its .trees) = rw (fine .size) at h in
+        let old : (treeAt k (entered c its) ≡ treeAt k c) × (k < length (c .trees)) = was k h₁ d in (
+          old .1,
+          at-other (entered c its) gs entered-sound its-place its-within relabelled fine k h₁ d ∙ old .0,
+          ap (heldFor (relabelled .card)) (sym (old .0)) ∙ held-other (entered c its) gs entered-sound its-place its-within relabelled fine k h₁ d ∙ ap (heldFor (entered c its)) (old .0) ∙ held-entered (treeAt k c),
+        )
+      where
+        was : (k : ℕ) → k < length (entered c its .trees) → (its-place ≡ k → ⊥) → (treeAt k (entered c its) ≡ treeAt k c) × (k < length (c .trees))
+        was k h d = unfold its-place treeAt entered withTrees treePlace in put-other-at (named (its .name)) (c .trees) its (bare []) k d h
+
+        held-entered : (t : Tree) → heldFor (entered c its) t ≡ heldFor c t
+        held-entered t = unfold heldFor useOf entered withTrees in refl
+
+    end-held : (t : Tree) → heldFor end t ≡ heldFor (relabelled .card) t
+    unfolding heldFor
+    end-held t = ap mappedTo (swept-use (relabelled .card) its-place (t .label))
+
+    -- the place itself
+    here-held : heldFor (relabelled .card) (treeAt its-place (relabelled .card)) ≡ upstreamOf end (treeAt its-place (relabelled .card))
+    here-held =
+        let own : heldFor (relabelled .card) (treeAt its-place (relabelled .card)) ≡ upstreamOf c its = unfold relabelled in relabel-own (entered c its) gs entered-sound its-place its-within (upstreamOf c its) (with-near c its) entered-enough in
+        own
+        ∙ upstream-same c end its (treeAt its-place (relabelled .card)) (sym end-routes) (sym (fine .at its-place ∙ ap shape its-at))
+
+    ruled-after : Ruled c → Ruled (swept its-place (relabelled .card))
+    ruled-after R = record {
+      roots = λ r. rw end-routes (R .roots r);
+      full = λ j h. let r = swept-at (relabelled .card) its-place j h in
+          rw (r .2) (by-test (eqb its-place (r .0))
+          (λ e. r .3 (eqb-true _ _ e))
+          (λ e. let o = else-at (r .0) (r .1) (eqb-false _ _ e) in rw (o .1) (R .full (r .0) (o .0))));
+      held = λ j h. let r = swept-at (relabelled .card) its-place j h in
+          rw (r .2) (end-held (treeAt (r .0) (relabelled .card)) ∙ by-test (eqb its-place (r .0))
+          (λ e. subst (λ (k : ℕ). heldFor (relabelled .card) (treeAt k (relabelled .card)) ≡ upstreamOf end (treeAt k (relabelled .card))) (eqb-true its-place (r .0) e) here-held)
+          (λ e. let o = else-at (r .0) (r .1) (eqb-false _ _ e) in
+          rw (o .1) (o .2 ∙ R .held (r .0) (o .0) ∙ upstream-same c end (treeAt (r .0) c) (treeAt (r .0) c) (sym end-routes) refl)));
+    }
+
+    entered-follows : (first : List Sent) → Quiet gs first → Follows c gs (onlyFor a f) (same a) (first ++ relabelled .sent) (swept its-place (relabelled .card))
+    unfolding Quiet
+    entered-follows first q = record {
+      sound = rw (note-append first (relabelled .sent) gs, q .0) swept-sound;
+      fair = none-append first (relabelled .sent) gs (q .1) (rw (q .0) (fine .fair));
+      said = sendable-append first (relabelled .sent) (q .2) (fine .said);
+      shapes = λ b. ap shape (swept-tree b) ∙ fine .shapes b ∙ ap shape (entered-tree b);
+      apart = λ b n. swept-tree b ∙ fine .others b (ap (λ (t : Tree). same (t .name) b) its-at ∙ ap (λ (x : List ℕ). same x b) its-name ∙ n) ∙ entered-tree b ∙ (unfold onlyFor in rw n refl);
+      ruled = ruled-after;
+    }
+
+  pub enter-keeps : (first : List Sent) → Quiet gs first → treeRefusal c (f (treeOf a c)) ≡ 0 → Keeps c gs (onlyFor a f) (same a) (enter c first (f (treeOf a c)))
+  unfolding treeRefusal labelsShort its enter Keeps relabelled its-place
+  enter-keeps first q e = entered-follows (ltb-false _ _ (no-when 11 _ 0 (no-when 10 _ _ e .1) .0)) first q
+
+  pub become-keeps : (first : List Sent) → Quiet gs first → Keeps c gs (onlyFor a f) (same a) (become c first (f (treeOf a c)))
+  unfolding become
+  become-keeps first q = unless-keeps c gs _ _ _ _ (enter-keeps first q)
+
+-- ---- messages
+
+size-branch : (n l : ℕ) (t : Tree) → length (withBranch n l t .branches) ≡ length (t .branches)
+unfolding withBranch
+size-branch n l t = length-set (t .branches) n l
+
+less-name : (n l : ℕ) (t : Tree) → lessBranch n l t .name ≡ t .name
+unfolding lessBranch withBranch
+less-name n l t = picked (λ (x : Tree). x .name ≡ t .name) (eqb (branch t n) l) (λ _. refl) (λ _. refl)
+
+less-label : (n l : ℕ) (t : Tree) → lessBranch n l t .label ≡ t .label
+unfolding lessBranch withBranch
+less-label n l t = picked (λ (x : Tree). x .label ≡ t .label) (eqb (branch t n) l) (λ _. refl) (λ _. refl)
+
+less-size : (n l : ℕ) (t : Tree) → length (lessBranch n l t .branches) ≡ length (t .branches)
+unfolding lessBranch
+less-size n l t = picked (λ (x : Tree). length (x .branches) ≡ length (t .branches)) (eqb (branch t n) l) (λ _. size-branch n 0 t) (λ _. refl)
+
+pub awaiting-eq : (n : ℕ) (a : List ℕ) (u : Use) → isAwaiting n a u ≡ true → u ≡ awaiting n a
+unfolding isAwaiting
+awaiting-eq n a free e = cc
+awaiting-eq n a (mapped k t) e = cc
+awaiting-eq n a (awaiting k t) e =
+    by-test (eqb k n)
+    (λ h. ap₂ awaiting (eqb-true k n h) (same-eq t a (rw h at e)))
+    (λ h. let z : false ≡ true = rw h at e in cc)
+
+either : {X : Type 0} (b : Bool) (x : X) → x ≡ pick b x x
+either true x = refl
+either false x = refl
+
+freed-free : (c : Card) (l : ℕ) → isFree (getD (c .labels) (l - c .base) free) ≡ false → l - c .base < length (c .labels) → freeLabels (setUse l free c) ≡ suc (freeLabels c)
+unfolding freeLabels setUse withLabels isFree
+freed-free c l old within = count-new isFree (c .labels) (l - c .base) free free old refl within
+
+freed-tree : (c : Card) (l : ℕ) (b : List ℕ) → treeOf b (setUse l free c) ≡ treeOf b c
+unfolding treeOf treePlace setUse withLabels
+freed-tree c l b = refl
+
+module _ (c : Card) (gs : List Given) (S : Sound c gs) where
+  -- a Release that is taken: the label is free
+  freed-sound : (n k : ℕ) (a : List ℕ) (l : ℕ) → isAwaiting n a (useOf l c) ≡ true → Sound (setUse l free c) (remove n (record { kind = k; name = a; label = l }) gs)
+  unfolding isFree
+  freed-sound n k a l w =
+      let us : useOf l c ≡ awaiting n a = awaiting-eq n a (useOf l c) w in
+      let block : (c .base ≤ l) × (l - c .base < length (c .labels)) = in-block c l (ap isFree us) in
+      let uses : (x : ℕ) → useOf x (setUse l free c) ≡ upd (λ (y : ℕ). useOf y c) l free x = use-after c l free (block .0) (block .1) in
+      let fewer = books-removed _ gs (S .books) a l n k us in
+      let old : isFree (getD (c .labels) (l - c .base) free) ≡ false = ap isFree (sym (use-place c l (block .0)) ∙ us) in
+      let more : freeLabels (setUse l free c) ≡ suc (freeLabels c) = freed-free c l old (block .1) in
+      record {
+        tidy = unfold setUse withLabels in S .tidy;
+        low = unfold setUse withLabels in S .low;
+        high = unfold setUse withLabels in S .high;
+        many = unfold setUse withLabels in length-set (c .labels) (l - c .base) free ∙ S .many;
+        linked = linked-eq _ _ _ _ (λ b. ap (λ (t : Tree). t .label) (freed-tree c l b)) uses (free-linked _ _ (S .linked) l n a w);
+        books = books-eq _ _ _ uses (books-remove _ gs (S .books) a l n k us);
+        sum = omega (arith, S .sum);
+      }
+
+  -- no tree carries a label that awaits release
+  freed-held : (n : ℕ) (a : List ℕ) (l : ℕ) → isAwaiting n a (useOf l c) ≡ true → (j : ℕ) → j < length (c .trees) → heldFor (setUse l free c) (treeAt j c) ≡ heldFor c (treeAt j c)
+  unfolding heldFor isFree mappedTo
+  freed-held n a l w j h =
+      let us : useOf l c ≡ awaiting n a = awaiting-eq n a (useOf l c) w in
+      let block : (c .base ≤ l) × (l - c .base < length (c .labels)) = in-block c l (ap isFree us) in
+      ap mappedTo (use-after c l free (block .0) (block .1) (treeAt j c .label))
+      ∙ by-test (eqb l (treeAt j c .label))
+      (λ e. rw e (sym (ap mappedTo (ap (λ (x : ℕ). useOf x c) (sym (eqb-true l (treeAt j c .label) e)) ∙ us))))
+      (λ e. rw e refl)
+
+  freed-ruled : (n k : ℕ) (a : List ℕ) (l : ℕ) → isAwaiting n a (useOf l c) ≡ true → Ruled c → Ruled (setUse l free c)
+  freed-ruled n k a l w R = record {
+    roots = unfold setUse withLabels in R .roots;
+    full = unfold setUse withLabels treeAt in R .full;
+    held = λ j h. ap (heldFor (setUse l free c)) (freed-at j) ∙ freed-held n a l w j (unfold setUse withLabels in h) ∙ R .held j (unfold setUse withLabels in h) ∙ upstream-same c (setUse l free c) (treeAt j c) (treeAt j (setUse l free c)) (unfold setUse withLabels in refl) (ap shape (sym (freed-at j)));
+  }
+    where
+      freed-at : (j : ℕ) → treeAt j (setUse l free c) ≡ treeAt j c
+      freed-at j = unfold treeAt setUse withLabels in refl
+
+  release-keeps : (n k : ℕ) (a : List ℕ) (l : ℕ) (t : List ℕ → Bool) → Keeps c (remove n (record { kind = k; name = a; label = l }) gs) (λ b x. x) t (onRelease c n a l)
+  unfolding onRelease notAwaited
+  release-keeps n k a l t =
+      unless-keeps c _ _ _ _ (taken [] (setUse l free c))
+      (λ e. unfold Keeps in record {
+        sound = unfold noteAll in freed-sound n k a l (not-false _ (no-when 12 _ 0 e .0));
+        fair = unfold NoneLive in tt;
+        said = unfold AllSendable in tt;
+        shapes = λ b. ap shape (freed-tree c l b);
+        apart = λ b _. freed-tree c l b;
+        ruled = freed-ruled n k a l (not-false _ (no-when 12 _ 0 e .0));
+      })
+
+  mapping-keeps : (n : ℕ) (a : List ℕ) (l : ℕ) → Heard n a l → Keeps c gs (onlyFor a (withBranch n l)) (same a) (onMapping c n a l)
+  unfolding onMapping
+  mapping-keeps n a l g = unless-keeps c gs _ _ _ _ (λ _. become-keeps c gs S a (g .name) (withBranch n l) (λ t. unfold withBranch in refl) (λ t. unfold withBranch in refl) (size-branch n l) [] (none-quiet gs))
+
+  withdraw-keeps : (n : ℕ) (a : List ℕ) (l : ℕ) → Heard n a l → Keeps c gs (onlyFor a (lessBranch n l)) (same a) (onWithdraw c n a l)
+  unfolding onWithdraw
+  withdraw-keeps n a l g = become-keeps c gs S a (g .name) (lessBranch n l) (less-name n l) (less-label n l) (less-size n l) _ (release-quiet gs n a l g)
+
+  message-keeps : (n : ℕ) (m : Message) → Heard n (m .name) (m .label) → Keeps c (pick (eqb (m .kind) release) (remove n m gs) gs) (onlyFor (m .name) (byMessage n m)) (same (m .name)) (onMessage c n m)
+  unfolding onMessage onlyFor byMessage
+  message-keeps n m g =
+      by-test (eqb (m .kind) mapping)
+      (λ e. rw (e, ne-eqb (m .kind) release (λ k. omega (arith, eqb-true (m .kind) mapping e)))
+      (keeps-eq c gs (onlyFor (m .name) (withBranch n (m .label))) (onlyFor (m .name) (byMessage n m)) _ _ (λ b t. rw e refl) (mapping-keeps n (m .name) (m .label) g)))
+      (λ e. by-test (eqb (m .kind) withdraw)
+      (λ k. rw (e, k, ne-eqb (m .kind) release (λ k′. omega (arith, eqb-true (m .kind) withdraw k)))
+      (keeps-eq c gs (onlyFor (m .name) (lessBranch n (m .label))) (onlyFor (m .name) (byMessage n m)) _ _ (λ b t. rw (e, k) refl) (withdraw-keeps n (m .name) (m .label) g)))
+      (λ k. by-test (eqb (m .kind) release)
+      (λ r. rw (e, k, r) (keeps-eq c (remove n m gs) (λ b t. t) (onlyFor (m .name) (byMessage n m)) _ _ (λ b t. rw (e, k) (either (same (m .name) b) t)) (release-keeps n (m .kind) (m .name) (m .label) _)))
+      (λ r. rw (e, k, r) (refused-keeps c gs (onlyFor (m .name) (byMessage n m)) _ 2))))
+
+  -- ---- the route order
+
+  routed : (r : List ℕ) (via : ℕ) (m : Moved) → Kept c gs m → (Ruled c → Ruled (withRoutes (routesWith c r via) (m .card))) → Follows c gs (λ b x. x) (λ b. true) (m .sent) (withRoutes (routesWith c r via) (m .card))
+  routed r via m k rl = record {
+    sound = record {
+      tidy = unfold withRoutes in k .sound .tidy;
+      low = unfold withRoutes in k .sound .low;
+      high = unfold withRoutes in k .sound .high;
+      many = unfold withRoutes in k .sound .many;
+      linked = unfold withRoutes treeOf treePlace useOf in k .sound .linked;
+      books = unfold withRoutes useOf in k .sound .books;
+      sum = unfold withRoutes freeLabels in k .sound .sum;
+    };
+    fair = k .fair;
+    said = k .said;
+    shapes = λ b. unfold withRoutes treeOf treePlace in k .shapes b;
+    apart = λ b e. absurd (let z : _≡_ {A = ℕ} 0 1 = cc in omega arith);
+    ruled = rl;
+  }
+
+  moved-keeps : (r : List ℕ) (via : ℕ) → routeRefusal c r via ≡ 0 → Keeps c gs (λ b x. x) (λ b. true) (reRoute c r via)
+  unfolding reRoute Keeps routeRefusal labelsShort
+  moved-keeps r via e =
+      let enough : needAll r (upstream via) c ≤ freeLabels c = ltb-false _ _ (no-when 11 _ 0 (no-when 14 _ _ e .1) .0) in
+      routed r via (moveAll r (upstream via) c) (all-kept r (upstream via) (upstream-near via) c gs S enough) (λ R. route-ruled c gs S R r via (upstream-near via) enough)
+
+  route-keeps : (r : List ℕ) (via : ℕ) → Keeps c gs (λ b x. x) (λ b. true) (onRoute c r via)
+  unfolding onRoute
+  route-keeps r via =
+      unless-keeps c gs _ _ _ _
+      (λ _. picked (Keeps c gs (λ b x. x) (λ b. true)) (eqb (routeOf r c) via)
+      (λ _. unfold Keeps noteAll NoneLive AllSendable in record { sound = S; fair = tt; said = tt; shapes = λ b. refl; apart = λ b _. refl; ruled = λ R. R })
+      (λ _. unless-keeps c gs _ _ (routeRefusal c r via) (reRoute c r via) (moved-keeps r via)))
+
+  -- ---- every event
+
+  pub event-keeps : (e : Event) → Keeps c (noteTaken e gs) (became e) (names e) (outcome c e)
+  unfolding outcome noteTaken became names onOctets onJoin onLeave onlyFor noNeighbour
+  event-keeps (receive n s) = unless-keeps c _ _ _ _ _ (λ z. unless-keeps c _ _ _ _ _ (λ e. message-keeps n (messageIn s) (heard n s (suc-le-suc (ltb-false 15 n (no-when 0 _ 0 z .0))) e)))
+  event-keeps (join e) = unless-keeps c gs _ _ _ _ (λ ok. become-keeps c gs S e ok (withLeaf true) (λ t. unfold withLeaf in refl) (λ t. unfold withLeaf in refl) (λ t. unfold withLeaf in refl) [] (none-quiet gs))
+  event-keeps (leave e) = unless-keeps c gs _ _ _ _ (λ ok. unless-keeps c gs _ _ _ _ (λ fits. unless-keeps c gs _ _ _ _ (λ _. enter-keeps c gs S e ok (withLeaf false) (λ t. unfold withLeaf in refl) (λ t. unfold withLeaf in refl) (λ t. unfold withLeaf in refl) [] (none-quiet gs) fits)))
+  event-keeps (route r via) = route-keeps r via
+
+-- ---- a Release that is taken
+
+unfoldable pub Awaited : Card → ℕ → Message → Outcome → Type 0
+Awaited c n m (refused k) = k ≡ 0 → ⊥
+Awaited c n m (taken ms after) = isAwaiting n (m .name) (useOf (m .label) c) ≡ true
+
+unless-awaited : (c : Card) (n : ℕ) (m : Message) (k : ℕ) (o : Outcome) → (k ≡ 0 → Awaited c n m o) → Awaited c n m (unless k o)
+unfolding unless Awaited
+unless-awaited c n m zero o h = h refl
+unless-awaited c n m (suc k) o h = λ z. omega arith
+
+release-awaited : (c : Card) (n : ℕ) (m : Message) → m .kind ≡ release → Awaited c n m (onMessage c n m)
+unfolding onMessage onRelease notAwaited
+release-awaited c n m e =
+    rw (ne-eqb (m .kind) mapping (λ k. omega arith), ne-eqb (m .kind) withdraw (λ k. omega arith), eq-eqb (m .kind) release e)
+    (unless-awaited c n m _ _ (λ z. unfold Awaited in not-false _ (no-when 12 _ 0 z .0)))
+
+pub heard-awaited : (c : Card) (n : ℕ) (s : List ℕ) → messageIn s .kind ≡ release → Awaited c n (messageIn s) (outcome c (receive n s))
+unfolding outcome onOctets
+heard-awaited c n s e = unless-awaited c n _ _ _ (λ _. unless-awaited c n _ _ _ (λ _. release-awaited c n (messageIn s) e))

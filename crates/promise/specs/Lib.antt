@@ -1,0 +1,9 @@
+pub mod Promise
+pub mod LiveLaws
+pub mod CardLaws
+pub mod LabelLaws
+pub mod RuleLaws
+pub mod EventLaws
+pub mod PromiseProof
+pub mod RulesKept
+pub mod PromiseExample

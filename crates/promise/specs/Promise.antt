@@ -1,0 +1,167 @@
+-- DEMAND 3, over what goes over the wire: what is promised of a card's whole history.
+-- Assumes nothing.
+use Prim.Native.Nat.{ℕ, zero, suc, _+_, _≤_}
+use mathlib.Core.Path.{_≡_}
+use mathlib.Core.Bool.{Bool, true, false, _&&_}
+use mathlib.Core.List.{List, [], _∷_}
+use lib.ListN.{length}
+use lib.Dec.{eqb}
+use Rattle.meaning.specs.Octets.{pick, count, same}
+use Rattle.meaning.specs.Wire.{mapping, withdraw, release, Message, messageIn, Sent, records, recordsIn}
+use Rattle.meaning.specs.Card.{Card, treeOf, freeLabels, Feed, nothing, branchesFrom, lookupLabel}
+use Rattle.meaning.specs.Events.{Event, receive, join, leave, route, Out, event, start}
+
+-- ---- live labels, from the messages alone
+
+-- a label of ours that a neighbour may use for a tree; and whether we have sent Withdraw for it
+pub record Given : Type 0 where
+  pub to : ℕ
+  pub tree : List ℕ
+  pub label : ℕ
+  pub withdrawn : Bool
+
+unfoldable pub ofLabel : ℕ → Given → Bool
+ofLabel l g = eqb (g .label) l
+
+-- the label of m, at neighbour n, for the tree of m
+unfoldable pub isAbout : ℕ → Message → Given → Bool
+isAbout n m g = eqb (g .label) (m .label) && eqb (g .to) n && same (g .tree) (m .name)
+
+unfoldable pub mark : ℕ → Message → List Given → List Given
+mark n m [] = []
+mark n m (g ∷ gs) = pick (isAbout n m g) (record { to = g .to; tree = g .tree; label = g .label; withdrawn = true }) g ∷ mark n m gs
+
+unfoldable pub remove : ℕ → Message → List Given → List Given
+remove n m [] = []
+remove n m (g ∷ gs) = let others = remove n m gs in pick (isAbout n m g) others (g ∷ others)
+
+-- a Mapping that we send to n makes its label live; a Withdraw that we send marks it
+unfoldable pub noteSent : ℕ → Message → List Given → List Given
+noteSent n m gs =
+    pick (eqb (m .kind) mapping) (record { to = n; tree = m .name; label = m .label; withdrawn = false } ∷ gs)
+    (pick (eqb (m .kind) withdraw) (mark n m gs) gs)
+
+unfoldable pub noteAll : List Sent → List Given → List Given
+noteAll [] gs = gs
+noteAll (m ∷ ms) gs = noteAll ms (noteSent (m .to) (m .message) gs)
+
+-- a Release that we take from n ends it
+unfoldable pub noteTaken : Event → List Given → List Given
+noteTaken (receive n s) gs = pick (eqb (messageIn s .kind) release) (remove n (messageIn s) gs) gs
+noteTaken (join e) gs = gs
+noteTaken (leave e) gs = gs
+noteTaken (route r via) gs = gs
+
+-- ---- branches and leaf of a tree, from the accepted events alone, the latest first
+
+-- the branch of neighbour n: its latest Mapping that no Withdraw under its label has since ended; 0 where there is none
+unfoldable pub branchSaid : ℕ → Message → ℕ → ℕ → ℕ
+branchSaid from m n before =
+    pick (eqb from n)
+    (pick (eqb (m .kind) mapping) (m .label)
+    (pick (eqb (m .kind) withdraw && eqb before (m .label)) 0 before))
+    before
+
+unfoldable pub branchBy : List ℕ → ℕ → List Event → ℕ
+branchBy a n [] = 0
+branchBy a n (receive from s ∷ es) =
+    let before = branchBy a n es in
+    pick (same (messageIn s .name) a) (branchSaid from (messageIn s) n before) before
+branchBy a n (join e ∷ es) = branchBy a n es
+branchBy a n (leave e ∷ es) = branchBy a n es
+branchBy a n (route r via ∷ es) = branchBy a n es
+
+unfoldable pub leafBy : List ℕ → List Event → Bool
+leafBy a [] = false
+leafBy a (receive from s ∷ es) = leafBy a es
+leafBy a (join e ∷ es) = let before = leafBy a es in pick (same e a) true before
+leafBy a (leave e ∷ es) = let before = leafBy a es in pick (same e a) false before
+leafBy a (route r via ∷ es) = leafBy a es
+
+-- of the k neighbours from n on
+unfoldable pub branchesBy : List ℕ → ℕ → ℕ → List Event → List ℕ
+branchesBy a n zero es = []
+branchesBy a n (suc k) es = branchBy a n es ∷ branchesBy a (suc n) k es
+
+-- by rising neighbour number
+unfoldable pub feedBy : List ℕ → List Event → Feed
+feedBy a es = record { branches = branchesFrom 0 (branchesBy a 0 16 es); leaf = leafBy a es }
+
+-- ---- histories
+
+-- an event, with the room that its output has
+pub record Step : Type 0 where
+  pub room : ℕ
+  pub does : Event
+
+-- the card after some events, the labels that they leave live, and those of them that were accepted, the latest first
+pub record Past : Type 0 where
+  pub card : Card
+  pub live : List Given
+  pub accepted : List Event
+
+unfoldable pub answerTo : Card → Step → Out
+answerTo c s = event (s .room) c (s .does)
+
+-- the messages that a step sends: those in the octets that it writes
+unfoldable pub sends : Card → Step → List Sent
+sends c s = recordsIn (answerTo c s .octets)
+
+-- a refused step is no event
+unfoldable pub thenStep : Past → Step → Past
+thenStep p s =
+    let o = answerTo (p .card) s in
+    let on : Past = record { card = o .card; live = noteAll (sends (p .card) s) (noteTaken (s .does) (p .live)); accepted = s .does ∷ p .accepted } in
+    let stays : Past = record { card = o .card; live = p .live; accepted = p .accepted } in
+    pick (eqb (o .answer) 0) on stays
+
+unfoldable pub thenSteps : Past → List Step → Past
+thenSteps p [] = p
+thenSteps p (s ∷ ss) = thenSteps (thenStep p s) ss
+
+-- a card as the start hands it back, whatever base was asked for, and then the steps
+unfoldable pub history : ℕ → List Step → Past
+history base ss = thenSteps (record { card = start base .card; live = []; accepted = [] }) ss
+
+-- ---- the promise
+
+unfoldable pub Each : (Given → Type 0) → List Given → Type 0
+Each P [] = Unit {0}
+Each P (g ∷ gs) = P g × Each P gs
+
+-- every Mapping among the messages names a label that is not live when it is sent
+unfoldable pub NoneLive : List Sent → List Given → Type 0
+NoneLive [] gs = Unit {0}
+NoneLive (m ∷ ms) gs =
+    (m .message .kind ≡ mapping → count (ofLabel (m .message .label)) gs ≡ 0)
+    × NoneLive ms (noteSent (m .to) (m .message) gs)
+
+-- where a live label leads
+unfoldable pub Leads : Past → Given → Type 0
+Leads p g = lookupLabel (g .label) (p .card) ≡ pick (g .withdrawn) nothing (feedBy (g .tree) (p .accepted))
+
+-- a label that n may use for the tree of m, and for which we have sent Withdraw
+unfoldable pub isWithdrawn : ℕ → Message → Given → Bool
+isWithdrawn n m g = isAbout n m g && g .withdrawn
+
+pub record Promise (p : Past) : Type 0 where
+  -- The octets are the records of the messages read in them, and hold nothing more.
+  pub wire : (s : Step) → answerTo (p .card) s .octets ≡ records (p .card .next) (sends (p .card) s)
+  -- A Release that is taken answers our Withdraw: of a live label, to that neighbour, for that tree.
+  pub answers : (room n : ℕ) (s : List ℕ) → event room (p .card) (receive n s) .answer ≡ 0 → messageIn s .kind ≡ release → count (isWithdrawn n (messageIn s)) (p .live) ≡ 1
+  -- Every live label is live at one neighbour, for one tree.
+  pub one : (l : ℕ) → count (ofLabel l) (p .live) ≤ 1
+  -- No live label is given out again.
+  pub anew : (s : Step) → NoneLive (sends (p .card) s) (noteTaken (s .does) (p .live))
+  -- While mapped it leads exactly to the leaf, if joined, and the branches whose accepted Mapping no accepted Withdraw has since ended under its label; once withdrawn, to nobody.
+  pub leads : Each (Leads p) (p .live)
+  -- (any other number leads to nobody)
+  pub others : (l : ℕ) → count (ofLabel l) (p .live) ≡ 0 → lookupLabel l (p .card) ≡ nothing
+  -- Live and free labels make 256.
+  pub sum : length (p .live) + freeLabels (p .card) ≡ 256
+  -- A neighbour's message naming one tree touches no other tree's entry.
+  pub apart : (room n : ℕ) (s : List ℕ) (a : List ℕ) → (messageIn s .name ≡ a → ⊥) → treeOf a (event room (p .card) (receive n s) .card) ≡ treeOf a (p .card)
+
+-- DEMAND 3, proved in `PromiseProof`: after any history of a card that was started, with any base
+abbrev pub Demand3 : Type 0
+Demand3 = (base : ℕ) (steps : List Step) → Promise (history base steps)

@@ -1,0 +1,333 @@
+-- THE PROMISE IS KEPT: after any history of a card as the start hands it back.
+-- Assumes nothing.
+use Prim.Native.Nat.{ℕ, zero, suc, _+_, _-_, _≤_, _<_, suc-le-suc, zero-le}
+use native.Mathlib.Nat.{le-of-suc-le-suc, not-suc-le-zero, le-refl, le-trans}
+use native.Mathlib.Omega.{arith}
+use mathlib.Core.Path.{_≡_, refl, sym, ap, ap₂, _∙_, subst}
+use mathlib.Core.Bool.{Bool, true, false, not, _&&_, _||_}
+use mathlib.Core.List.{List, [], _∷_, _++_}
+use lib.ListN.{take, drop, getD, length, set, length-set, replicate}
+use lib.Seq.{ext-getD, set-getD, getD-set-same, getD-set-other}
+use lib.Dec.{eqb, leb, ltb}
+use borrow.Author.Tests.{eqb-true, eqb-false, eq-eqb, ne-eqb, ltb-true, ltb-false, not-true, not-false, leb-true, lt-leb}
+use Rattle.meaning.specs.Octets.{pick, place, count, any, same, put, cut}
+use Rattle.meaning.specs.Wire.{mapping, withdraw, release, Message, messageIn, Sent, records, recordsF, recordsIn}
+use Rattle.meaning.specs.Card.{Tree, Use, free, mapped, awaiting, Card, fresh, withNext, withBranch, withLeaf, withLabel, named, bare, treePlace, treeOf, treeAt, isFree, isAwaiting, useOf, freeLabels, heldFor, routeOf, routePlace, Feed, nothing, branchesFrom, feedOf, carries, carrier, feedOfUse, lookupLabel}
+use Rattle.meaning.specs.Events.{Out, Outcome, refused, taken, refuse, accept, roomShort, finish, upstreamOf, branch, lessBranch, Event, receive, join, leave, route, outcome, event, baseOutside, start}
+use Rattle.promise.specs.Promise.{Given, ofLabel, isAbout, isWithdrawn, Demand3, noteAll, noteTaken, branchSaid, branchBy, leafBy, branchesBy, feedBy, Step, Past, answerTo, sends, thenStep, thenSteps, history, Each, NoneLive, Leads, Promise}
+use Rattle.meaning.specs.Lists.{getD-same, by-test, picked, place-finds, place-count, same-eq, same-refl, same-no, getD-out, count-some}
+use Rattle.meaning.specs.RoundTrip.{both, records-back}
+use Rattle.promise.specs.LiveLaws.{isMapped, stray, Linked, mapped-one, mapped-not-free, Books, only, givens, count-only, books-one, books-none, each-only}
+use Rattle.promise.specs.CardLaws.{shape, Tidy, AllProper, tree-name, at-named}
+use Rattle.promise.specs.LabelLaws.{Sound}
+use Rattle.promise.specs.RuleLaws.{Ruled}
+use Rattle.promise.specs.EventLaws.{Awaited, heard-awaited, awaiting-eq, byMessage, became, names, Follows, Keeps, event-keeps}
+
+-- ---- the tree that the accepted events make
+
+branches-length : (a : List ℕ) (n k : ℕ) (es : List Event) → length (branchesBy a n k es) ≡ k
+unfolding branchesBy
+branches-length a n zero es = refl
+branches-length a n (suc k) es = ap suc (branches-length a (suc n) k es)
+
+branches-at : (a : List ℕ) (n k : ℕ) (es : List Event) (i : ℕ) → i < k → getD (branchesBy a n k es) i 0 ≡ branchBy a (n + i) es
+unfolding branchesBy
+branches-at a n zero es i h = absurd (not-suc-le-zero h)
+branches-at a n (suc k) es zero h = ap (λ (x : ℕ). branchBy a x es) (omega arith)
+branches-at a n (suc k) es (suc i) h = branches-at a (suc n) k es i (le-of-suc-le-suc h) ∙ ap (λ (x : ℕ). branchBy a x es) (omega arith)
+
+branches-at0 : (a : List ℕ) (es : List Event) (i : ℕ) → i < 16 → getD (branchesBy a 0 16 es) i 0 ≡ branchBy a i es
+branches-at0 a es i h = branches-at a 0 16 es i h ∙ ap (λ (x : ℕ). branchBy a x es) (omega arith)
+
+-- a store at the place n
+branches-set : (a : List ℕ) (es fs : List Event) (n l : ℕ) → (n < 16 → branchBy a n fs ≡ l) → ((i : ℕ) → (i ≡ n → ⊥) → branchBy a i fs ≡ branchBy a i es) → set (branchesBy a 0 16 es) n l ≡ branchesBy a 0 16 fs
+branches-set a es fs n l here there =
+    let size : length (set (branchesBy a 0 16 es) n l) ≡ 16 = length-set (branchesBy a 0 16 es) n l ∙ branches-length a 0 16 es in
+    ext-getD 0 _ _ (size ∙ sym (branches-length a 0 16 fs))
+    (λ i h. let h′ : i < 16 = subst (λ (k : ℕ). i < k) size h in
+    by-test (eqb i n)
+    (λ e. let e′ : i ≡ n = eqb-true i n e in
+    subst (λ (x : ℕ). getD (set (branchesBy a 0 16 es) x l) i 0 ≡ getD (branchesBy a 0 16 fs) i 0) e′
+    (getD-set-same (branchesBy a 0 16 es) i l 0 (rw (branches-length a 0 16 es) h′)
+    ∙ sym (branches-at0 a fs i h′ ∙ ap (λ (x : ℕ). branchBy a x fs) e′ ∙ here (subst (λ (x : ℕ). x < 16) e′ h′))))
+    (λ e. getD-set-other (branchesBy a 0 16 es) n i l 0 (eqb-false i n e) ∙ branches-at0 a es i h′ ∙ sym (there i (eqb-false i n e)) ∙ sym (branches-at0 a fs i h′)))
+
+branches-eq : (a : List ℕ) (n k : ℕ) (es fs : List Event) → ((i : ℕ) → branchBy a i es ≡ branchBy a i fs) → branchesBy a n k es ≡ branchesBy a n k fs
+unfolding branchesBy
+branches-eq a n zero es fs h = refl
+branches-eq a n (suc k) es fs h = ap₂ _∷_ (h n) (branches-eq a (suc n) k es fs h)
+
+-- a tree is as the accepted events say
+pub record Reads (a : List ℕ) (es : List Event) (t : Tree) : Type 0 where
+  pub name : t .name ≡ a
+  pub branches : t .branches ≡ branchesBy a 0 16 es
+  pub leaf : t .leaf ≡ leafBy a es
+
+reads-shape : (a : List ℕ) (es : List Event) (t s : Tree) → shape t ≡ shape s → Reads a es s → Reads a es t
+unfolding shape withLabel
+reads-shape a es t s e r = record { name = ap (λ (x : Tree). x .name) e ∙ r .name; branches = ap (λ (x : Tree). x .branches) e ∙ r .branches; leaf = ap (λ (x : Tree). x .leaf) e ∙ r .leaf }
+
+-- what a message makes of the branch of its neighbour
+unfoldable newBranch : Message → ℕ → ℕ
+newBranch m before = pick (eqb (m .kind) mapping) (m .label) (pick (eqb (m .kind) withdraw && eqb before (m .label)) 0 before)
+
+message-branches : (n : ℕ) (m : Message) (t : Tree) → byMessage n m t .branches ≡ set (t .branches) n (newBranch m (branch t n))
+unfolding byMessage newBranch lessBranch withBranch branch
+message-branches n m t =
+    by-test (eqb (m .kind) mapping)
+    (λ e. rw e refl)
+    (λ e. by-test (eqb (m .kind) withdraw)
+    (λ k. by-test (eqb (getD (t .branches) n 0) (m .label))
+    (λ b. rw (e, k, b) refl)
+    (λ b. rw (e, k, b) (sym (set-getD (t .branches) n 0))))
+    (λ k. rw (e, k) (sym (set-getD (t .branches) n 0))))
+
+message-rest : (n : ℕ) (m : Message) (t : Tree) → (byMessage n m t .name ≡ t .name) × (byMessage n m t .leaf ≡ t .leaf)
+unfolding byMessage lessBranch withBranch
+message-rest n m t =
+    picked (λ (x : Tree). (x .name ≡ t .name) × (x .leaf ≡ t .leaf)) (eqb (m .kind) mapping) (λ _. (refl, refl))
+    (λ _. picked (λ (x : Tree). (x .name ≡ t .name) × (x .leaf ≡ t .leaf)) (eqb (m .kind) withdraw)
+    (λ _. picked (λ (x : Tree). (x .name ≡ t .name) × (x .leaf ≡ t .leaf)) (eqb (branch t n) (m .label)) (λ _. (refl, refl)) (λ _. (refl, refl)))
+    (λ _. (refl, refl)))
+
+module _ (a : List ℕ) (es : List Event) (t : Tree) (r : Reads a es t) where
+  message-reads : (n : ℕ) (s : List ℕ) → same (messageIn s .name) a ≡ true → Reads a (receive n s ∷ es) (byMessage n (messageIn s) t)
+  unfolding branchBy branchSaid leafBy newBranch
+  message-reads n s k = record {
+    name = message-rest n (messageIn s) t .0 ∙ r .name;
+    branches = message-branches n (messageIn s) t
+        ∙ ap (λ (bs : List ℕ). set bs n (newBranch (messageIn s) (branch t n))) (r .branches)
+        ∙ branches-set a es (receive n s ∷ es) n _
+        (λ h. let b : branch t n ≡ branchBy a n es = unfold branch in ap (λ (bs : List ℕ). getD bs n 0) (r .branches) ∙ branches-at0 a es n h in rw (k, eq-eqb n n refl, b) refl)
+        (λ i d. rw (k, ne-eqb n i (λ z. d (sym z))) refl);
+    leaf = message-rest n (messageIn s) t .1 ∙ r .leaf;
+  }
+
+  became-reads : (e : Event) → Reads a (e ∷ es) (became e a t)
+  unfolding became withLeaf
+  became-reads (receive n s) =
+      by-test (same (messageIn s .name) a)
+      (λ k. rw k (message-reads n s k))
+      (λ k. rw k (unfold leafBy in record { name = r .name; branches = r .branches ∙ branches-eq a 0 16 es (receive n s ∷ es) (λ i. unfold branchBy in rw k refl); leaf = r .leaf }))
+  became-reads (join e) =
+      by-test (same e a)
+      (λ k. rw k (record { name = r .name; branches = r .branches ∙ branches-eq a 0 16 es (join e ∷ es) (λ i. unfold branchBy in refl); leaf = unfold leafBy in rw k refl }))
+      (λ k. rw k (record { name = r .name; branches = r .branches ∙ branches-eq a 0 16 es (join e ∷ es) (λ i. unfold branchBy in refl); leaf = unfold leafBy in rw k (r .leaf) }))
+  became-reads (leave e) =
+      by-test (same e a)
+      (λ k. rw k (record { name = r .name; branches = r .branches ∙ branches-eq a 0 16 es (leave e ∷ es) (λ i. unfold branchBy in refl); leaf = unfold leafBy in rw k refl }))
+      (λ k. rw k (record { name = r .name; branches = r .branches ∙ branches-eq a 0 16 es (leave e ∷ es) (λ i. unfold branchBy in refl); leaf = unfold leafBy in rw k (r .leaf) }))
+  became-reads (route q via) = record { name = r .name; branches = r .branches ∙ branches-eq a 0 16 es (route q via ∷ es) (λ i. unfold branchBy in refl); leaf = unfold leafBy in r .leaf }
+
+-- ---- the table against the past
+
+unfoldable messagesOf : Outcome → List Sent
+messagesOf (refused n) = []
+messagesOf (taken ms c) = ms
+
+pub record Upheld (p : Past) : Type 0 where
+  pub sound : Sound (p .card) (p .live)
+  pub reads : (a : List ℕ) → Reads a (p .accepted) (treeOf a (p .card))
+  pub ruled : Ruled (p .card)
+
+module _ (c : Card) (gs : List Given) (es : List Event) (e : Event) where
+  -- what a step makes of the past, by its outcome
+  abbrev pastWith : Out → Outcome → Past
+  pastWith out o =
+      pick (eqb (out .answer) 0)
+      (record { card = out .card; live = noteAll (pick (eqb (out .answer) 0) (messagesOf o) []) (noteTaken e gs); accepted = e ∷ es })
+      (record { card = out .card; live = gs; accepted = es })
+
+  step-upheld : (room : ℕ) (o : Outcome) → Keeps c (noteTaken e gs) (became e) (names e) o → Upheld (record { card = c; live = gs; accepted = es }) → Upheld (pastWith (finish room c o) o)
+  unfolding finish refuse accept messagesOf Keeps
+  step-upheld room (refused n) k u = rw (ne-eqb n 0 k) u
+  step-upheld room (taken ms after) k u =
+      by-test (roomShort room (records (c .next) ms))
+      (λ t. rw t u)
+      (λ t. rw t (unfold withNext treeOf treePlace useOf freeLabels in record {
+        sound = record { tidy = k .sound .tidy; low = k .sound .low; high = k .sound .high; many = k .sound .many; linked = k .sound .linked; books = k .sound .books; sum = k .sound .sum };
+        reads = λ a. reads-shape a (e ∷ es) _ _ (k .shapes a) (became-reads a es (treeOf a c) (u .reads a) e);
+        ruled = unfold treeAt heldFor upstreamOf routeOf routePlace in record { roots = k .ruled (u .ruled) .roots; full = k .ruled (u .ruled) .full; held = k .ruled (u .ruled) .held };
+      }))
+
+  step-fair : (room : ℕ) (o : Outcome) → Keeps c (noteTaken e gs) (became e) (names e) o → NoneLive (pick (eqb (finish room c o .answer) 0) (messagesOf o) []) (noteTaken e gs)
+  unfolding messagesOf Keeps
+  step-fair room (refused n) k = picked (λ (ms : List Sent). NoneLive ms (noteTaken e gs)) (eqb (finish room c (refused n) .answer) 0) (λ _. unfold NoneLive in tt) (λ _. unfold NoneLive in tt)
+  step-fair room (taken ms after) k = picked (λ (ms : List Sent). NoneLive ms (noteTaken e gs)) (eqb (finish room c (taken ms after) .answer) 0) (λ _. k .fair) (λ _. unfold NoneLive in tt)
+
+  -- the octets read back
+  step-wire : (room : ℕ) (o : Outcome) → Keeps c (noteTaken e gs) (became e) (names e) o → recordsIn (finish room c o .octets) ≡ pick (eqb (finish room c o .answer) 0) (messagesOf o) []
+  unfolding messagesOf Keeps finish refuse accept recordsIn recordsF
+  step-wire room (refused n) k = picked (λ (ms : List Sent). [] ≡ ms) (eqb n 0) (λ _. refl) (λ _. refl)
+  step-wire room (taken ms after) k =
+      by-test (roomShort room (records (c .next) ms))
+      (λ t. rw t refl)
+      (λ t. rw t (records-back (length (records (c .next) ms)) (c .next) ms (le-refl _) (k .said)))
+
+  step-octets : (room : ℕ) (o : Outcome) → Keeps c (noteTaken e gs) (became e) (names e) o → finish room c o .octets ≡ records (c .next) (pick (eqb (finish room c o .answer) 0) (messagesOf o) [])
+  unfolding messagesOf finish refuse accept records
+  step-octets room (refused n) k = picked (λ (ms : List Sent). [] ≡ records (c .next) ms) (eqb n 0) (λ _. refl) (λ _. refl)
+  step-octets room (taken ms after) k =
+      by-test (roomShort room (records (c .next) ms))
+      (λ t. rw t refl)
+      (λ t. rw t refl)
+
+  step-apart : (room : ℕ) (o : Outcome) → Keeps c (noteTaken e gs) (became e) (names e) o → (a : List ℕ) → names e a ≡ false → treeOf a (finish room c o .card) ≡ treeOf a c
+  unfolding finish refuse accept Keeps
+  step-apart room (refused n) k a d = refl
+  step-apart room (taken ms after) k a d =
+      picked (λ (x : Out). treeOf a (x .card) ≡ treeOf a c) (roomShort room (records (c .next) ms)) (λ _. refl) (λ _. unfold withNext treeOf treePlace in k .apart a d)
+
+-- what the octets of a step say
+sends-is : (p : Past) (s : Step) → Upheld p → sends (p .card) s ≡ pick (eqb (answerTo (p .card) s .answer) 0) (messagesOf (outcome (p .card) (s .does))) []
+unfolding sends answerTo event
+sends-is p s u = step-wire (p .card) (p .live) (p .accepted) (s .does) (s .room) (outcome (p .card) (s .does)) (event-keeps (p .card) (p .live) (u .sound) (s .does))
+
+pub then-upheld : (p : Past) (s : Step) → Upheld p → Upheld (thenStep p s)
+unfolding thenStep
+then-upheld p s u = rw (sends-is p s u) (unfold answerTo event in step-upheld (p .card) (p .live) (p .accepted) (s .does) (s .room) (outcome (p .card) (s .does)) (event-keeps (p .card) (p .live) (u .sound) (s .does)) u)
+
+pub steps-upheld : (p : Past) (ss : List Step) → Upheld p → Upheld (thenSteps p ss)
+unfolding thenSteps
+steps-upheld p [] u = u
+steps-upheld p (s ∷ ss) u = steps-upheld (thenStep p s) ss (then-upheld p s u)
+
+-- ---- a fresh card
+
+getD-free : (n i : ℕ) → getD (replicate n free) i free ≡ free
+getD-free zero i = refl
+getD-free (suc n) zero = refl
+getD-free (suc n) (suc i) = getD-free n i
+
+fresh-use : (b l : ℕ) → useOf l (fresh b) ≡ free
+unfolding useOf fresh
+fresh-use b l = picked (λ (u : Use). u ≡ free) (leb b l) (λ _. getD-free 256 (l - b)) (λ _. refl)
+
+fresh-upheld : (b : ℕ) → 16 ≤ b → b ≤ 1048320 → Upheld (record { card = fresh b; live = []; accepted = [] })
+fresh-upheld b low high = record {
+  sound = record {
+    tidy = unfold fresh AllProper in record { once = λ a. unfold count in zero-le; proper = tt };
+    low = unfold fresh in low;
+    high = unfold fresh in high;
+    many = unfold fresh in refl;
+    linked = record {
+      zero-free = fresh-use b 0;
+      real = λ l. rw (fresh-use b l) (unfold stray in refl);
+      own = λ a nz. absurd (nz (unfold treeOf treePlace place fresh bare in refl));
+      led = λ a l e. absurd (mapped-not-free a (useOf l (fresh b)) e (fresh-use b l));
+    };
+    books = unfold Books only givens in λ l. rw (fresh-use b l) refl;
+    sum = unfold freeLabels fresh count isFree in refl;
+  };
+  reads = λ a. unfold treeOf treePlace place fresh bare branchesBy branchBy leafBy in record { name = refl; branches = refl; leaf = refl };
+  ruled = unfold fresh count in record { roots = λ r. zero-le; full = λ j h. absurd (not-suc-le-zero h); held = λ j h. absurd (not-suc-le-zero h) };
+}
+
+-- ---- where labels lead
+
+-- the first tree that carries l, where the tree a alone does
+carried : (c : Card) → Tidy (c .trees) → (l : ℕ) (a : List ℕ) → treeOf a c .label ≡ l → (l ≡ 0 → ⊥) → ((b : List ℕ) → treeOf b c .label ≡ l → b ≡ a) → carrier l c ≡ treeOf a c
+unfolding carrier
+carried c d l a la nz only-a =
+    sym (at-named c d at within) ∙ ap (λ (b : List ℕ). treeOf b c) (only-a (treeAt at c .name) (ap (λ (t : Tree). t .label) (at-named c d at within) ∙ eqb-true _ l carries-at))
+  where
+    at : ℕ
+    at = place (carries l) (c .trees)
+
+    standing : treePlace a c < length (c .trees)
+    standing =
+        by-test (ltb (treePlace a c) (length (c .trees)))
+        (λ e. ltb-true _ _ e)
+        (λ e. let none : treeOf a c ≡ bare a = unfold treeOf in getD-out (c .trees) (treePlace a c) (bare a) (ltb-false _ _ e) in
+        absurd (nz (sym la ∙ ap (λ (t : Tree). t .label) none ∙ bare-none a)))
+      where
+        bare-none : (a : List ℕ) → bare a .label ≡ 0
+        bare-none a = unfold bare in refl
+
+    there : carries l (getD (c .trees) (treePlace a c) (bare [])) ≡ true
+    there = unfold carries in eq-eqb _ l (ap (λ (t : Tree). t .label) (getD-same (c .trees) (treePlace a c) (bare []) (bare a) standing) ∙ (unfold treeOf in la))
+
+    within : at < length (c .trees)
+    within = place-count (carries l) (c .trees) (count-some (carries l) (c .trees) (treePlace a c) (bare []) standing there)
+
+    carries-at : eqb (treeAt at c .label) l ≡ true
+    carries-at = unfold carries treeAt in place-finds (carries l) (c .trees) (bare []) within
+
+not-withdrawn : (n : ℕ) (m : Message) (g : Given) → eqb (g .label) (m .label) ≡ false → isWithdrawn n m g ≡ false
+unfolding isWithdrawn isAbout
+not-withdrawn n m g e = rw e refl
+
+count-about′ : (n : ℕ) (m : Message) (gs : List Given) → count (isWithdrawn n m) gs ≡ count (isWithdrawn n m) (only (m .label) gs)
+unfolding count only ofLabel
+count-about′ n m [] = refl
+count-about′ n m (g ∷ gs) =
+    by-test (eqb (g .label) (m .label))
+    (λ e. rw e (rw (count-about′ n m gs) refl))
+    (λ e. rw (e, not-withdrawn n m g e) (count-about′ n m gs))
+
+module _ (p : Past) (u : Upheld p) where
+  carrier-is : (l n : ℕ) (a : List ℕ) → useOf l (p .card) ≡ mapped n a → carrier l (p .card) ≡ treeOf a (p .card)
+  carrier-is l n a us =
+      let L : Linked (λ (b : List ℕ). treeOf b (p .card) .label) (λ (k : ℕ). useOf k (p .card)) = u .sound .linked in
+      let ma : isMapped a (useOf l (p .card)) ≡ true = ap (isMapped a) us ∙ mapped-own n a in
+      let nz : l ≡ 0 → ⊥ = λ z. mapped-not-free a (useOf l (p .card)) ma (ap (λ (k : ℕ). useOf k (p .card)) z ∙ L .zero-free) in
+      carried (p .card) (u .sound .tidy) l a (L .led a l ma) nz
+      (λ b lb. mapped-one b a (useOf l (p .card)) (subst (λ (k : ℕ). isMapped b (useOf k (p .card)) ≡ true) lb (L .own b (λ z. nz (sym lb ∙ z)))) ma)
+    where
+      mapped-own : (n : ℕ) (a : List ℕ) → isMapped a (mapped n a) ≡ true
+      mapped-own n a = unfold isMapped in same-refl a
+
+  feed-is : (a : List ℕ) → feedOf (treeOf a (p .card)) ≡ feedBy a (p .accepted)
+  unfolding feedOf feedBy
+  feed-is a = λ i. record { branches = branchesFrom 0 (u .reads a .branches i); leaf = u .reads a .leaf i }
+
+  use-leads : (l : ℕ) (x : Use) → useOf l (p .card) ≡ x → Each (Leads p) (givens l x)
+  unfolding Each Leads givens lookupLabel feedOfUse
+  use-leads l free e = tt
+  use-leads l (mapped n a) e = (rw e (ap feedOf (carrier-is l n a e) ∙ feed-is a), tt)
+  use-leads l (awaiting n a) e = (rw e refl, tt)
+
+  by-label : (l : ℕ) → only l (p .live) ≡ givens l (useOf l (p .card))
+  unfolding Books
+  by-label l = u .sound .books l
+
+  awaited-use : (room n : ℕ) (s : List ℕ) (o : Outcome) → finish room (p .card) o .answer ≡ 0 → Awaited (p .card) n (messageIn s) o → isAwaiting n (messageIn s .name) (useOf (messageIn s .label) (p .card)) ≡ true
+  unfolding finish refuse Awaited
+  awaited-use room n s (refused k) z h = absurd (h z)
+  awaited-use room n s (taken ms after) z h = h
+
+  released : (n : ℕ) (m : Message) → isAwaiting n (m .name) (useOf (m .label) (p .card)) ≡ true → count (isWithdrawn n m) (p .live) ≡ 1
+  released n m w =
+      count-about′ n m (p .live)
+      ∙ ap (count (isWithdrawn n m)) (by-label (m .label) ∙ ap (givens (m .label)) (awaiting-eq n (m .name) (useOf (m .label) (p .card)) w))
+      ∙ unfold count givens isWithdrawn isAbout in rw (eq-eqb (m .label) (m .label) refl, eq-eqb n n refl, same-refl (m .name)) refl
+
+  pub kept : Promise p
+  kept = record {
+    one = books-one _ (p .live) (u .sound .books);
+    anew = λ s. rw (sends-is p s u) (unfold answerTo event in step-fair (p .card) (p .live) (p .accepted) (s .does) (s .room) (outcome (p .card) (s .does)) (event-keeps (p .card) (p .live) (u .sound) (s .does)));
+    wire = λ s. rw (sends-is p s u) (unfold answerTo event in step-octets (p .card) (p .live) (p .accepted) (s .does) (s .room) (outcome (p .card) (s .does)) (event-keeps (p .card) (p .live) (u .sound) (s .does)));
+    answers = λ room n s z e. released n (messageIn s) (awaited-use room n s (outcome (p .card) (receive n s)) (unfold event in z) (heard-awaited (p .card) n s e));
+    leads = each-only (Leads p) (p .live) (λ l. rw (by-label l) (use-leads l (useOf l (p .card)) refl));
+    others = λ l e. unfold lookupLabel feedOfUse in rw (books-none l (useOf l (p .card)) (sym (ap length (by-label l)) ∙ sym (count-only l (p .live)) ∙ e)) refl;
+    sum = u .sound .sum;
+    apart = λ room n s a d. unfold event names in step-apart (p .card) (p .live) (p .accepted) (receive n s) room (outcome (p .card) (receive n s)) (event-keeps (p .card) (p .live) (u .sound) (receive n s)) a (not-same (messageIn s .name) a d);
+  }
+    where
+      not-same : (x y : List ℕ) → (x ≡ y → ⊥) → same x y ≡ false
+      not-same x y d = by-test (same x y) (λ k. absurd (d (same-eq x y k))) (λ k. k)
+
+started : (b : ℕ) → Upheld (record { card = start b .card; live = []; accepted = [] })
+unfolding start accept refuse baseOutside withNext fresh
+started b =
+    by-test (leb 16 b && leb b 1048320)
+    (λ e. let r = both (leb 16 b) (leb b 1048320) e in rw e (fresh-upheld b (leb-true _ _ (r .0)) (leb-true _ _ (r .1))))
+    (λ e. rw e (fresh-upheld 16 (omega arith) (omega arith)))
+
+pub history-upheld : (base : ℕ) (steps : List Step) → Upheld (history base steps)
+unfolding history
+history-upheld base steps = steps-upheld _ steps (started base)
+
+-- DEMAND 3: the promise holds after any history of a card that was started
+pub promise-kept : Demand3
+promise-kept base steps = kept (history base steps) (history-upheld base steps)

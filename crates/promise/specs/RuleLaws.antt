@@ -1,0 +1,165 @@
+-- The table's rules: a tree stands while it has a branch or a leaf, and holds a label exactly while its root's route is a neighbour.
+-- Assumes nothing.
+use Prim.Native.Nat.{ℕ, zero, suc, _+_, _-_, _≤_, _<_, suc-le-suc, zero-le}
+use native.Mathlib.Nat.{le-of-suc-le-suc, not-suc-le-zero, le-refl, le-trans}
+use native.Mathlib.Omega.{arith}
+use mathlib.Core.Path.{_≡_, refl, sym, ap, ap₂, _∙_, subst}
+use mathlib.Core.Bool.{Bool, true, false, not, _&&_, _||_, or-true}
+use mathlib.Core.List.{List, [], _∷_, _++_}
+use lib.ListN.{take, drop, getD, length, set, length-set, replicate}
+use lib.Dec.{eqb, leb, ltb}
+use borrow.Author.Tests.{eqb-true, eqb-false, eq-eqb, ne-eqb, ltb-true, ltb-false}
+use Rattle.meaning.specs.Octets.{pick, place, count, any, same, put, cut}
+use Rattle.meaning.specs.Wire.{rootIn}
+use Rattle.meaning.specs.Card.{Tree, Route, Use, free, Card, noRoute, withRoutes, withTrees, withLabel, isFor, routePlace, routeOf, named, bare, treePlace, treeOf, treeAt, isBranch, isEmpty, mappedTo, useOf, heldFor, freeLabels}
+use Rattle.meaning.specs.Events.{Moved, upstream, upstreamOf, swept, ofRoot, moveAll, needAll, routesWith}
+use Rattle.promise.specs.Promise.{Given}
+use Rattle.meaning.specs.Lists.{getD-same, by-test, picked, same-eq, same-refl, same-no, same-flip, getD-out, found-put, found-cut, other-put, other-cut, count-put, count-cut, count-other-put}
+use Rattle.promise.specs.CardLaws.{shape, Tidy}
+use Rattle.promise.specs.LabelLaws.{Sound, Kept, all-kept, all-held, shape-name}
+
+pub record Ruled (c : Card) : Type 0 where
+  pub roots : (r : List ℕ) → count (isFor r) (c .routes) ≤ 1
+  pub full : (j : ℕ) → j < length (c .trees) → isEmpty (treeAt j c) ≡ false
+  pub held : (j : ℕ) → j < length (c .trees) → heldFor c (treeAt j c) ≡ upstreamOf c (treeAt j c)
+
+pub shape-empty : (t s : Tree) → shape t ≡ shape s → isEmpty t ≡ isEmpty s
+unfolding isEmpty shape withLabel
+shape-empty t s e = ap (λ (x : Tree). isEmpty x) e
+
+-- the upstream depends on the routes, and on all of the tree but its label
+pub upstream-same : (c d : Card) (t s : Tree) → c .routes ≡ d .routes → shape t ≡ shape s → upstreamOf c t ≡ upstreamOf d s
+unfolding upstreamOf routeOf routePlace
+upstream-same c d t s e k = rw (e, shape-empty t s k, shape-name t s k) refl
+
+pub bare-empty : (a : List ℕ) → isEmpty (bare a) ≡ true
+unfolding isEmpty bare any isBranch
+bare-empty a = refl
+
+standing-at : (c : Card) (a : List ℕ) → treePlace a c < length (c .trees) → treeOf a c ≡ treeAt (treePlace a c) c
+unfolding treeOf treeAt
+standing-at c a h = getD-same (c .trees) (treePlace a c) (bare a) (bare []) h
+
+pub not-standing : (c : Card) (a : List ℕ) → length (c .trees) ≤ treePlace a c → treeOf a c ≡ bare a
+unfolding treeOf
+not-standing c a h = getD-out (c .trees) (treePlace a c) (bare a) h
+
+bare-held : (c : Card) (a : List ℕ) → useOf 0 c ≡ free → heldFor c (bare a) ≡ noRoute
+unfolding heldFor bare mappedTo
+bare-held c a z = ap mappedTo z
+
+bare-asked : (c : Card) (a : List ℕ) → upstreamOf c (bare a) ≡ noRoute
+unfolding upstreamOf
+bare-asked c a = rw (bare-empty a) refl
+
+-- by name
+pub held-named : (c : Card) (gs : List Given) → Sound c gs → Ruled c → (a : List ℕ) → heldFor c (treeOf a c) ≡ upstreamOf c (treeOf a c)
+held-named c gs S R a =
+    by-test (ltb (treePlace a c) (length (c .trees)))
+    (λ e. rw (standing-at c a (ltb-true _ _ e)) (R .held (treePlace a c) (ltb-true _ _ e)))
+    (λ e. rw (not-standing c a (ltb-false _ _ e)) (bare-held c a (S .linked .zero-free) ∙ sym (bare-asked c a)))
+
+-- ---- the route order
+
+root-apart : (r q : List ℕ) → same r q ≡ false → (x : Route) → isFor r x ≡ true → isFor q x ≡ false
+unfolding isFor
+root-apart r q n x e = rw (same-eq (x .root) r e) n
+
+own-for : (r : List ℕ) (via : ℕ) → isFor r (record { root = r; via = via }) ≡ true
+unfolding isFor
+own-for r via = same-refl r
+
+module _ (c : Card) (gs : List Given) (S : Sound c gs) (R : Ruled c) (r : List ℕ) (via : ℕ) (near : eqb (upstream via) noRoute ≡ false → upstream via < 16) (enough : needAll r (upstream via) c ≤ freeLabels c) where
+  abbrev routed : Card
+  routed = withRoutes (routesWith c r via) (moveAll r (upstream via) c .card)
+
+  own-route : routeOf r routed ≡ via
+  unfolding routeOf routePlace routesWith withRoutes
+  own-route =
+      by-test (eqb via noRoute)
+      (λ e. rw e (ap (λ (x : Route). x .via) (found-cut (isFor r) (c .routes) (record { root = r; via = noRoute }) (R .roots r)) ∙ sym (eqb-true via noRoute e)))
+      (λ e. rw e (ap (λ (x : Route). x .via) (found-put (isFor r) (c .routes) (record { root = r; via = via }) (record { root = r; via = noRoute }) (own-for r via))))
+
+  other-route : (q : List ℕ) → same r q ≡ false → routeOf q routed ≡ routeOf q c
+  unfolding routeOf routePlace routesWith withRoutes
+  other-route q n =
+      by-test (eqb via noRoute)
+      (λ e. rw e (ap (λ (x : Route). x .via) (other-cut (isFor r) (isFor q) (root-apart r q n) (c .routes) (record { root = q; via = noRoute }))))
+      (λ e. rw e (ap (λ (x : Route). x .via) (other-put (isFor r) (isFor q) (root-apart r q n) (c .routes) (record { root = r; via = via }) (record { root = q; via = noRoute }) (root-apart r q n _ (own-for r via)))))
+
+  new-roots : (q : List ℕ) → count (isFor q) (routesWith c r via) ≤ 1
+  unfolding routesWith routePlace
+  new-roots q =
+      by-test (eqb via noRoute)
+      (λ e. rw e (le-trans (count-cut (isFor q) (c .routes) _) (R .roots q)))
+      (λ e. rw e (by-test (same r q)
+      (λ k. subst (λ (x : List ℕ). count (isFor x) (put (c .routes) (place (isFor r) (c .routes)) (record { root = r; via = via })) ≤ 1) (same-eq r q k) (count-put (isFor r) (c .routes) _ (R .roots r)))
+      (λ k. rw (count-other-put (isFor r) (isFor q) (root-apart r q k) (c .routes) (record { root = r; via = via }) (root-apart r q k _ (own-for r via))) (R .roots q))))
+
+  moved-now : Kept c gs (moveAll r (upstream via) c)
+  moved-now = all-kept r (upstream via) near c gs S enough
+
+  asked : (j : ℕ) → j < length (c .trees) → pick (ofRoot r (treeAt j c)) (upstream via) (heldFor c (treeAt j c)) ≡ upstreamOf routed (treeAt j c)
+  unfolding upstreamOf ofRoot
+  asked j k =
+      by-test (same (rootIn (treeAt j c .name)) r)
+      (λ e. rw (e, R .full j k) (ap upstream (sym (ap (λ (q : List ℕ). routeOf q routed) (same-eq _ r e) ∙ own-route))))
+      (λ e. rw e (R .held j k ∙ unfold upstreamOf in rw (R .full j k) (ap upstream (sym (other-route _ (same-flip _ r e))))))
+
+  within : (j : ℕ) → j < length (routed .trees) → j < length (c .trees)
+  unfolding withRoutes
+  within j h = rw (moved-now .size) at h
+
+  at-same : (j : ℕ) → shape (treeAt j routed) ≡ shape (treeAt j c)
+  unfolding withRoutes treeAt
+  at-same j = moved-now .at j
+
+  held-same : (j : ℕ) → heldFor routed (treeAt j routed) ≡ heldFor (moveAll r (upstream via) c .card) (treeAt j (moveAll r (upstream via) c .card))
+  unfolding heldFor withRoutes treeAt useOf
+  held-same j = refl
+
+  pub route-ruled : Ruled routed
+  route-ruled = record {
+    roots = unfold withRoutes in new-roots;
+    full = λ j h. shape-empty _ _ (at-same j) ∙ R .full j (within j h);
+    held = λ j h. held-same j ∙ all-held r (upstream via) near c gs S enough j (within j h) ∙ asked j (within j h) ∙ upstream-same routed routed (treeAt j c) (treeAt j routed) refl (sym (at-same j));
+  }
+
+-- ---- places after `put` and `cut`
+
+pub put-other-at {ℓ} : {A : Type ℓ} (t : A → Bool) (l : List A) (x d : A) (k : ℕ) → (place t l ≡ k → ⊥) → k < length (put l (place t l) x) → (getD (put l (place t l) x) k d ≡ getD l k d) × (k < length l)
+unfolding place put
+put-other-at t [] x d zero n h = absurd (n refl)
+put-other-at t [] x d (suc k) n h = absurd (not-suc-le-zero (le-of-suc-le-suc h))
+put-other-at t (y ∷ l) x d zero n h =
+    by-test (t y)
+    (λ e. absurd ((rw e at n) refl))
+    (λ e. rw e (refl, suc-le-suc zero-le))
+put-other-at t (y ∷ l) x d (suc k) n h =
+    by-test (t y)
+    (λ e. rw e (refl, rw e at h))
+    (λ e. let n′ : suc (place t l) ≡ suc k → ⊥ = rw e at n in
+    let r = put-other-at t l x d k (λ z. n′ (ap suc z)) (le-of-suc-le-suc (rw e at h)) in
+    rw e (r .0, suc-le-suc (r .1)))
+
+-- what stands after a cut stood before it, at another place
+pub cut-at {ℓ} : {A : Type ℓ} (l : List A) (i j : ℕ) (d : A) → j < length (cut l i) → (k : ℕ) × (i ≡ k → ⊥) × (k < length l) × (getD (cut l i) j d ≡ getD l k d)
+unfolding cut
+cut-at [] zero j d h = absurd (not-suc-le-zero h)
+cut-at [] (suc i) j d h = absurd (not-suc-le-zero h)
+cut-at (y ∷ l) zero j d h = (suc j, (λ e. omega arith), suc-le-suc h, refl)
+cut-at (y ∷ l) (suc i) zero d h = (0, (λ e. omega arith), suc-le-suc zero-le, refl)
+cut-at (y ∷ l) (suc i) (suc j) d h = let r = cut-at l i j d (le-of-suc-le-suc h) in (suc (r .0), (λ e. r .1 (omega arith)), suc-le-suc (r .2), r .3)
+
+-- ---- an empty tree goes
+
+-- every place after the sweep was a place before it; and the swept place itself is only left where its tree is not empty
+pub swept-at : (c : Card) (i j : ℕ) → j < length (swept i c .trees)
+    → (k : ℕ) × (k < length (c .trees)) × (treeAt j (swept i c) ≡ treeAt k c) × (i ≡ k → isEmpty (treeAt k c) ≡ false)
+unfolding swept treeAt withTrees
+swept-at c i j h =
+    by-test (isEmpty (getD (c .trees) i (bare [])))
+    (λ e. let h′ : j < length (cut (c .trees) i) = rw e at h in
+    let r = cut-at (c .trees) i j (bare []) h′ in
+    rw e (r .0, r .2, r .3, (λ z. absurd (r .1 z))))
+    (λ e. rw e (j, (rw e at h), refl, (λ z. subst (λ (x : ℕ). isEmpty (getD (c .trees) x (bare [])) ≡ false) z e)))
