@@ -1,0 +1,4 @@
+pub mod Ebb
+pub mod Flood
+pub mod Neap
+pub mod Spring

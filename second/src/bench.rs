@@ -1,0 +1,253 @@
+//! The line interface: orders read from lines, answers written as lines.
+
+use crate::card::{Card, Found};
+use crate::refusal::Refusal;
+use std::io::{self, BufRead, Write};
+
+pub const WHOLE_BUFFER: usize = 9984;
+pub const LONGEST_HEX: usize = 4096;
+pub const LONGEST_LINE: usize = 65536;
+
+#[derive(Clone, Debug, PartialEq, Eq)]
+pub enum Order {
+    Start(u32),
+    Room(u32),
+    Take(u32, Vec<u8>),
+    Join(Vec<u8>),
+    Leave(Vec<u8>),
+    Route(Vec<u8>, u32),
+    Label(u32),
+    Tree(Vec<u8>),
+    Free,
+}
+
+impl Order {
+    pub fn to_line(&self) -> String {
+        match self {
+            Order::Start(base) => format!("start {base}"),
+            Order::Room(room) => format!("room {room}"),
+            Order::Take(from, octets) => format!("take {from} {}", hex_word(octets)),
+            Order::Join(octets) => format!("join {}", hex_word(octets)),
+            Order::Leave(octets) => format!("leave {}", hex_word(octets)),
+            Order::Route(root, route) => format!("route {} {route}", hex_word(root)),
+            Order::Label(label) => format!("label {label}"),
+            Order::Tree(octets) => format!("tree {}", hex_word(octets)),
+            Order::Free => "free".to_string(),
+        }
+    }
+}
+
+/// What a line of the input says.
+#[derive(Clone, Debug, PartialEq, Eq)]
+pub enum Said {
+    Nothing,
+    Order(Order),
+    Bad,
+}
+
+pub fn read_line(line: &[u8]) -> Said {
+    if line.len() > LONGEST_LINE {
+        return Said::Bad;
+    }
+    let before_comment = line.split(|&c| c == b'#').next().unwrap_or(&[]);
+    let words: Vec<&[u8]> = before_comment
+        .split(|&c| c == b' ' || c == b'\t')
+        .filter(|word| !word.is_empty())
+        .collect();
+    if words.is_empty() {
+        return Said::Nothing;
+    }
+    read_order(&words).map_or(Said::Bad, Said::Order)
+}
+
+fn read_order(words: &[&[u8]]) -> Option<Order> {
+    match *words {
+        [b"start", base] => Some(Order::Start(read_number(base)?)),
+        [b"room", room] => Some(Order::Room(read_number(room)?)),
+        [b"take", from, octets] => Some(Order::Take(read_number(from)?, read_hex(octets)?)),
+        [b"join", octets] => Some(Order::Join(read_hex(octets)?)),
+        [b"leave", octets] => Some(Order::Leave(read_hex(octets)?)),
+        [b"route", root, route] => Some(Order::Route(read_hex(root)?, read_number(route)?)),
+        [b"label", label] => Some(Order::Label(read_number(label)?)),
+        [b"tree", octets] => Some(Order::Tree(read_hex(octets)?)),
+        [b"free"] => Some(Order::Free),
+        _ => None,
+    }
+}
+
+fn read_number(word: &[u8]) -> Option<u32> {
+    word.iter().try_fold(0u32, |number, &digit| {
+        let value = digit.is_ascii_digit().then(|| u32::from(digit - b'0'))?;
+        number.checked_mul(10)?.checked_add(value)
+    })
+}
+
+fn read_hex(word: &[u8]) -> Option<Vec<u8>> {
+    if word == b"-" {
+        return Some(Vec::new());
+    }
+    if !word.len().is_multiple_of(2) || word.len() > 2 * LONGEST_HEX {
+        return None;
+    }
+    word.chunks(2)
+        .map(|pair| Some(16 * hex_digit(pair[0])? + hex_digit(pair[1])?))
+        .collect()
+}
+
+fn hex_digit(digit: u8) -> Option<u8> {
+    char::from(digit).to_digit(16).map(|value| value as u8)
+}
+
+pub fn to_hex(octets: &[u8]) -> String {
+    octets.iter().map(|octet| format!("{octet:02x}")).collect()
+}
+
+fn hex_word(octets: &[u8]) -> String {
+    if octets.is_empty() {
+        "-".to_string()
+    } else {
+        to_hex(octets)
+    }
+}
+
+pub fn answer_number<T>(answer: &Result<T, Refusal>) -> u8 {
+    answer.as_ref().err().map_or(0, |refusal| refusal.number())
+}
+
+/// The answer number on a line written for an event or a start.
+pub fn written_number(line: &str) -> Option<u8> {
+    let mut words = line.split(' ');
+    match words.next()? {
+        "take" | "join" | "leave" | "route" | "start" => words.next()?.parse().ok(),
+        _ => None,
+    }
+}
+
+/// The card on the bench and the room its events are lent.
+#[derive(Clone)]
+pub struct Bench {
+    pub card: Card,
+    pub room: usize,
+}
+
+impl Bench {
+    pub fn new() -> Bench {
+        Bench {
+            card: Card::start(16).1,
+            room: WHOLE_BUFFER,
+        }
+    }
+
+    /// Does the order and gives the line to write.
+    pub fn obey(&mut self, order: &Order) -> String {
+        match order {
+            Order::Start(base) => {
+                let (answer, card) = Card::start(*base);
+                self.card = card;
+                format!("start {}", answer_number(&answer))
+            }
+            Order::Room(room) => {
+                self.room = (*room as usize).min(WHOLE_BUFFER);
+                format!("room {room}")
+            }
+            Order::Label(label) => found_line("label", self.card.find_label(*label)),
+            Order::Tree(octets) => found_line("tree", self.card.find_tree(octets)),
+            Order::Free => format!("free {}", self.card.free_labels()),
+            event => {
+                let answer = event_answer(&mut self.card, event, self.room);
+                event_line(event_word(event), &answer)
+            }
+        }
+    }
+}
+
+/// Runs an event; orders that are none answer with no records.
+pub fn event_answer(card: &mut Card, event: &Order, room: usize) -> Result<Vec<u8>, Refusal> {
+    match event {
+        Order::Take(from, octets) => card.take(*from, octets, room),
+        Order::Join(octets) => card.join(octets, room),
+        Order::Leave(octets) => card.leave(octets, room),
+        Order::Route(root, route) => card.route(root, *route, room),
+        _ => Ok(Vec::new()),
+    }
+}
+
+fn event_word(event: &Order) -> &'static str {
+    match event {
+        Order::Take(..) => "take",
+        Order::Join(_) => "join",
+        Order::Leave(_) => "leave",
+        _ => "route",
+    }
+}
+
+fn event_line(word: &str, answer: &Result<Vec<u8>, Refusal>) -> String {
+    match answer {
+        Ok(records) if !records.is_empty() => format!("{word} 0 {}", to_hex(records)),
+        _ => format!("{word} {}", answer_number(answer)),
+    }
+}
+
+fn found_line(word: &str, found: Option<Found>) -> String {
+    let Some(found) = found else {
+        return format!("{word} nothing");
+    };
+    let mut line = word.to_string();
+    if found.leaf {
+        line.push_str(" leaf");
+    }
+    for (neighbour, label) in found.branches {
+        line.push_str(&format!(" {neighbour}:{label}"));
+    }
+    line
+}
+
+/// Reads a line without its newline, however long, keeping just enough of it
+/// to see that it is too long; false at the end of the input.
+fn next_line(input: &mut impl BufRead, line: &mut Vec<u8>) -> io::Result<bool> {
+    line.clear();
+    let mut seen = false;
+    loop {
+        let part = input.fill_buf()?;
+        if part.is_empty() {
+            return Ok(seen);
+        }
+        seen = true;
+        let newline = part.iter().position(|&c| c == b'\n');
+        let length = newline.unwrap_or(part.len());
+        let kept = length.min(LONGEST_LINE + 1 - line.len());
+        line.extend(&part[..kept]);
+        input.consume(newline.map_or(length, |place| place + 1));
+        if newline.is_some() {
+            return Ok(true);
+        }
+    }
+}
+
+/// Replays the input; hands on each line's number and octets with its answer.
+pub fn replay(
+    mut input: impl BufRead,
+    mut hand_on: impl FnMut(u64, &[u8], String) -> io::Result<()>,
+) -> io::Result<()> {
+    let mut bench = Bench::new();
+    let mut line = Vec::new();
+    let mut number = 0;
+    while next_line(&mut input, &mut line)? {
+        number += 1;
+        match read_line(&line) {
+            Said::Nothing => {}
+            Said::Order(order) => hand_on(number, &line, bench.obey(&order))?,
+            Said::Bad => hand_on(number, &line, format!("? {number}"))?,
+        }
+    }
+    Ok(())
+}
+
+pub fn run(input: impl BufRead, output: &mut impl Write) -> io::Result<()> {
+    replay(input, |_, _, answer| writeln!(output, "{answer}"))?;
+    output.flush()
+}
+
+#[cfg(test)]
+#[path = "bench_tests.rs"]
+mod tests;

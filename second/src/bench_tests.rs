@@ -1,0 +1,163 @@
+use super::*;
+
+fn output(input: &[u8]) -> String {
+    let mut output = Vec::new();
+    run(input, &mut output).expect("memory can be written");
+    String::from_utf8(output).expect("only text is written")
+}
+
+#[test]
+fn the_example() {
+    let message = "04000021000000010100001106000104c00002010007010004000000070200000400000064";
+    let input = format!("start 16\nroute c0000201 0\ntake 1 {message}\nlabel 16\ntake 9 00\n");
+    assert_eq!(
+        output(input.as_bytes()),
+        "start 0\nroute 0\ntake 0 4c44000004000021000000010100001106000104c0000201\
+         0007010004000000070200000400000010\nlabel 1:100\ntake 2\n"
+    );
+}
+
+#[test]
+fn leaf_comes_before_branches() {
+    let element = "06000104c0000201000101";
+    let message = "0400001b00000001 0100000b 06000104c0000201000101 02000004 00000064";
+    let message = message.replace(' ', "");
+    let input = format!("take 9 {message}\njoin {element}\ntake 2 {message}\ntree {element}\n");
+    assert_eq!(
+        output(input.as_bytes()),
+        "take 0\njoin 0\ntake 0\ntree leaf 2:100 9:100\n"
+    );
+}
+
+#[test]
+fn spaces_comments_and_blank_lines() {
+    assert_eq!(output(b""), "");
+    assert_eq!(output(b"\n\n"), "");
+    assert_eq!(
+        output(b" \t\n# free\n\tfree \t# x\nfree#"),
+        "free 256\nfree 256\n"
+    );
+    assert_eq!(output(b"# \x00\xff\n\nfre#e"), "? 3\n");
+}
+
+#[test]
+fn lines_that_cannot_be_taken() {
+    for line in [
+        &b"free\r"[..],
+        b"free\x00",
+        b"Free",
+        b"free 1",
+        b"take 1",
+        b"take 1 0",
+        b"take 1 0g",
+        b"take 1 00 00",
+        b"take -1 00",
+        b"take 1 -0",
+        b"label +1",
+        b"label 4294967296",
+        b"label 99999999999999999999999",
+        b"route 1 c0000201",
+        b"start -",
+        b"\x0bfree",
+    ] {
+        assert_eq!(output(line), "? 1\n", "{}", line.escape_ascii());
+    }
+}
+
+#[test]
+fn numbers() {
+    assert_eq!(output(b"label 4294967295"), "label nothing\n");
+    assert_eq!(output(b"room 0000000000000000000000123"), "room 123\n");
+    assert_eq!(output(b"room 4294967295"), "room 4294967295\n");
+    assert_eq!(output(b"take 4294967295 -"), "take 1\n");
+    assert_eq!(
+        output(b"route - 4294967295\nroute - 0"),
+        "route 1\nroute 6\n"
+    );
+}
+
+#[test]
+fn hex_of_either_case_up_to_4096_octets() {
+    assert_eq!(
+        output(b"route C0000201 1\nroute c0000201 1"),
+        "route 0\nroute 0\n"
+    );
+    for (octets, answer) in [(4095, "take 2\n"), (4096, "take 2\n"), (4097, "? 1\n")] {
+        let line = format!("take 1 {}", "0f".repeat(octets));
+        assert_eq!(output(line.as_bytes()), answer);
+    }
+    assert_eq!(
+        output(b"join -\ntree -\nleave -"),
+        "join 6\ntree nothing\nleave 6\n"
+    );
+}
+
+#[test]
+fn a_message_of_4096_octets_is_taken() {
+    let message = "04000fec00000001 0100000b 06000104c0000201000101 02000004 00000064";
+    let message = message.replace(' ', "");
+    let filling = 4096 - message.len() / 2 - 4;
+    let line = format!(
+        "take 1 {}0ffc{}bf00{filling:04x}{}",
+        &message[..4],
+        &message[8..],
+        "00".repeat(filling)
+    );
+    assert_eq!(output(line.as_bytes()), "take 0\n");
+}
+
+#[test]
+fn very_long_lines() {
+    let mut comment = vec![b'#'; LONGEST_LINE];
+    let mut blank = vec![b' '; LONGEST_LINE];
+    assert_eq!(output(&comment), "");
+    assert_eq!(output(&blank), "");
+    comment.push(b'#');
+    blank.extend(b" \nfree");
+    assert_eq!(output(&comment), "? 1\n");
+    assert_eq!(output(&blank), "? 1\nfree 256\n");
+    comment.resize(1_000_000, b'#');
+    comment.extend(b"\nfree");
+    assert_eq!(output(&comment), "? 1\nfree 256\n");
+}
+
+#[test]
+fn room_stays_over_a_start() {
+    let element = "06000104c0000201000101";
+    let input = format!(
+        "room 34\nstart 20\nroute c0000201 3\njoin {element}\nroom 35\njoin {element}\n\
+         start 15\nlabel 16\nroute c0000201 3\njoin {element}\nlabel 16\nlabel 20\n"
+    );
+    let record = |label: &str| {
+        format!("4c4400030400001b000000010100000b06000104c000020100010102000004000000{label}")
+    };
+    assert_eq!(
+        output(input.as_bytes()),
+        format!(
+            "room 34\nstart 0\nroute 0\njoin 16\nroom 35\njoin 0 {}\nstart 17\nlabel nothing\n\
+             route 0\njoin 0 {}\nlabel leaf\nlabel nothing\n",
+            record("14"),
+            record("10")
+        )
+    );
+}
+
+#[test]
+fn orders_read_back_what_they_write() {
+    for order in [
+        Order::Start(16),
+        Order::Room(0),
+        Order::Take(3, vec![0xab, 1]),
+        Order::Join(vec![]),
+        Order::Leave(vec![9]),
+        Order::Route(vec![1, 2, 3, 4], 17),
+        Order::Label(u32::MAX),
+        Order::Tree(vec![6]),
+        Order::Free,
+    ] {
+        assert_eq!(
+            read_line(order.to_line().as_bytes()),
+            Said::Order(order.clone())
+        );
+    }
+}

@@ -1,0 +1,332 @@
+//! The tree table, its events and its lookups.
+
+use crate::refusal::Refusal;
+use crate::wire::{self, Kind, TreeName};
+use std::collections::BTreeMap;
+use std::rc::Rc;
+
+pub const NEIGHBOURS: u32 = 16;
+pub const MOST_TREES: usize = 64;
+pub const MOST_ROOTS: usize = 32;
+pub const LABELS: u32 = 256;
+pub const LOWEST_BASE: u32 = 16;
+pub const HIGHEST_BASE: u32 = 1_048_320;
+pub const THIS_NODE: u32 = 16;
+pub const NO_ROUTE: u32 = 17;
+
+pub type Name = Rc<TreeName>;
+
+#[derive(Clone, Debug, PartialEq, Eq)]
+pub struct Tree {
+    pub name: Name,
+    pub branches: BTreeMap<u32, u32>,
+    pub leaf: bool,
+}
+
+#[derive(Clone, Copy, Debug, PartialEq, Eq)]
+pub enum Route {
+    Neighbour(u32),
+    ThisNode,
+}
+
+#[derive(Clone, Debug, PartialEq, Eq)]
+pub enum LabelUse {
+    Free,
+    Mapped(u32, Name),
+    Awaiting(u32, Name),
+}
+
+/// What a lookup finds: the branches by rising neighbour and the leaf mark.
+#[derive(Clone, Debug, PartialEq, Eq)]
+pub struct Found {
+    pub leaf: bool,
+    pub branches: Vec<(u32, u32)>,
+}
+
+#[derive(Clone, Debug, PartialEq, Eq)]
+pub struct Card {
+    base: u32,
+    /// Oldest first.
+    trees: Vec<Tree>,
+    routes: BTreeMap<Vec<u8>, Route>,
+    labels: Vec<LabelUse>,
+    next_identifier: u32,
+}
+
+impl Card {
+    fn fresh(base: u32) -> Card {
+        Card {
+            base,
+            trees: Vec::new(),
+            routes: BTreeMap::new(),
+            labels: vec![LabelUse::Free; LABELS as usize],
+            next_identifier: 1,
+        }
+    }
+
+    /// A refused start gives a fresh card of the lowest base as well.
+    pub fn start(base: u32) -> (Result<(), Refusal>, Card) {
+        if (LOWEST_BASE..=HIGHEST_BASE).contains(&base) {
+            (Ok(()), Card::fresh(base))
+        } else {
+            (Err(Refusal::Base), Card::fresh(LOWEST_BASE))
+        }
+    }
+
+    pub fn take(&mut self, from: u32, octets: &[u8], room: usize) -> Result<Vec<u8>, Refusal> {
+        if from >= NEIGHBOURS {
+            return Err(Refusal::Neighbour);
+        }
+        let message = wire::read_message(octets)?;
+        let name = Rc::new(message.name);
+        self.attempt(room, |draft| match message.kind {
+            Kind::Mapping => draft.mapping(from, name, message.label),
+            Kind::Withdraw => draft.withdraw(from, name, message.label),
+            Kind::Release => draft.release(from, name, message.label),
+        })
+    }
+
+    pub fn join(&mut self, element: &[u8], room: usize) -> Result<Vec<u8>, Refusal> {
+        let name = Rc::new(wire::read_element(element)?);
+        self.attempt(room, |draft| draft.join(name))
+    }
+
+    pub fn leave(&mut self, element: &[u8], room: usize) -> Result<Vec<u8>, Refusal> {
+        let name = wire::read_element(element)?;
+        self.attempt(room, |draft| draft.leave(&name))
+    }
+
+    pub fn route(&mut self, root: &[u8], route: u32, room: usize) -> Result<Vec<u8>, Refusal> {
+        let route = match route {
+            THIS_NODE => Some(Route::ThisNode),
+            NO_ROUTE => None,
+            neighbour if neighbour < NEIGHBOURS => Some(Route::Neighbour(neighbour)),
+            _ => return Err(Refusal::Neighbour),
+        };
+        if root.len() != 4 && root.len() != 16 {
+            return Err(Refusal::Element);
+        }
+        self.attempt(room, |draft| draft.reroute(root, route))
+    }
+
+    /// An event runs on a copy, which becomes the card only if nothing was
+    /// refused and the records fit: so a refusal can leave nothing behind.
+    fn attempt(
+        &mut self,
+        room: usize,
+        event: impl FnOnce(&mut Draft) -> Result<(), Refusal>,
+    ) -> Result<Vec<u8>, Refusal> {
+        let mut draft = Draft {
+            card: self.clone(),
+            records: Vec::new(),
+        };
+        event(&mut draft)?;
+        if draft.records.len() > room {
+            return Err(Refusal::Room);
+        }
+        *self = draft.card;
+        Ok(draft.records)
+    }
+
+    pub fn find_label(&self, label: u32) -> Option<Found> {
+        match self.label_use(label)? {
+            LabelUse::Mapped(_, name) => self.find_name(name),
+            _ => None,
+        }
+    }
+
+    pub fn find_tree(&self, element: &[u8]) -> Option<Found> {
+        self.find_name(&wire::read_element(element).ok()?)
+    }
+
+    fn find_name(&self, name: &TreeName) -> Option<Found> {
+        let tree = self.tree(name)?;
+        Some(Found {
+            leaf: tree.leaf,
+            branches: tree.branches.iter().map(|(&n, &l)| (n, l)).collect(),
+        })
+    }
+
+    pub fn free_labels(&self) -> usize {
+        self.labels
+            .iter()
+            .filter(|label| **label == LabelUse::Free)
+            .count()
+    }
+
+    pub fn base(&self) -> u32 {
+        self.base
+    }
+
+    pub fn trees(&self) -> &[Tree] {
+        &self.trees
+    }
+
+    pub fn tree(&self, name: &TreeName) -> Option<&Tree> {
+        self.trees.iter().find(|tree| *tree.name == *name)
+    }
+
+    pub fn trees_of<'a>(&'a self, root: &'a [u8]) -> impl Iterator<Item = &'a Tree> {
+        self.trees.iter().filter(move |tree| tree.name.root == root)
+    }
+
+    pub fn routes(&self) -> &BTreeMap<Vec<u8>, Route> {
+        &self.routes
+    }
+
+    /// Each label of the block with its use, by rising label.
+    pub fn labels(&self) -> impl Iterator<Item = (u32, &LabelUse)> {
+        (self.base..).zip(&self.labels)
+    }
+
+    fn label_use(&self, label: u32) -> Option<&LabelUse> {
+        let place = label.checked_sub(self.base)?;
+        self.labels.get(place as usize)
+    }
+}
+
+/// A card to come, with the records written so far.
+struct Draft {
+    card: Card,
+    records: Vec<u8>,
+}
+
+impl Draft {
+    fn mapping(&mut self, from: u32, name: Name, label: u32) -> Result<(), Refusal> {
+        match self.tree_to_grow(name)?.branches.insert(from, label) {
+            Some(standing) if standing != label => Err(Refusal::OtherLabel),
+            _ => Ok(()),
+        }
+    }
+
+    fn withdraw(&mut self, from: u32, name: Name, label: u32) -> Result<(), Refusal> {
+        self.send(Kind::Release, from, &name, label);
+        let Some(tree) = self.standing(&name) else {
+            return Ok(());
+        };
+        if tree.branches.get(&from) == Some(&label) {
+            tree.branches.remove(&from);
+            self.drop_if_bare(&name);
+        }
+        Ok(())
+    }
+
+    fn release(&mut self, from: u32, name: Name, label: u32) -> Result<(), Refusal> {
+        let awaited = LabelUse::Awaiting(from, name);
+        if self.card.label_use(label) != Some(&awaited) {
+            return Err(Refusal::NotAwaited);
+        }
+        self.set_label(label, LabelUse::Free);
+        Ok(())
+    }
+
+    fn join(&mut self, name: Name) -> Result<(), Refusal> {
+        self.tree_to_grow(name)?.leaf = true;
+        Ok(())
+    }
+
+    fn leave(&mut self, name: &TreeName) -> Result<(), Refusal> {
+        match self.standing(name) {
+            Some(tree) if tree.leaf => tree.leaf = false,
+            _ => return Err(Refusal::NotLeaf),
+        }
+        self.drop_if_bare(name);
+        Ok(())
+    }
+
+    fn reroute(&mut self, root: &[u8], route: Option<Route>) -> Result<(), Refusal> {
+        let before = self.card.routes.get(root).copied();
+        if before == route {
+            return Ok(());
+        }
+        if before.is_none() && self.card.routes.len() == MOST_ROOTS {
+            return Err(Refusal::RootsFull);
+        }
+        match route {
+            Some(route) => self.card.routes.insert(root.to_vec(), route),
+            None => self.card.routes.remove(root),
+        };
+        let names: Vec<Name> = self.card.trees_of(root).map(|t| t.name.clone()).collect();
+        for name in names {
+            self.withdraw_label(&name);
+            self.announce(&name)?;
+        }
+        Ok(())
+    }
+
+    /// The tree that stands, or a new one, announced upstream.
+    fn tree_to_grow(&mut self, name: Name) -> Result<&mut Tree, Refusal> {
+        if let Some(place) = self.card.trees.iter().position(|tree| tree.name == name) {
+            return Ok(&mut self.card.trees[place]);
+        }
+        if self.card.trees.len() == MOST_TREES {
+            return Err(Refusal::TreesFull);
+        }
+        self.announce(&name)?;
+        self.card.trees.push(Tree {
+            name,
+            branches: BTreeMap::new(),
+            leaf: false,
+        });
+        Ok(self.card.trees.last_mut().expect("one was just entered"))
+    }
+
+    fn standing(&mut self, name: &TreeName) -> Option<&mut Tree> {
+        self.card.trees.iter_mut().find(|tree| *tree.name == *name)
+    }
+
+    fn drop_if_bare(&mut self, name: &TreeName) {
+        let bare = |tree: &Tree| tree.branches.is_empty() && !tree.leaf;
+        if self.card.tree(name).is_some_and(bare) {
+            self.card.trees.retain(|tree| *tree.name != *name);
+            self.withdraw_label(name);
+        }
+    }
+
+    /// Gives the lowest free label and sends it, where the route is a neighbour.
+    fn announce(&mut self, name: &Name) -> Result<(), Refusal> {
+        let Some(&Route::Neighbour(upstream)) = self.card.routes.get(&name.root) else {
+            return Ok(());
+        };
+        let label = self
+            .card
+            .labels()
+            .find(|(_, held)| **held == LabelUse::Free)
+            .map(|(label, _)| label)
+            .ok_or(Refusal::LabelsShort)?;
+        self.set_label(label, LabelUse::Mapped(upstream, name.clone()));
+        self.send(Kind::Mapping, upstream, name, label);
+        Ok(())
+    }
+
+    /// The neighbour named with the label is the upstream it was sent to, so
+    /// this serves a route that has already changed.
+    fn withdraw_label(&mut self, name: &TreeName) {
+        let held = self.card.labels().find_map(|(label, held)| match held {
+            LabelUse::Mapped(upstream, mapped) if **mapped == *name => {
+                Some((label, *upstream, mapped.clone()))
+            }
+            _ => None,
+        });
+        if let Some((label, upstream, mapped)) = held {
+            self.send(Kind::Withdraw, upstream, name, label);
+            self.set_label(label, LabelUse::Awaiting(upstream, mapped));
+        }
+    }
+
+    fn set_label(&mut self, label: u32, held: LabelUse) {
+        let place = (label - self.card.base) as usize;
+        self.card.labels[place] = held;
+    }
+
+    fn send(&mut self, kind: Kind, neighbour: u32, name: &TreeName, label: u32) {
+        let identifier = self.card.next_identifier;
+        self.card.next_identifier = identifier.wrapping_add(1);
+        let message = wire::write_message(kind, identifier, name, label);
+        self.records.extend(wire::write_record(neighbour, &message));
+    }
+}
+
+#[cfg(test)]
+#[path = "card_tests.rs"]
+mod tests;

@@ -1,0 +1,318 @@
+//! The thirteen cases of "Both sides of the edge" as a day, and two edges more:
+//! the longest output and the most roots.
+
+use crate::bench::Order;
+use crate::card::{NO_ROUTE, THIS_NODE};
+use crate::wire::{self, Kind, TreeName};
+
+const ROOT: [u8; 4] = [192, 0, 2, 1];
+const OTHER_ROOT: [u8; 4] = [192, 0, 2, 2];
+const THIRD_ROOT: [u8; 4] = [192, 0, 2, 3];
+
+struct Page {
+    lines: Vec<String>,
+    /// What neighbours put into their messages; the card doesn't heed it.
+    identifier: u32,
+}
+
+pub fn day() -> Vec<String> {
+    let mut page = Page::new();
+    page.comment("Tree A: root 192.0.2.1, opaque 01 00 04 00 00 00 07. Cases 1 to 7 on one card.");
+    page.fresh();
+    page.one_to_four();
+    page.five_to_seven();
+    page.eight();
+    page.nine();
+    page.ten();
+    page.eleven();
+    page.twelve();
+    page.thirteen();
+    page.lines
+}
+
+/// A route order that fills the whole buffer, and is refused one octet of it.
+pub fn longest_output() -> Vec<String> {
+    let mut page = Page::new();
+    page.comment("64 trees with the longest names move: 9984 octets, refused 16 in room for 9983");
+    page.comment("the room given before the start holds after it");
+    page.order(Order::Room(9983));
+    page.order(Order::Start(1_048_320));
+    let root = vec![255; 16];
+    page.order(Order::Route(root.clone(), 15));
+    let names: Vec<TreeName> = (1..=64).map(|number| longest_name(&root, number)).collect();
+    for name in &names {
+        page.tell(3, Kind::Mapping, name, 1_048_575);
+    }
+    for _ in 0..2 {
+        page.order(Order::Route(root.clone(), 0));
+        page.ask(&[1_048_320, 1_048_384, 1_048_447], &names[63..]);
+        page.order(Order::Room(9984));
+    }
+    page.lines
+}
+
+/// Roots up to the most that may have a route, "this node" being one.
+pub fn most_roots() -> Vec<String> {
+    let mut page = Page::new();
+    page.comment("32 roots have a route: a new one is refused 15, but not for \"no route\"");
+    page.order(Order::Start(16));
+    page.order(Order::Join(wire::write_element(&numbered(ROOT, 1))));
+    for number in 101..=132 {
+        page.route(
+            [10, 0, 0, number],
+            if number == 107 { THIS_NODE } else { 3 },
+        );
+    }
+    for route in [4, THIS_NODE, NO_ROUTE] {
+        page.route(ROOT, route);
+    }
+    page.comment("standing roots may change; one without a route makes place");
+    page.route([10, 0, 0, 101], THIS_NODE);
+    page.route(ROOT, 4);
+    page.route([10, 0, 0, 107], NO_ROUTE);
+    page.route(ROOT, 4);
+    page.route([10, 0, 0, 107], THIS_NODE);
+    page.ask(&[16], &[numbered(ROOT, 1)]);
+    page.lines
+}
+
+fn longest_name(root: &[u8], number: u8) -> TreeName {
+    TreeName {
+        root: root.to_vec(),
+        opaque: vec![number; wire::LONGEST_OPAQUE],
+    }
+}
+
+fn tree_a() -> TreeName {
+    TreeName {
+        root: ROOT.to_vec(),
+        opaque: vec![1, 0, 4, 0, 0, 0, 7],
+    }
+}
+
+fn numbered(root: [u8; 4], number: u8) -> TreeName {
+    TreeName {
+        root: root.to_vec(),
+        opaque: vec![number],
+    }
+}
+
+/// An element whose opaque length is written as given.
+fn element_claiming(length: u16, opaque: &[u8]) -> Vec<u8> {
+    let mut octets = vec![6, 0, 1, 4];
+    octets.extend(ROOT);
+    octets.extend(length.to_be_bytes());
+    octets.extend(opaque);
+    octets
+}
+
+impl Page {
+    fn new() -> Page {
+        Page {
+            lines: Vec::new(),
+            identifier: 0,
+        }
+    }
+
+    fn comment(&mut self, text: &str) {
+        self.lines.push(format!("# {text}"));
+    }
+
+    fn case(&mut self, number: usize, text: &str) {
+        self.comment(&format!("case {number}: {text}"));
+    }
+
+    fn order(&mut self, order: Order) {
+        self.lines.push(order.to_line());
+    }
+
+    /// A fresh card of base 16 with A's root behind neighbour 0.
+    fn fresh(&mut self) {
+        self.order(Order::Start(16));
+        self.route(ROOT, 0);
+    }
+
+    fn route(&mut self, root: [u8; 4], route: u32) {
+        self.order(Order::Route(root.to_vec(), route));
+    }
+
+    fn tell(&mut self, from: u32, kind: Kind, name: &TreeName, label: u32) {
+        self.identifier += 1;
+        let message = wire::write_message(kind, self.identifier, name, label);
+        self.order(Order::Take(from, message));
+    }
+
+    fn map_element(&mut self, from: u32, element: &[u8]) {
+        let mut tlvs = wire::write_tlv(wire::FEC, element);
+        tlvs.extend(wire::write_tlv(wire::GENERIC_LABEL, &100u32.to_be_bytes()));
+        let message = wire::write_frame(Kind::Mapping.code(), 1, &tlvs);
+        self.order(Order::Take(from, message));
+    }
+
+    fn ask(&mut self, labels: &[u32], names: &[TreeName]) {
+        for label in labels {
+            self.order(Order::Label(*label));
+        }
+        for name in names {
+            self.order(Order::Tree(wire::write_element(name)));
+        }
+        self.order(Order::Free);
+    }
+
+    fn one_to_four(&mut self) {
+        let a = tree_a();
+        self.case(
+            1,
+            "Mapping <A, 100> from 1 writes Mapping <A, 16> to 0, identifier 1, and nothing else",
+        );
+        self.tell(1, Kind::Mapping, &a, 100);
+        self.ask(&[16, 17], &[tree_a()]);
+        self.case(2, "then Mapping <A, 200> from 2: nothing written");
+        self.tell(2, Kind::Mapping, &a, 200);
+        self.ask(&[16, 17], &[tree_a()]);
+        self.case(3, "Withdraw <A, 100> from 1: Release 100 to 1");
+        self.tell(1, Kind::Withdraw, &a, 100);
+        self.ask(&[16, 17], &[tree_a()]);
+        self.case(
+            4,
+            "Withdraw <A, 200> from 2: Release 200 to 2, then Withdraw 16 to 0, identifiers 3 and 4; lookup of 16: nothing; free: 255",
+        );
+        self.tell(2, Kind::Withdraw, &a, 200);
+        self.ask(&[16, 17], &[tree_a()]);
+    }
+
+    fn five_to_seven(&mut self) {
+        let a = tree_a();
+        self.case(5, "Mapping <A, 300> from 1: Mapping 17 to 0, not 16");
+        self.tell(1, Kind::Mapping, &a, 300);
+        self.ask(&[16, 17], &[tree_a()]);
+        self.case(
+            6,
+            "Release <A, 16> from 3: refused 13; from 0: accepted; again from 0: refused 13",
+        );
+        for from in [3, 0, 0] {
+            self.tell(from, Kind::Release, &a, 16);
+            self.ask(&[16, 17], &[tree_a()]);
+        }
+        self.case(
+            7,
+            "route to neighbour 3: Withdraw 17 to 0, Mapping 16 to 3, identifiers 6 and 7",
+        );
+        self.route(ROOT, 3);
+        self.ask(&[16, 17], &[tree_a()]);
+    }
+
+    fn eight(&mut self) {
+        self.case(
+            8,
+            "on fresh cards, Mapping with label 15: refused 8; 16 and 1048575 taken; 1048576 refused 8",
+        );
+        for label in [15, 16, 1_048_575, 1_048_576] {
+            self.fresh();
+            self.tell(1, Kind::Mapping, &tree_a(), label);
+            self.ask(&[16], &[tree_a()]);
+        }
+    }
+
+    fn nine(&mut self) {
+        self.case(
+            9,
+            "empty input and 7 octets: refused 2; a message with no TLV: refused 5",
+        );
+        self.fresh();
+        let no_tlv = wire::write_frame(Kind::Mapping.code(), 1, &[]);
+        self.order(Order::Take(1, Vec::new()));
+        self.order(Order::Take(1, no_tlv[..7].to_vec()));
+        self.order(Order::Take(1, no_tlv));
+        self.ask(&[16], &[tree_a()]);
+    }
+
+    fn ten(&mut self) {
+        self.case(
+            10,
+            "opaque of 32 octets taken, 33 refused 7; length not filling the TLV refused 6",
+        );
+        let filled = [7; 33];
+        let elements = [
+            element_claiming(32, &filled[..32]),
+            element_claiming(33, &filled),
+            element_claiming(6, &filled[..7]),
+            element_claiming(8, &filled[..7]),
+        ];
+        for element in elements {
+            self.fresh();
+            self.map_element(1, &element);
+            self.order(Order::Label(16));
+            self.order(Order::Tree(element));
+            self.order(Order::Free);
+        }
+    }
+
+    fn eleven(&mut self) {
+        self.case(
+            11,
+            "with 64 trees and no free label, a new tree is refused 11, not 12; a further branch to a standing tree is taken",
+        );
+        self.fresh();
+        for number in 1..=64 {
+            self.tell(1, Kind::Mapping, &numbered(ROOT, number), 100);
+        }
+        for route in [1, 2, 3] {
+            self.route(ROOT, route);
+        }
+        self.order(Order::Free);
+        let shown = [numbered(ROOT, 65), numbered(ROOT, 1), numbered(ROOT, 64)];
+        self.tell(1, Kind::Mapping, &shown[0], 100);
+        self.ask(&[16, 208, 271], &shown);
+        self.order(Order::Join(wire::write_element(&shown[0])));
+        self.ask(&[16, 208, 271], &shown);
+        self.tell(2, Kind::Mapping, &shown[1], 200);
+        self.ask(&[16, 208, 271], &shown);
+    }
+
+    fn twelve(&mut self) {
+        self.case(
+            12,
+            "a Withdraw of an unknown tree: Release, table as before",
+        );
+        self.fresh();
+        self.tell(1, Kind::Mapping, &tree_a(), 100);
+        let shown = [tree_a(), numbered(ROOT, 9)];
+        self.ask(&[16, 17], &shown);
+        self.tell(1, Kind::Withdraw, &shown[1], 100);
+        self.ask(&[16, 17], &shown);
+    }
+
+    fn thirteen(&mut self) {
+        self.case(
+            13,
+            "a route order to another neighbour, for a root of three trees, with two free labels: refused 12, none moved",
+        );
+        self.fresh();
+        let three = [1, 2, 3].map(|number| numbered(ROOT, number));
+        for name in &three {
+            self.tell(1, Kind::Mapping, name, 100);
+        }
+        // 25 trees with ten labels each and one with one: 3 + 250 + 1 = 254.
+        self.route(OTHER_ROOT, 1);
+        for number in 1..=25 {
+            self.tell(2, Kind::Mapping, &numbered(OTHER_ROOT, number), 100);
+        }
+        for route in 2..=10 {
+            self.route(OTHER_ROOT, route);
+        }
+        self.route(THIRD_ROOT, 5);
+        self.order(Order::Join(wire::write_element(&numbered(THIRD_ROOT, 1))));
+        self.ask(&[16, 17, 18, 270], &three);
+        self.route(ROOT, 4);
+        self.ask(&[16, 17, 18, 270], &three);
+        self.comment("with a third label free it moves");
+        self.tell(1, Kind::Release, &numbered(OTHER_ROOT, 1), 19);
+        self.route(ROOT, 4);
+        self.ask(&[16, 17, 18, 19, 270, 271], &three);
+    }
+}
+
+#[cfg(test)]
+#[path = "cases_tests.rs"]
+mod tests;

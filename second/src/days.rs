@@ -1,0 +1,487 @@
+//! Made days: order files that lead a card into deep states and odd corners.
+//! The maker runs the card beside, so that it knows what would suit.
+
+use crate::bench::{self, Bench, Order, Said};
+use crate::card::{Card, MOST_ROOTS, MOST_TREES};
+use crate::damage;
+use crate::events::*;
+use crate::odd_lines;
+use crate::rng::Rng;
+use crate::wire;
+use crate::world::World;
+
+pub struct Kind {
+    pub name: &'static str,
+    open: fn(&mut Maker),
+    step: fn(&mut Maker),
+}
+
+const DAMAGED: usize = 4;
+const MIXED: usize = 8;
+
+pub const KINDS: [Kind; MIXED + 1] = [
+    kind("ordinary", open_ordinary, step_ordinary),
+    kind("full", open_full, step_full),
+    kind("moves", open_moves, step_moves),
+    kind("exhaust", open_exhaust, step_exhaust),
+    kind("damaged", open_ordinary, step_damaged),
+    kind("random", open_ordinary, step_random),
+    kind("room", open_room, step_room),
+    kind("lines", open_ordinary, step_lines),
+    kind("mixed", open_ordinary, step_mixed),
+];
+
+const fn kind(name: &'static str, open: fn(&mut Maker), step: fn(&mut Maker)) -> Kind {
+    Kind { name, open, step }
+}
+
+pub fn kind_named(name: &str) -> Option<usize> {
+    KINDS.iter().position(|kind| kind.name == name)
+}
+
+pub const ORDINARY: &Recipe = &[
+    (9, new_tree),
+    (4, new_leaf),
+    (12, further_branch),
+    (2, repeated_branch),
+    (2, changed_branch),
+    (10, branch_withdraw),
+    (4, last_goes),
+    (3, stray_withdraw),
+    (12, awaited_release),
+    (3, stray_release),
+    (1, early_release),
+    (4, standing_join),
+    (5, leaf_leave),
+    (2, stray_leave),
+    (6, new_route),
+    (4, moved_route),
+    (1, same_route),
+    (2, ended_route),
+    (2, any_route),
+];
+
+const AT_THE_EDGE: &Recipe = &[
+    (10, new_tree),
+    (6, new_leaf),
+    (12, further_branch),
+    (2, repeated_branch),
+    (3, changed_branch),
+    (6, branch_withdraw),
+    (3, last_goes),
+    (2, stray_withdraw),
+    (4, awaited_release),
+    (3, stray_release),
+    (1, early_release),
+    (4, standing_join),
+    (3, leaf_leave),
+    (2, stray_leave),
+    (8, new_route),
+    (8, moved_route),
+    (1, same_route),
+    (2, ended_route),
+    (3, any_route),
+];
+
+const GROW: &Recipe = &[(2, new_tree), (1, new_leaf)];
+
+const DRAIN: &Recipe = &[(3, moved_trees), (1, moved_route)];
+
+pub const MOVES: &Recipe = &[
+    (12, moved_trees),
+    (2, ended_route),
+    (2, any_route),
+    (2, same_route),
+    (3, new_tree),
+    (2, new_leaf),
+    (3, further_branch),
+    (2, branch_withdraw),
+    (2, last_goes),
+    (8, awaited_release),
+    (2, stray_release),
+];
+
+const NO_RELEASE: &Recipe = &[
+    (5, moved_trees),
+    (2, moved_route),
+    (6, new_tree),
+    (5, new_leaf),
+    (2, further_branch),
+    (4, branch_withdraw),
+    (6, last_goes),
+    (3, leaf_leave),
+    (2, stray_release),
+    (1, early_release),
+    (2, new_route),
+    (1, ended_route),
+];
+
+pub struct Maker {
+    rng: Rng,
+    bench: Bench,
+    world: World,
+    lines: Vec<Vec<u8>>,
+    /// How many awaited releases come next.
+    releases_due: usize,
+}
+
+impl Maker {
+    fn new(seed: u64) -> Maker {
+        let mut rng = Rng::new(seed);
+        Maker {
+            world: World::new(&mut rng, 1, 1, 1),
+            rng,
+            bench: Bench::new(),
+            lines: Vec::new(),
+            releases_due: 0,
+        }
+    }
+
+    fn card(&self) -> &Card {
+        &self.bench.card
+    }
+
+    fn give(&mut self, order: Order) {
+        self.give_line(order.to_line().into_bytes());
+    }
+
+    fn give_line(&mut self, line: Vec<u8>) {
+        if let Said::Order(order) = bench::read_line(&line) {
+            self.bench.obey(&order);
+        }
+        self.lines.push(line);
+    }
+
+    fn scene(&mut self) -> Scene<'_> {
+        Scene {
+            rng: &mut self.rng,
+            card: &self.bench.card,
+            world: &self.world,
+        }
+    }
+
+    fn choose(&mut self, recipe: &Recipe) -> Order {
+        choose(recipe, &mut self.scene())
+    }
+
+    fn play(&mut self, recipe: &Recipe, lookups: usize) {
+        let order = self.choose(recipe);
+        self.give(order);
+        self.look(lookups);
+    }
+
+    /// Asks the card something, in that share of a hundred.
+    fn look(&mut self, share: usize) {
+        if self.rng.percent(share) {
+            let order = lookup(&mut self.scene());
+            self.give(order);
+        }
+    }
+
+    fn route_roots(&mut self, count: usize) {
+        let roots: Vec<Vec<u8>> = self.world.roots.iter().take(count).cloned().collect();
+        for root in roots {
+            let route = any_neighbour(&mut self.rng);
+            self.give(Order::Route(root, route));
+        }
+    }
+
+    /// Enters trees until so many stand, as far as the card takes them.
+    fn grow(&mut self, trees: usize) {
+        for _ in 0..2 * trees {
+            if self.card().trees().len() < trees {
+                self.play(GROW, 0);
+            }
+        }
+    }
+}
+
+/// A day of exactly so many lines.
+pub fn make(kind: usize, seed: u64, lines: usize) -> Vec<Vec<u8>> {
+    let mut maker = Maker::new(seed.wrapping_mul(KINDS.len() as u64) + kind as u64);
+    (KINDS[kind].open)(&mut maker);
+    while maker.lines.len() < lines {
+        (KINDS[kind].step)(&mut maker);
+    }
+    maker.lines.truncate(lines);
+    maker.lines
+}
+
+fn open_ordinary(maker: &mut Maker) {
+    let roots = maker.rng.between(3, 7);
+    maker.world = World::new(&mut maker.rng, roots, 6, 4);
+    maker.route_roots(2);
+    maker.grow(4);
+}
+
+fn step_ordinary(maker: &mut Maker) {
+    maker.play(ORDINARY, 40);
+}
+
+/// To 32 roots, 64 trees and no free label.
+fn open_full(maker: &mut Maker) {
+    maker.world = World::new(&mut maker.rng, MOST_ROOTS + 8, 34, 2);
+    maker.route_roots(MOST_ROOTS);
+    maker.grow(MOST_TREES);
+    for _ in 0..60 {
+        if maker.card().free_labels() > 0 {
+            maker.play(DRAIN, 0);
+        }
+    }
+}
+
+/// Keeps the card near the edge: what has gone soon comes back.
+fn step_full(maker: &mut Maker) {
+    let card = maker.card();
+    let (trees, roots, free) = (card.trees().len(), card.routes().len(), card.free_labels());
+    let refill = maker.rng.percent(45);
+    if refill && roots < MOST_ROOTS {
+        maker.play(&[(1, new_route)], 20);
+    } else if refill && trees < MOST_TREES && free > 0 {
+        maker.play(GROW, 20);
+    } else if refill && trees < MOST_TREES {
+        maker.play(&[(1, awaited_release)], 20);
+    } else if refill && free > 3 {
+        maker.play(DRAIN, 20);
+    } else {
+        maker.play(AT_THE_EDGE, 35);
+    }
+}
+
+fn open_moves(maker: &mut Maker) {
+    maker.world = World::new(&mut maker.rng, 4, 24, 10);
+    maker.route_roots(3);
+    maker.grow(36);
+}
+
+fn step_moves(maker: &mut Maker) {
+    if maker.card().free_labels() < 40 && maker.rng.percent(75) {
+        maker.play(&[(1, awaited_release)], 10);
+    } else {
+        maker.play(MOVES, 45);
+    }
+}
+
+fn open_exhaust(maker: &mut Maker) {
+    maker.world = World::new(&mut maker.rng, 5, 14, 6);
+    maker.route_roots(4);
+    maker.grow(20);
+}
+
+fn step_exhaust(maker: &mut Maker) {
+    if maker.releases_due > 0 {
+        maker.releases_due -= 1;
+        maker.play(&[(1, awaited_release)], 15);
+    } else if maker.card().free_labels() < 3 && maker.rng.percent(5) {
+        maker.releases_due = maker.rng.between(2, 20);
+    } else {
+        maker.play(NO_RELEASE, 30);
+    }
+}
+
+fn step_damaged(maker: &mut Maker) {
+    let order = maker.choose(ORDINARY);
+    let order = if maker.rng.percent(65) {
+        spoil(&mut maker.rng, order)
+    } else {
+        order
+    };
+    maker.give(order);
+    maker.look(25);
+}
+
+pub fn spoil(rng: &mut Rng, order: Order) -> Order {
+    match order {
+        Order::Take(from, octets) => spoil_take(rng, from, &octets),
+        Order::Join(octets) => Order::Join(spoiled_element(rng, octets)),
+        Order::Leave(octets) => Order::Leave(spoiled_element(rng, octets)),
+        Order::Route(root, route) => spoil_route(rng, root, route),
+        other => other,
+    }
+}
+
+fn spoil_take(rng: &mut Rng, from: u32, octets: &[u8]) -> Order {
+    if rng.percent(6) {
+        let strangers = [16, 17, 255, 256, 65536, u32::MAX];
+        return Order::Take(strangers[rng.below(strangers.len())], octets.to_vec());
+    }
+    Order::Take(from, damage::spoil_message(rng, octets))
+}
+
+fn spoiled_element(rng: &mut Rng, mut octets: Vec<u8>) -> Vec<u8> {
+    damage::spoil_element(rng, &mut octets);
+    octets
+}
+
+fn spoil_route(rng: &mut Rng, mut root: Vec<u8>, mut route: u32) -> Order {
+    if rng.percent(70) {
+        root.resize([0, 1, 3, 4, 5, 15, 16, 17, 32][rng.below(9)], 0);
+    }
+    if rng.percent(50) {
+        route = [16, 17, 18, 19, 255, 256, u32::MAX][rng.below(7)];
+    }
+    Order::Route(root, route)
+}
+
+fn step_random(maker: &mut Maker) {
+    if maker.rng.percent(15) {
+        return maker.play(ORDINARY, 20);
+    }
+    let rng = &mut maker.rng;
+    let length = rng.below(70);
+    let order = match rng.below(12) {
+        0..=2 => Order::Take(random_number(rng), rng.octets(length)),
+        3..=6 => Order::Take(any_neighbour(rng), random_message(rng)),
+        7 => Order::Join(random_element(rng)),
+        8 => Order::Leave(random_element(rng)),
+        9 => Order::Tree(random_element(rng)),
+        10 => Order::Route(random_root(rng), random_number(rng)),
+        _ => Order::Label(random_number(rng)),
+    };
+    maker.give(order);
+}
+
+fn random_number(rng: &mut Rng) -> u32 {
+    match rng.below(3) {
+        0 => rng.number(),
+        1 => rng.below(300) as u32,
+        _ => rng.below(20) as u32,
+    }
+}
+
+/// A right frame around random TLVs, of which some are likely ones.
+fn random_message(rng: &mut Rng) -> Vec<u8> {
+    let codes = [0x0400, 0x0402, 0x0403, 0x0400, 0x0401, 0x8403];
+    let likely = [0x0100, 0x0200, 0x8100, 0x0101];
+    let mut tlvs = Vec::new();
+    for place in 0..rng.below(4) {
+        let place = if rng.percent(80) { place } else { rng.below(4) };
+        let value = match (place, rng.percent(80)) {
+            (0, true) => random_element(rng),
+            (1, true) => (rng.number() & 0x001f_ffff).to_be_bytes().to_vec(),
+            _ => rng.next().to_be_bytes()[..rng.below(8)].to_vec(),
+        };
+        tlvs.extend(wire::write_tlv(likely[place], &value));
+    }
+    if rng.percent(10) {
+        tlvs.pop();
+    }
+    wire::write_frame(codes[rng.below(codes.len())], rng.number(), &tlvs)
+}
+
+fn random_element(rng: &mut Rng) -> Vec<u8> {
+    let length = rng.below(50);
+    let mut octets = rng.octets(length);
+    let heads: [&[u8]; 4] = [&[6, 0, 1, 4], &[6, 0, 2, 16], &[6, 0, 1], &[]];
+    octets.splice(..0, heads[rng.below(4)].iter().copied());
+    if let Some(field) = octets.get_mut(8..10) {
+        field.copy_from_slice(&[0, rng.below(12) as u8]);
+    }
+    if rng.percent(50) {
+        let fitting = 10 + octets.get(9).map_or(0, |&octet| usize::from(octet));
+        octets.truncate(fitting);
+    }
+    octets
+}
+
+fn random_root(rng: &mut Rng) -> Vec<u8> {
+    let length = [4, 16, 4, 16, 0, 3, 5, 12, 17, 20][rng.below(10)];
+    rng.octets(length)
+}
+
+fn open_room(maker: &mut Maker) {
+    if maker.rng.percent(60) {
+        return open_ordinary(maker);
+    }
+    maker.world = World::longest(&mut maker.rng);
+    maker.route_roots(1);
+    maker.grow(MOST_TREES);
+}
+
+/// Lends an event about as much room as it needs.
+fn step_room(maker: &mut Maker) {
+    let recipe = if maker.rng.percent(40) {
+        MOVES
+    } else {
+        ORDINARY
+    };
+    let order = maker.choose(recipe);
+    let mut trial = maker.card().clone();
+    let needed = bench::event_answer(&mut trial, &order, bench::WHOLE_BUFFER)
+        .map_or(0, |records| records.len());
+    let room = room_near(&mut maker.rng, needed);
+    maker.give(Order::Room(room));
+    maker.give(order);
+    maker.look(30);
+}
+
+pub fn room_near(rng: &mut Rng, needed: usize) -> u32 {
+    let room = match rng.below(20) {
+        0..=7 => needed,
+        8..=11 => needed.saturating_sub(1),
+        12 | 13 => needed + 1,
+        14 => needed.saturating_sub(37),
+        15 => needed / 2,
+        16 | 17 => 0,
+        18 => [9983, 9984, 9985, 65536, 4_294_967_295][rng.below(5)],
+        _ => rng.below(160),
+    };
+    room as u32
+}
+
+fn step_lines(maker: &mut Maker) {
+    let order = if maker.rng.percent(30) {
+        lookup(&mut maker.scene())
+    } else {
+        maker.choose(ORDINARY)
+    };
+    if maker.rng.percent(25) {
+        return maker.give(order);
+    }
+    if let (Order::Take(from, octets), true) = (&order, maker.rng.percent(5)) {
+        let length = maker.rng.between(4095, 4097);
+        let padded = damage::pad_message(octets, length);
+        return maker.give(Order::Take(*from, padded));
+    }
+    let line = odd_lines::odd_line(&mut maker.rng, order.to_line().as_bytes());
+    maker.give_line(line);
+}
+
+/// A stretch of another kind, often from a fresh card. Little room that the
+/// stretch before left behind now and then lasts beyond the start.
+fn step_mixed(maker: &mut Maker) {
+    let kind = match maker.rng.below(4) {
+        0 => &KINDS[DAMAGED],
+        _ => &KINDS[maker.rng.below(MIXED)],
+    };
+    let whole_buffer = Order::Room(bench::WHOLE_BUFFER as u32);
+    let late = maker.rng.percent(25);
+    if !late {
+        maker.give(whole_buffer.clone());
+    }
+    if kind.name == "full" || maker.rng.percent(50) {
+        restart(maker);
+    }
+    (kind.open)(maker);
+    if late {
+        maker.give(whole_buffer);
+    }
+    for _ in 0..maker.rng.between(15, 100) {
+        (kind.step)(maker);
+    }
+}
+
+fn restart(maker: &mut Maker) {
+    let bases = [16, 17, 1_048_319, 1_048_320];
+    let refused = [0, 15, 1_048_321, u32::MAX];
+    let base = match maker.rng.below(10) {
+        0..=3 => bases[maker.rng.below(4)],
+        4 | 5 => refused[maker.rng.below(4)],
+        _ => maker.rng.between(16, 1_048_320) as u32,
+    };
+    maker.give(Order::Start(base));
+}
+
+#[cfg(test)]
+#[path = "days_tests.rs"]
+mod tests;

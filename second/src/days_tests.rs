@@ -1,0 +1,70 @@
+use super::*;
+use std::collections::BTreeSet;
+
+/// The lines written for a day.
+fn answers(lines: &[Vec<u8>]) -> Vec<String> {
+    let mut answers = Vec::new();
+    bench::replay(lines.join(&b'\n').as_slice(), |_, _, answer| {
+        answers.push(answer);
+        Ok(())
+    })
+    .expect("memory can be read");
+    answers
+}
+
+fn numbers(answers: &[String]) -> Vec<u8> {
+    answers
+        .iter()
+        .filter_map(|answer| bench::written_number(answer))
+        .collect()
+}
+
+#[test]
+fn days_have_their_length_and_repeat() {
+    for (kind, Kind { name, .. }) in KINDS.iter().enumerate() {
+        for lines in [0, 1, 7, 500] {
+            let day = make(kind, 3, lines);
+            assert_eq!(day.len(), lines, "{name}");
+            assert_eq!(day, make(kind, 3, lines));
+            assert!(day.iter().all(|line| !line.contains(&b'\n')));
+        }
+        assert_ne!(make(kind, 3, 500), make(kind, 4, 500));
+    }
+}
+
+#[test]
+fn a_mixed_day_gives_every_refusal() {
+    let mixed = kind_named("mixed").expect("it is one of the kinds");
+    for seed in 1..=5 {
+        let given: BTreeSet<u8> = numbers(&answers(&make(mixed, seed, 5000)))
+            .into_iter()
+            .collect();
+        assert_eq!(given, (0..=17).collect(), "seed {seed}");
+    }
+}
+
+#[test]
+fn days_are_deep() {
+    for (name, share) in [
+        ("ordinary", 80),
+        ("full", 50),
+        ("moves", 85),
+        ("exhaust", 60),
+        ("room", 50),
+        ("mixed", 50),
+    ] {
+        let kind = kind_named(name).expect("it is one of the kinds");
+        let numbers = numbers(&answers(&make(kind, 2, 3000)));
+        let accepted = numbers.iter().filter(|number| **number == 0).count();
+        assert!(100 * accepted >= share * numbers.len(), "{name}");
+    }
+}
+
+#[test]
+fn a_full_day_reaches_the_edges() {
+    let full = kind_named("full").expect("it is one of the kinds");
+    let answers = answers(&make(full, 1, 2000));
+    assert!(answers.iter().any(|answer| answer == "free 0"));
+    let given: BTreeSet<u8> = numbers(&answers).into_iter().collect();
+    assert!([10, 11, 12, 13, 14, 15].iter().all(|n| given.contains(n)));
+}

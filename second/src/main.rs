@@ -1,0 +1,162 @@
+//! An independent second label card for point-to-multipoint trees, with made
+//! days to run on it and on the first.
+
+mod bench;
+mod card;
+mod cases;
+mod damage;
+mod days;
+mod differ;
+mod events;
+mod odd_lines;
+mod refusal;
+mod rng;
+mod rows;
+mod wire;
+mod world;
+
+use std::fs::File;
+use std::io::{self, BufReader, BufWriter, Write};
+use std::process::ExitCode;
+
+const USAGE: &str = "usage: second run [FILE]
+       second day KIND SEED LINES
+       second cases
+       second stdin
+       second rows BASE SEED LINES
+       second refusals FILE
+       second differ DAY OUTPUT
+       second kinds";
+
+/// Seeds and lines of each kind's part of the gate's standard input.
+const GATE_SEEDS: [u64; 2] = [1, 2];
+const GATE_LINES: [(&str, usize); 9] = [
+    ("ordinary", 120),
+    ("full", 240),
+    ("moves", 120),
+    ("exhaust", 150),
+    ("damaged", 180),
+    ("random", 90),
+    ("room", 140),
+    ("lines", 50),
+    ("mixed", 150),
+];
+
+fn main() -> ExitCode {
+    let words: Vec<String> = std::env::args().skip(1).collect();
+    let words: Vec<&str> = words.iter().map(String::as_str).collect();
+    let mut output = BufWriter::new(io::stdout().lock());
+    let done = obey(&words, &mut output).and_then(|code| output.flush().map(|()| code));
+    match done {
+        Ok(Some(code)) => code,
+        Ok(None) => {
+            eprintln!("{USAGE}");
+            ExitCode::from(2)
+        }
+        Err(error) => {
+            eprintln!("second: {error}");
+            ExitCode::from(2)
+        }
+    }
+}
+
+/// None where the words are no sub-command.
+fn obey(words: &[&str], output: &mut impl Write) -> io::Result<Option<ExitCode>> {
+    let lines = match *words {
+        ["run"] => {
+            bench::run(io::stdin().lock(), output)?;
+            return Ok(Some(ExitCode::SUCCESS));
+        }
+        ["run", file] => {
+            bench::run(open(file)?, output)?;
+            return Ok(Some(ExitCode::SUCCESS));
+        }
+        ["differ", day, other] => return differ::show(open(day)?, open(other)?, output).map(Some),
+        ["refusals", file] => refusals(open(file)?)?,
+        ["day", kind, seed, count] => return write_day(kind, seed, count, output),
+        ["rows", base, seed, count] => match made_rows(base, seed, count) {
+            Some(rows) => rows,
+            None => return Ok(None),
+        },
+        ["cases"] => cases::day(),
+        ["stdin"] => return write_gate_input(output).map(|()| Some(ExitCode::SUCCESS)),
+        ["kinds"] => days::KINDS.iter().map(|k| k.name.to_string()).collect(),
+        _ => return Ok(None),
+    };
+    for line in lines {
+        writeln!(output, "{line}")?;
+    }
+    Ok(Some(ExitCode::SUCCESS))
+}
+
+fn open(file: &str) -> io::Result<BufReader<File>> {
+    File::open(file)
+        .map(BufReader::new)
+        .map_err(|error| io::Error::new(error.kind(), format!("{file}: {error}")))
+}
+
+fn write_lines(lines: &[Vec<u8>], output: &mut impl Write) -> io::Result<()> {
+    for line in lines {
+        output.write_all(line)?;
+        output.write_all(b"\n")?;
+    }
+    Ok(())
+}
+
+fn write_day(
+    kind: &str,
+    seed: &str,
+    count: &str,
+    output: &mut impl Write,
+) -> io::Result<Option<ExitCode>> {
+    let (Some(kind), Ok(seed), Ok(count)) = (days::kind_named(kind), seed.parse(), count.parse())
+    else {
+        return Ok(None);
+    };
+    let lines = days::make(kind, seed, count);
+    match lines.split_last() {
+        // Now and then the last newline is left out; the line still counts.
+        Some((last, before)) if days::KINDS[kind].name == "lines" && seed % 2 == 1 => {
+            write_lines(before, output)?;
+            output.write_all(last)?;
+        }
+        _ => write_lines(&lines, output)?,
+    }
+    Ok(Some(ExitCode::SUCCESS))
+}
+
+fn made_rows(base: &str, seed: &str, count: &str) -> Option<Vec<String>> {
+    rows::make(base.parse().ok()?, seed.parse().ok()?, count.parse().ok()?)
+}
+
+fn write_gate_input(output: &mut impl Write) -> io::Result<()> {
+    for page in [cases::day(), cases::longest_output(), cases::most_roots()] {
+        writeln!(output, "{}", page.join("\n"))?;
+    }
+    writeln!(output, "# lines, good and bad\nstart 16\nroom 9984")?;
+    write_lines(&odd_lines::every_edge(), output)?;
+    for seed in GATE_SEEDS {
+        for (name, count) in GATE_LINES {
+            let kind = days::kind_named(name).expect("the names are those of the kinds");
+            writeln!(output, "# {name}, seed {seed}\nstart 16\nroom 9984")?;
+            write_lines(&days::make(kind, seed, count), output)?;
+        }
+    }
+    Ok(())
+}
+
+/// How often each answer number and each bad line came out.
+fn refusals(input: BufReader<File>) -> io::Result<Vec<String>> {
+    let mut counts = [0u64; 18];
+    let mut bad_lines = 0u64;
+    bench::replay(input, |_, _, answer| {
+        if let Some(number) = bench::written_number(&answer) {
+            counts[usize::from(number)] += 1;
+        }
+        bad_lines += u64::from(answer.starts_with('?'));
+        Ok(())
+    })?;
+    let mut lines: Vec<String> = (0..).zip(counts).map(|(n, c)| format!("{n} {c}")).collect();
+    lines.push(format!("? {bad_lines}"));
+    Ok(lines)
+}

@@ -1,0 +1,244 @@
+//! Lines at the edge of what the line interface takes, on both sides of it.
+
+use crate::bench::{LONGEST_HEX, LONGEST_LINE};
+use crate::rng::Rng;
+
+const FIXED: &[&[u8]] = &[
+    b"",
+    b"   ",
+    b"\t",
+    b" \t \t",
+    b"#",
+    b"# a comment",
+    b"  # a comment behind spaces",
+    b"# \x00 NUL and \xff in a comment",
+    b"free",
+    b"free # the number of free labels",
+    b"free#",
+    b"free#1",
+    b"fr#ee",
+    b"\tfree\t",
+    b"  free  ",
+    b"free free",
+    b"free 1",
+    b"free\r",
+    b"\rfree",
+    b"free\x00",
+    b"\x00",
+    b"free \x00",
+    b"free\x0b",
+    b"free\x0c",
+    b"\xc2\xa0free",
+    b"free\xff",
+    b"Free",
+    b"FREE",
+    b"fre",
+    b"frees",
+    b"?",
+    b"? 1",
+    b"help",
+    b"take",
+    b"take 1",
+    b"take 1 00 00",
+    b"take 00",
+    b"take 1 0",
+    b"take 1 040",
+    b"take 1 0g",
+    b"take 1 0x00",
+    b"take 1 -",
+    b"take 1 --",
+    b"take 1 -0",
+    b"take 1 0-",
+    b"take - 00",
+    b"take -1 00",
+    b"take +1 00",
+    b"take one 00",
+    b"take 1 00#22",
+    b"take 1 #00",
+    b"take 1 0#0",
+    b"take\t1\t\t00",
+    b"take 1 04 00",
+    b"take 16 -",
+    b"take 0016 -",
+    b"take 4294967295 00",
+    b"take 4294967296 00",
+    b"take 18446744073709551616 00",
+    b"take 18446744073709551617 -",
+    b"take 000000000000000000000000000000001 -",
+    b"TAKE 1 00",
+    b"join",
+    b"join -",
+    b"join 0",
+    b"join 06 00",
+    b"join 6",
+    b"leave",
+    b"leave -",
+    b"leave 0600010",
+    b"leave - -",
+    b"route",
+    b"route c0000201",
+    b"route c0000201 18",
+    b"route c0000201 4294967295",
+    b"route c0000201 4294967296",
+    b"route c0000201 -",
+    b"route c0000201 +1",
+    b"route c0000201 1 1",
+    b"route C0000201 00000",
+    b"route c0000201 99999999999999999999",
+    b"route c000020 1",
+    b"route c00002 1",
+    b"route - 1",
+    b"route - 18",
+    b"route 1 c0000201",
+    b"label",
+    b"label -",
+    b"label 16 16",
+    b"label 0016",
+    b"label 0x10",
+    b"label 1e3",
+    b"label 16.",
+    b"label 4294967295",
+    b"label 4294967296",
+    b"label 4294967312",
+    b"label 42949672950",
+    b"label 18446744073709551632",
+    b"label +16",
+    b"label -16",
+    b"label \xef\xbc\x91\xef\xbc\x96",
+    b"label 1 6",
+    b"label 16#17",
+    b"label 16\r",
+    b"label\x0016",
+    b"tree",
+    b"tree -",
+    b"tree 0",
+    b"tree 06",
+    b"tree - -",
+    b"tree zz",
+    b"start",
+    b"start -",
+    b"start 4294967296",
+    b"start 16 16",
+    b"start x",
+    b"room",
+    b"room -",
+    b"room 9984 1",
+    b"room 4294967295",
+    b"room 0009984",
+    b"room 9985",
+    b"room 4294967296",
+    b"room 10000000000",
+    b"room -1",
+];
+
+const STRANGE: &[u8] = b"\x00\r\x0b\x7f\xff#- \t+0xg.:";
+
+/// Every line of the list, and lines on both sides of each length's edge.
+pub fn every_edge() -> Vec<Vec<u8>> {
+    let mut lines: Vec<Vec<u8>> = FIXED.iter().map(|line| line.to_vec()).collect();
+    for length in [LONGEST_LINE, LONGEST_LINE + 1] {
+        for (start, filler) in [(&b"free #"[..], b'x'), (b"#", b'#'), (b"", b' ')] {
+            let mut line = start.to_vec();
+            line.resize(length, filler);
+            lines.push(line);
+        }
+    }
+    for octets in [LONGEST_HEX, LONGEST_HEX + 1] {
+        let hex = "0f".repeat(octets);
+        for order in [
+            "take 1 HEX",
+            "join HEX",
+            "leave HEX",
+            "tree HEX",
+            "route HEX 1",
+        ] {
+            lines.push(order.replace("HEX", &hex).into_bytes());
+        }
+    }
+    lines
+}
+
+/// `good` is a good line, to be dressed up or spoiled.
+pub fn odd_line(rng: &mut Rng, good: &[u8]) -> Vec<u8> {
+    match rng.below(60) {
+        0..=33 => FIXED[rng.below(FIXED.len())].to_vec(),
+        34..=41 => dressed(rng, good),
+        42..=50 => spoiled(rng, good),
+        51 | 52 => many_octets(rng),
+        53..=55 => many_digits(rng),
+        56..=58 => junk(rng),
+        _ => very_long(rng, good),
+    }
+}
+
+/// Still good: other spaces, the other case of the hex digits, a comment.
+fn dressed(rng: &mut Rng, good: &[u8]) -> Vec<u8> {
+    let mut line = vec![b' '; rng.below(3)];
+    for &c in good {
+        let hex_letter = (b'a'..=b'f').contains(&c) && line.contains(&b'0');
+        match c {
+            b' ' => line.extend([b' ', b'\t', b' '].iter().take(rng.between(1, 3))),
+            _ if hex_letter && rng.percent(50) => line.push(c.to_ascii_uppercase()),
+            _ => line.push(c),
+        }
+    }
+    line.extend(b"\t".iter().take(rng.below(2)));
+    line.extend(b"# \x00\r\xff".iter().take(rng.below(6)));
+    line
+}
+
+fn spoiled(rng: &mut Rng, good: &[u8]) -> Vec<u8> {
+    let mut line = good.to_vec();
+    let place = rng.below(line.len());
+    let strange = STRANGE[rng.below(STRANGE.len())];
+    match rng.below(4) {
+        0 => line[place] = strange,
+        1 => line.insert(place, strange),
+        2 => drop(line.remove(place)),
+        _ => line.truncate(place),
+    }
+    line
+}
+
+/// Octets around the most that are taken.
+fn many_octets(rng: &mut Rng) -> Vec<u8> {
+    let heads: [&[u8]; 5] = [b"take 1 ", b"join ", b"leave ", b"tree ", b"route "];
+    let head = heads[rng.below(heads.len())];
+    let octets = rng.between(LONGEST_HEX - 1, LONGEST_HEX + 1);
+    let mut line = head.to_vec();
+    line.resize(head.len() + 2 * octets - usize::from(rng.percent(10)), b'0');
+    if head == b"route " {
+        line.extend(b" 1");
+    }
+    line
+}
+
+/// Leading zeros as many as anyone likes, then a number near an edge.
+fn many_digits(rng: &mut Rng) -> Vec<u8> {
+    let words: [&[u8]; 3] = [b"label ", b"room ", b"label "];
+    let numbers: [&[u8]; 5] = [b"16", b"4294967295", b"4294967296", b"9984", b"0"];
+    let mut line = words[rng.below(words.len())].to_vec();
+    line.resize(line.len() + rng.below(60), b'0');
+    line.extend(numbers[rng.below(numbers.len())]);
+    line
+}
+
+fn junk(rng: &mut Rng) -> Vec<u8> {
+    let length = rng.between(1, 30);
+    let mut line = rng.octets(length);
+    line.retain(|&c| c != b'\n');
+    line
+}
+
+/// Lines around the longest taken, otherwise good, blank or bad.
+fn very_long(rng: &mut Rng, good: &[u8]) -> Vec<u8> {
+    let starts: [&[u8]; 5] = [good, b"# ", b"", b"free # ", b"take 1 "];
+    let fillers = [b' ', b'#', b'\t', b'0', b'x'];
+    let mut line = starts[rng.below(starts.len())].to_vec();
+    let lengths = [LONGEST_LINE - 1, LONGEST_LINE, LONGEST_LINE + 1, 70_001];
+    line.resize(
+        lengths[rng.below(lengths.len())],
+        fillers[rng.below(fillers.len())],
+    );
+    line
+}

@@ -1,0 +1,28 @@
+//! Why a call is refused. The numbers are those of the requirement's table.
+
+#[derive(Clone, Copy, Debug, PartialEq, Eq)]
+pub enum Refusal {
+    Neighbour = 1,
+    MessageLength = 2,
+    MessageType = 3,
+    Framing = 4,
+    TlvOrder = 5,
+    Element = 6,
+    OpaqueLength = 7,
+    Label = 8,
+    FurtherTlv = 9,
+    OtherLabel = 10,
+    TreesFull = 11,
+    LabelsShort = 12,
+    NotAwaited = 13,
+    NotLeaf = 14,
+    RootsFull = 15,
+    Room = 16,
+    Base = 17,
+}
+
+impl Refusal {
+    pub fn number(self) -> u8 {
+        self as u8
+    }
+}

@@ -1,0 +1,158 @@
+//! A made day as rows of a table in a proof language.
+
+use crate::bench::{self, Order, WHOLE_BUFFER};
+use crate::card::{Card, Found};
+use crate::days::{room_near, spoil, MOVES, ORDINARY};
+use crate::events::{any_neighbour, block_label, choose, Scene};
+use crate::refusal::Refusal;
+use crate::rng::Rng;
+use crate::world::World;
+
+/// None where the base is refused.
+pub fn make(base: u32, seed: u64, count: usize) -> Option<Vec<String>> {
+    let (answer, mut card) = Card::start(base);
+    answer.ok()?;
+    let mut rng = Rng::new(seed);
+    let world = World::new(&mut rng, 6, 8, 4);
+    let mut rows = Vec::new();
+    while rows.len() < count {
+        let event = next_event(&mut rng, &card, &world, rows.len());
+        if !is_event(&event) {
+            continue;
+        }
+        let room = next_room(&mut rng, &card, &event, rows.len());
+        rows.push(row(&mut rng, &mut card, &world, &event, room, rows.len()));
+    }
+    Some(rows)
+}
+
+fn is_event(order: &Order) -> bool {
+    matches!(
+        order,
+        Order::Take(..) | Order::Join(_) | Order::Leave(_) | Order::Route(..)
+    )
+}
+
+/// The first events give the first roots their routes.
+fn next_event(rng: &mut Rng, card: &Card, world: &World, place: usize) -> Order {
+    if place < 3 {
+        return Order::Route(world.roots[place].clone(), any_neighbour(rng));
+    }
+    let recipe = if rng.percent(30) { MOVES } else { ORDINARY };
+    let event = choose(recipe, &mut Scene { rng, card, world });
+    if rng.percent(12) {
+        spoil(rng, event)
+    } else {
+        event
+    }
+}
+
+fn next_room(rng: &mut Rng, card: &Card, event: &Order, place: usize) -> usize {
+    if place == 0 || !rng.percent(10) {
+        return WHOLE_BUFFER;
+    }
+    let needed = bench::event_answer(&mut card.clone(), event, WHOLE_BUFFER)
+        .map_or(0, |records| records.len());
+    (room_near(rng, needed) as usize).min(WHOLE_BUFFER)
+}
+
+fn row(
+    rng: &mut Rng,
+    card: &mut Card,
+    world: &World,
+    event: &Order,
+    room: usize,
+    place: usize,
+) -> String {
+    let answer = bench::event_answer(card, event, room);
+    let asked = block_label(&mut Scene { rng, card, world });
+    let begin = if place == 0 { "anew" } else { "then" };
+    let facts = format!(
+        "{begin} ({}) {} {asked} ({})",
+        event_text(event),
+        outcome_text(&answer, card.free_labels()),
+        list(&gives(card.find_label(asked))),
+    );
+    if room == WHOLE_BUFFER {
+        format!("    {facts} ∷")
+    } else {
+        format!("    inRoom {room} ({facts}) ∷")
+    }
+}
+
+fn event_text(event: &Order) -> String {
+    match event {
+        Order::Take(from, octets) => format!("receive {from} ({})", list(octets)),
+        Order::Join(octets) => format!("join ({})", list(octets)),
+        Order::Leave(octets) => format!("leave ({})", list(octets)),
+        Order::Route(root, route) => format!("route ({}) {route}", list(root)),
+        other => unreachable!("{other:?} is no event"),
+    }
+}
+
+fn outcome_text(answer: &Result<Vec<u8>, Refusal>, free: usize) -> String {
+    let octets = answer.as_deref().unwrap_or(&[]);
+    let number = bench::answer_number(answer);
+    format!("{number} ({}) {free}", list(octets))
+}
+
+/// Neighbour and label of each branch, then 1 for the leaf.
+fn gives(found: Option<Found>) -> Vec<u32> {
+    let Some(found) = found else {
+        return Vec::new();
+    };
+    let branches = found.branches.into_iter().flat_map(|(n, l)| [n, l]);
+    branches.chain(found.leaf.then_some(1)).collect()
+}
+
+fn list<T: ToString>(numbers: &[T]) -> String {
+    let mut text: String = numbers
+        .iter()
+        .map(|number| number.to_string() + " ∷ ")
+        .collect();
+    text.push_str("[]");
+    text
+}
+
+#[cfg(test)]
+mod tests {
+    use super::*;
+
+    #[test]
+    fn rows_have_their_form() {
+        let rows = make(16, 1, 300).expect("16 is a base");
+        assert_eq!(rows.len(), 300);
+        assert!(rows[0].starts_with("    anew (route ("));
+        assert!(rows[1..]
+            .iter()
+            .all(|row| row.starts_with("    then (") || row.starts_with("    inRoom ")));
+        assert!(rows.iter().all(|row| row.ends_with(") ∷")));
+        assert!(rows.iter().any(|row| row.contains("inRoom 0 (then (")));
+    }
+
+    #[test]
+    fn first_row_in_full() {
+        let rows = make(16, 7, 1).expect("16 is a base");
+        let words: Vec<&str> = rows[0].split_whitespace().collect();
+        assert_eq!(words[..2], ["anew", "(route"]);
+        assert!(rows[0].contains(") 0 ([]) 256 "));
+        assert!(rows[0].ends_with(" ([]) ∷"));
+    }
+
+    #[test]
+    fn refused_base_gives_no_rows() {
+        assert!(make(15, 1, 1).is_none());
+        assert!(make(1_048_320, 1, 1).is_some());
+    }
+
+    #[test]
+    fn lists() {
+        assert_eq!(list::<u8>(&[]), "[]");
+        assert_eq!(list(&[4, 0, 33]), "4 ∷ 0 ∷ 33 ∷ []");
+        let found = Found {
+            leaf: true,
+            branches: vec![(1, 100), (3, 300)],
+        };
+        assert_eq!(gives(Some(found)), [1, 100, 3, 300, 1]);
+    }
+}
