@@ -1,0 +1,353 @@
+-- The card after a tree or a route has come or gone, after a label was mapped, and at the start. Assumes nothing.
+use Prim.Native.Nat.{ℕ, zero, suc, _+_, _*_, _-_, _≤_, _<_, suc-le-suc, zero-le}
+use native.Mathlib.Nat.{add-zero}
+use native.Mathlib.Omega.{arith}
+use mathlib.Core.Path.{_≡_, refl, ap, _∙_}
+use mathlib.Core.Bool.{Bool}
+use mathlib.Core.List.{List, [], _∷_, _++_}
+use lib.ListN.{length, take, drop, getD, set, replicate, length-set, length-drop, length-replicate}
+use lib.Seq.{getD-set-same, getD-set-other, getD-take, getD-drop, length-take-le}
+use borrow.Author.Tests.{le-leb, ne-eqb}
+use Rattle.meaning.specs.Octets.{place, put, cut}
+use Rattle.meaning.specs.Lists.{picked, place-finds, same-eq}
+use Rattle.meaning.specs.Card.{Route, Tree, Use, free, mapped, labelCount, fresh, withRoutes, withTrees, withLabels, bare, treeAt, isFor, routePlace}
+use Rattle.meaning.specs.Events.{baseOutside, setUse}
+use Rattle.octets.specs.Part.{mid, tab}
+use Rattle.octets.proofs.Tab.{tab-length, tab-get, tab-ext, tab-set, tab-snoc, tab-cut, put-in, put-end}
+use Rattle.table.specs.Memory.{upTo, textAt, nameLimit, treeName, labelName, rootName, baseIn, nextIn, routeCount, treeCount, routeIn, ownLabel, treeIn, useIn, labelIn, cardOf}
+use Rattle.table.proofs.Memory.{upTo-le, upTo-in, Agree, base-same, next-same, route-same, routes-same, tree-same, trees-same, label-same, labels-same, agree-refl, agree-set, tree-at}
+use Rattle.rows.specs.Parts.{Written, Closed}
+use Rattle.rows.proofs.Parts.{written, Carries, lower, text-carried, text-put}
+
+-- ---- the rest of the card
+
+module _ (ns ns' os os' : List ℕ) where
+  -- the memory of all but the trees is as it was
+  but-trees : (ts : List Tree) → Agree 0 3 ns ns' → Agree 4 32 ns ns' → Agree 1188 256 ns ns' → Agree 3520 14624 os os' → tab (treeCount ns') (treeIn ns' os') ≡ ts → cardOf ns' os' ≡ withTrees ts (cardOf ns os)
+  unfolding cardOf withTrees
+  but-trees ts head vias marks names trees =
+      let b : baseIn ns' ≡ baseIn ns = base-same ns ns' os os' (λ j x y. head j (omega arith) (omega arith)) in
+      let n : nextIn ns' ≡ nextIn ns = next-same ns ns' os os' (λ j x y. head j (omega arith) (omega arith)) in
+      let r : tab (routeCount ns') (routeIn ns' os') ≡ tab (routeCount ns) (routeIn ns os) = routes-same ns ns' os os' (λ j x y. head j (omega arith) (omega arith)) vias (λ j x y. names j (omega arith) (omega arith)) in
+      let l : tab labelCount (labelIn ns' os') ≡ tab labelCount (labelIn ns os) = labels-same ns ns' os os' marks (λ j x y. names j (omega arith) (omega arith)) in
+      cc
+
+  -- and of all but the routes
+  but-routes : (rs : List Route) → Agree 0 2 ns ns' → Agree 3 1 ns ns' → Agree 36 1408 ns ns' → Agree 0 17600 os os' → tab (routeCount ns') (routeIn ns' os') ≡ rs → cardOf ns' os' ≡ withRoutes rs (cardOf ns os)
+  unfolding cardOf withRoutes
+  but-routes rs head count rows names routes =
+      let b : baseIn ns' ≡ baseIn ns = base-same ns ns' os os' (λ j x y. head j (omega arith) (omega arith)) in
+      let n : nextIn ns' ≡ nextIn ns = next-same ns ns' os os' (λ j x y. head j (omega arith) (omega arith)) in
+      let t : tab (treeCount ns') (treeIn ns' os') ≡ tab (treeCount ns) (treeIn ns os) = trees-same ns ns' os os' (λ j x y. head j (omega arith) (omega arith)) count (λ j x y. rows j (omega arith) (omega arith)) (λ j x y. rows j (omega arith) (omega arith)) (λ j x y. names j (omega arith) (omega arith)) in
+      let l : tab labelCount (labelIn ns' os') ≡ tab labelCount (labelIn ns os) = labels-same ns ns' os os' (λ j x y. rows j (omega arith) (omega arith)) (λ j x y. names j (omega arith) (omega arith)) in
+      cc
+
+  -- and of all but the labels
+  but-labels : (ls : List Use) → Agree 0 1188 ns ns' → Agree 0 3520 os os' → Agree 17600 544 os os' → tab labelCount (labelIn ns' os') ≡ ls → cardOf ns' os' ≡ withLabels ls (cardOf ns os)
+  unfolding cardOf withLabels
+  but-labels ls rows names roots labels =
+      let b : baseIn ns' ≡ baseIn ns = base-same ns ns' os os' (λ j x y. rows j (omega arith) (omega arith)) in
+      let n : nextIn ns' ≡ nextIn ns = next-same ns ns' os os' (λ j x y. rows j (omega arith) (omega arith)) in
+      let r : tab (routeCount ns') (routeIn ns' os') ≡ tab (routeCount ns) (routeIn ns os) = routes-same ns ns' os os' (λ j x y. rows j (omega arith) (omega arith)) (λ j x y. rows j (omega arith) (omega arith)) roots in
+      let t : tab (treeCount ns') (treeIn ns' os') ≡ tab (treeCount ns) (treeIn ns os) = trees-same ns ns' os os' (λ j x y. rows j (omega arith) (omega arith)) (λ j x y. rows j (omega arith) (omega arith)) (λ j x y. rows j (omega arith) (omega arith)) (λ j x y. rows j (omega arith) (omega arith)) names in
+      cc
+
+  -- ---- rows that stand at another place
+
+  route-carried : (i j : ℕ) → Carries (4 + i) (4 + j) 1 ns ns' → Carries (17600 + i * 17) (17600 + j * 17) 17 os os' → routeIn ns' os' j ≡ routeIn ns os i
+  unfolding routeIn rootName
+  route-carried i j v r =
+      let via : getD ns' (4 + j) 0 ≡ getD ns (4 + i) 0 = simp add-zero at (v 0 (omega arith)) in
+      let root : textAt 16 os' (17600 + j * 17) ≡ textAt 16 os (17600 + i * 17) = text-carried 16 (17600 + i * 17) (17600 + j * 17) os os' r in
+      cc
+
+  tree-carried : (i j : ℕ) → Agree 0 1 ns ns' → Carries (36 + i) (36 + j) 1 ns ns' → Carries (100 + i * 17) (100 + j * 17) 17 ns ns' → Carries (i * 55) (j * 55) 55 os os' → treeIn ns' os' j ≡ treeIn ns os i
+  unfolding treeIn treeName
+  tree-carried i j b l r n =
+      let name : textAt nameLimit os' (j * 55) ≡ textAt nameLimit os (i * 55) = text-carried nameLimit (i * 55) (j * 55) os os' n in
+      let branches : tab 16 (λ k. getD ns' (101 + j * 17 + k) 0) ≡ tab 16 (λ k. getD ns (101 + i * 17 + k) 0) =
+      tab-ext 16 _ _ (λ k lt.
+      let x : 101 + j * 17 + k ≡ 100 + j * 17 + (1 + k) = omega arith in
+      let y : 100 + i * 17 + (1 + k) ≡ 101 + i * 17 + k = omega arith in
+      ap (λ (m : ℕ). getD ns' m 0) x ∙ r (1 + k) (omega arith) ∙ ap (λ (m : ℕ). getD ns m 0) y) in
+      let base : baseIn ns' ≡ baseIn ns = base-same ns ns' os os' b in
+      let label : getD ns' (36 + j) 0 ≡ getD ns (36 + i) 0 = simp add-zero at (l 0 (omega arith)) in
+      let leaf : getD ns' (100 + j * 17) 0 ≡ getD ns (100 + i * 17) 0 = simp add-zero at (r 0 (omega arith)) in
+      cc
+
+-- ---- the start
+
+zeros : (n m : ℕ) → _≡_ {A = ℕ} (getD (replicate n 0) m 0) 0
+zeros zero m = refl
+zeros (suc n) zero = refl
+zeros (suc n) (suc m) = zeros n m
+
+tab-replicate : {A : Type 0} (n : ℕ) (f : ℕ → A) (v : A) → ((i : ℕ) → i < n → f i ≡ v) → tab n f ≡ replicate n v
+unfolding tab
+tab-replicate zero f v h = refl
+tab-replicate (suc n) f v h = cc (h zero (suc-le-suc zero-le), tab-replicate n (λ i. f (suc i)) v (λ i k. h (suc i) (suc-le-suc k)))
+
+base-in : (ns : List ℕ) (b : ℕ) → getD ns 0 0 ≡ b → 16 ≤ b → b ≤ 1048320 → baseIn ns ≡ b
+unfolding baseIn baseOutside
+base-in ns b e l h = rw (e, le-leb 16 b l, le-leb b 1048320 h) refl
+
+free-label : (ns os : List ℕ) (p : ℕ) → getD ns (1188 + p) 0 ≡ 0 → labelIn ns os p ≡ free
+unfolding labelIn useIn
+free-label ns os p e = rw e refl
+
+no-rows : (ns os : List ℕ) → getD ns 2 0 ≡ 0 → getD ns 3 0 ≡ 0 → (tab (routeCount ns) (routeIn ns os) ≡ []) × (tab (treeCount ns) (treeIn ns os) ≡ [])
+unfolding tab routeCount treeCount upTo
+no-rows ns os r t = (rw r refl, rw t refl)
+
+pub start-fresh : (ns zs os : List ℕ) (base : ℕ) → length ns ≡ 1444 → 16 ≤ base → base ≤ 1048320 → zs ≡ replicate (length ns) 0 → cardOf (set (set zs 0 base) 1 1) os ≡ fresh base
+unfolding cardOf fresh nextIn
+start-fresh ns zs os base h lo hi e =
+    let long : length zs ≡ 1444 = rw e (length-replicate (length ns) 0 ∙ h) in
+    let b : baseIn ms ≡ base = base-in ms base (getD-set-other (set zs 0 base) 1 0 1 0 (λ q. omega arith) ∙ getD-set-same zs 0 base 0 (omega arith)) lo hi in
+    let n : getD ms 1 0 ≡ 1 = getD-set-same (set zs 0 base) 1 1 0 (rw length-set (omega arith)) in
+    let none = no-rows ms os (rest 2 (omega arith)) (rest 3 (omega arith)) in
+    let r : tab (routeCount ms) (routeIn ms os) ≡ [] = none .0 in
+    let t : tab (treeCount ms) (treeIn ms os) ≡ [] = none .1 in
+    let l : tab labelCount (labelIn ms os) ≡ replicate labelCount free = tab-replicate labelCount (labelIn ms os) free (λ p lt. free-label ms os p (rest (1188 + p) (omega arith))) in
+    cc
+  where
+    ms : List ℕ
+    ms = set (set zs 0 base) 1 1
+
+    rest : (j : ℕ) → 2 ≤ j → getD ms j 0 ≡ 0
+    rest j k = getD-set-other (set zs 0 base) 1 j 1 0 (λ q. omega arith) ∙ getD-set-other zs 0 j base 0 (λ q. omega arith) ∙ ap (λ (l : List ℕ). getD l j 0) e ∙ zeros (length ns) j
+
+-- ---- a label mapped
+
+use-mapped : (n : ℕ) (a : List ℕ) → n < 16 → useIn (n + 1) a ≡ mapped n a
+unfolding useIn
+use-mapped n a h =
+    let back : n + 1 - 1 ≡ n = omega arith in
+    rw (ne-eqb (n + 1) 0 (λ e. omega arith), le-leb (n + 1) 16 (omega arith), back) refl
+
+-- where the slot of the tree's name was copied, the label remembers the name
+remembered : (ns os ms qs : List ℕ) (p i n : ℕ) → n < 16 → i < treeCount ns → getD ms (1188 + p) 0 ≡ n + 1 → Carries (i * 55) (3520 + p * 55) 55 os qs → labelIn ms qs p ≡ mapped n (treeAt i (cardOf ns os) .name)
+unfolding labelIn labelName treeIn treeName
+remembered ns os ms qs p i n hn hi e h =
+    rw (e, text-carried nameLimit (i * 55) (3520 + p * 55) os qs h, tree-at ns os i hi) (use-mapped n _ hn)
+
+pub map-label : (ns os qs : List ℕ) (p i n : ℕ) → length ns ≡ 1444 → length os ≡ 18144 → p < 256 → i < treeCount ns → i < 64 → n < 16
+    → qs ≡ mid (3520 + p * 55) 55 os (take 55 (drop (i * 55) os))
+    → cardOf (set ns (1188 + p) (n + 1)) qs ≡ setUse (baseIn ns + p) (mapped n (treeAt i (cardOf ns os) .name)) (cardOf ns os)
+unfolding cardOf setUse
+map-label ns os qs p i n hl ho hp hi h64 hn hq =
+    let back : baseIn ns + p - baseIn ns ≡ p = omega arith in
+    rw back
+    (but-labels ns ms os qs _
+    (agree-set 0 1188 ns (1188 + p) (n + 1) (λ u v. omega arith))
+    (λ j x y. w .rest j (λ u v. omega arith))
+    (λ j x y. w .rest j (λ u v. omega (arith, part)))
+    (tab-set 256 (labelIn ns os) (labelIn ms qs) p _ hp
+    (remembered ns os ms qs p i n hn hi (getD-set-same ns (1188 + p) (n + 1) 0 (omega arith)) copied)
+    (λ q ne lt. label-same ns ms os qs q (agree-set (1188 + q) 1 ns (1188 + p) (n + 1) (λ u v. ne (omega arith))) (λ j x y. w .rest j (λ u v. ne (omega (arith, part)))))))
+  where
+    ms : List ℕ
+    ms = set ns (1188 + p) (n + 1)
+
+    slot : List ℕ
+    slot = take 55 (drop (i * 55) os)
+
+    part : length slot ≡ 55
+    part = length-take-le 55 (drop (i * 55) os) (simp length-drop (omega arith))
+
+    w : Written (3520 + p * 55) slot os qs
+    w = rw hq (written (3520 + p * 55) 55 os slot (omega arith) part)
+
+    copied : Carries (i * 55) (3520 + p * 55) 55 os qs
+    copied j lt = w .here j (omega (arith, part)) ∙ getD-take 55 (drop (i * 55) os) j 0 lt ∙ getD-drop (i * 55) os j 0
+
+-- ---- a row goes
+
+pub remove-route : (ns vs os qs : List ℕ) (i n : ℕ) → length ns ≡ 1444 → n ≡ routeCount ns → i < n
+    → Closed (4 + i) (4 + n) 1 ns vs → Closed (17600 + i * 17) (17600 + n * 17) 17 os qs
+    → cardOf (set vs 2 (n - 1)) qs ≡ withRoutes (cut (cardOf ns os .routes) i) (cardOf ns os)
+unfolding routeCount cardOf
+remove-route ns vs os qs i n hl hn hi cv cr =
+    but-routes ns ms os qs _
+    (λ j x y. keep j (λ e. omega arith) (λ u v. omega arith))
+    (λ j x y. keep j (λ e. omega arith) (λ u v. omega arith))
+    (λ j x y. keep j (λ e. omega arith) (λ u v. omega (arith, limit)))
+    (λ j x y. cr .rest j (λ u v. omega arith))
+    (rw (count, ← hn)
+    (tab-cut n i (routeIn ns os) (routeIn ms qs) (record { root = []; via = 0 }) hi
+    (λ j lt. route-same ns ms os qs j (λ k x y. keep k (λ e. omega arith) (λ u v. omega arith)) (λ k x y. cr .rest k (λ u v. omega arith)))
+    (λ j le lt. route-carried ns ms os qs (j + 1) j (λ k h. getD-set-other vs 2 (4 + j + k) (n - 1) 0 (λ e. omega arith) ∙ lower (4 + i) (4 + n) 1 (4 + (j + 1)) (4 + j) 1 ns vs cv (omega arith) (omega arith) (omega arith) k h)
+    (lower (17600 + i * 17) (17600 + n * 17) 17 (17600 + (j + 1) * 17) (17600 + j * 17) 17 os qs cr (omega arith) (omega arith) (omega arith)))))
+  where
+    ms : List ℕ
+    ms = set vs 2 (n - 1)
+
+    limit : n ≤ 32
+    limit = omega (arith, upTo-le 32 (getD ns 2 0))
+
+    count : upTo 32 (getD ms 2 0) ≡ n - 1
+    count = ap (upTo 32) (getD-set-same vs 2 (n - 1) 0 (omega (arith, cv .long))) ∙ upTo-in 32 (n - 1) (omega (arith, limit))
+
+    keep : (j : ℕ) → (j ≡ 2 → ⊥) → (4 + i ≤ j → j < 4 + n → ⊥) → getD ms j 0 ≡ getD ns j 0
+    keep j ne out = getD-set-other vs 2 j (n - 1) 0 ne ∙ cv .rest j out
+
+pub remove-tree : (ns ls rs os qs : List ℕ) (i n : ℕ) → length ns ≡ 1444 → n ≡ treeCount ns → i < n
+    → Closed (36 + i) (36 + n) 1 ns ls → Closed (100 + i * 17) (100 + n * 17) 17 ls rs → Closed (i * 55) (n * 55) 55 os qs
+    → cardOf (set rs 3 (n - 1)) qs ≡ withTrees (cut (cardOf ns os .trees) i) (cardOf ns os)
+unfolding treeCount cardOf
+remove-tree ns ls rs os qs i n hl hn hi cl cr cn =
+    but-trees ns ms os qs _
+    (λ j x y. keep j (λ e. omega arith) (λ u v. omega arith) (λ u v. omega arith))
+    (λ j x y. keep j (λ e. omega arith) (λ u v. omega arith) (λ u v. omega arith))
+    (λ j x y. keep j (λ e. omega arith) (λ u v. omega (arith, limit)) (λ u v. omega (arith, limit)))
+    (λ j x y. cn .rest j (λ u v. omega (arith, limit)))
+    (rw (count, ← hn) (tab-cut n i (treeIn ns os) (treeIn ms qs) (bare []) hi low high))
+  where
+    ms : List ℕ
+    ms = set rs 3 (n - 1)
+
+    limit : n ≤ 64
+    limit = omega (arith, upTo-le 64 (getD ns 3 0))
+
+    count : upTo 64 (getD ms 3 0) ≡ n - 1
+    count = ap (upTo 64) (getD-set-same rs 3 (n - 1) 0 (omega (arith, cl .long, cr .long))) ∙ upTo-in 64 (n - 1) (omega (arith, limit))
+
+    keep : (j : ℕ) → (j ≡ 3 → ⊥) → (36 + i ≤ j → j < 36 + n → ⊥) → (100 + i * 17 ≤ j → j < 100 + n * 17 → ⊥) → getD ms j 0 ≡ getD ns j 0
+    keep j ne out off = getD-set-other rs 3 j (n - 1) 0 ne ∙ cr .rest j off ∙ cl .rest j out
+
+    low : (j : ℕ) → j < i → treeIn ms qs j ≡ treeIn ns os j
+    low j lt =
+        tree-same ns ms os qs j
+        (λ k x y. keep k (λ e. omega arith) (λ u v. omega arith) (λ u v. omega arith))
+        (λ k x y. keep k (λ e. omega arith) (λ u v. omega arith) (λ u v. omega (arith, limit)))
+        (λ k x y. keep k (λ e. omega arith) (λ u v. omega (arith, limit)) (λ u v. omega arith))
+        (λ k x y. cn .rest k (λ u v. omega arith))
+
+    high : (j : ℕ) → i ≤ j → j + 1 < n → treeIn ms qs j ≡ treeIn ns os (j + 1)
+    high j le lt =
+        tree-carried ns ms os qs (j + 1) j
+        (λ k x y. keep k (λ e. omega arith) (λ u v. omega arith) (λ u v. omega arith))
+        (λ k h. getD-set-other rs 3 (36 + j + k) (n - 1) 0 (λ e. omega arith) ∙ cr .rest (36 + j + k) (λ u v. omega (arith, limit))
+        ∙ lower (36 + i) (36 + n) 1 (36 + (j + 1)) (36 + j) 1 ns ls cl (omega arith) (omega arith) (omega arith) k h)
+        (λ k h. getD-set-other rs 3 (100 + j * 17 + k) (n - 1) 0 (λ e. omega arith)
+        ∙ lower (100 + i * 17) (100 + n * 17) 17 (100 + (j + 1) * 17) (100 + j * 17) 17 ls rs cr (omega arith) (omega arith) (omega arith) k h
+        ∙ cl .rest (100 + (j + 1) * 17 + k) (λ u v. omega (arith, limit)))
+        (lower (i * 55) (n * 55) 55 ((j + 1) * 55) (j * 55) 55 os qs cn (omega arith) (omega arith) (omega arith))
+
+-- ---- a row comes
+
+new-tree : (ns os qs o : List ℕ) (n : ℕ) → length o ≤ 54 → getD ns (36 + n) 0 ≡ 256 → ((j : ℕ) → j < 17 → getD ns (100 + n * 17 + j) 0 ≡ 0) → Written (n * 55) (length o ∷ o) os qs → treeIn ns qs n ≡ bare o
+unfolding treeIn treeName ownLabel bare
+new-tree ns os qs o n h l r w =
+    let name : textAt nameLimit qs (n * 55) ≡ o = text-put nameLimit (n * 55) o os qs h w in
+    let branches : tab 16 (λ k. getD ns (101 + n * 17 + k) 0) ≡ replicate 16 0 =
+    tab-replicate 16 _ 0 (λ k lt. let x : 101 + n * 17 + k ≡ 100 + n * 17 + (1 + k) = omega arith in ap (λ (m : ℕ). getD ns m 0) x ∙ r (1 + k) (omega arith)) in
+    let leaf : getD ns (100 + n * 17) 0 ≡ 0 = simp add-zero at (r 0 (omega arith)) in
+    cc
+
+pub enter-tree : (ns zs os qs o : List ℕ) (n : ℕ) → length ns ≡ 1444 → n ≡ treeCount ns → n < 64 → length o ≤ 54
+    → Written (100 + n * 17) (replicate 17 0) ns zs → Written (n * 55) (length o ∷ o) os qs
+    → cardOf (set (set zs (36 + n) 256) 3 (n + 1)) qs ≡ withTrees (cardOf ns os .trees ++ (bare o ∷ [])) (cardOf ns os)
+unfolding treeCount cardOf
+enter-tree ns zs os qs o n hl hn h64 ho wr wn =
+    but-trees ns ms os qs _
+    (λ j x y. keep j (λ e. omega arith) (λ e. omega arith) (λ u v. omega arith))
+    (λ j x y. keep j (λ e. omega arith) (λ e. omega arith) (λ u v. omega arith))
+    (λ j x y. keep j (λ e. omega arith) (λ e. omega arith) (λ u v. omega arith))
+    (λ j x y. wn .rest j (λ u v. omega arith))
+    (rw (count, ← hn) (tab-snoc n (treeIn ns os) (treeIn ms qs) (bare o) low new))
+  where
+    ms : List ℕ
+    ms = set (set zs (36 + n) 256) 3 (n + 1)
+
+    count : upTo 64 (getD ms 3 0) ≡ n + 1
+    count = ap (upTo 64) (getD-set-same (set zs (36 + n) 256) 3 (n + 1) 0 (rw length-set (omega (arith, wr .long)))) ∙ upTo-in 64 (n + 1) (omega arith)
+
+    keep : (j : ℕ) → (j ≡ 3 → ⊥) → (j ≡ 36 + n → ⊥) → (100 + n * 17 ≤ j → j < 100 + n * 17 + 17 → ⊥) → getD ms j 0 ≡ getD ns j 0
+    keep j ne me out = getD-set-other (set zs (36 + n) 256) 3 j (n + 1) 0 ne ∙ getD-set-other zs (36 + n) j 256 0 me ∙ wr .rest j out
+
+    low : (j : ℕ) → j < n → treeIn ms qs j ≡ treeIn ns os j
+    low j lt =
+        tree-same ns ms os qs j
+        (λ k x y. keep k (λ e. omega arith) (λ e. omega arith) (λ u v. omega arith))
+        (λ k x y. keep k (λ e. omega arith) (λ e. omega arith) (λ u v. omega arith))
+        (λ k x y. keep k (λ e. omega arith) (λ e. omega arith) (λ u v. omega arith))
+        (λ k x y. wn .rest k (λ u v. omega arith))
+
+    new : treeIn ms qs n ≡ bare o
+    new =
+        new-tree ms os qs o n ho
+        (getD-set-other (set zs (36 + n) 256) 3 (36 + n) (n + 1) 0 (λ e. omega arith) ∙ getD-set-same zs (36 + n) 256 0 (omega (arith, wr .long)))
+        (λ j lt. getD-set-other (set zs (36 + n) 256) 3 (100 + n * 17 + j) (n + 1) 0 (λ e. omega arith) ∙ getD-set-other zs (36 + n) (100 + n * 17 + j) 256 0 (λ e. omega arith) ∙ wr .here j lt ∙ zeros 17 j)
+        wn
+
+-- ---- a root's route
+
+place-le {ℓ} : {A : Type ℓ} (t : A → Bool) (l : List A) → place t l ≤ length l
+unfolding place
+place-le t [] = omega arith
+place-le t (x ∷ l) = picked (λ (k : ℕ). k ≤ suc (length l)) (t x) (λ _. omega arith) (λ _. suc-le-suc (place-le t l))
+
+-- what the search found
+found-root : (ns os o : List ℕ) (i : ℕ) → i ≡ routePlace o (cardOf ns os) → i < routeCount ns → rootName os i ≡ o
+unfolding routePlace cardOf isFor routeIn
+found-root ns os o i e h =
+    let none : Route = record { root = []; via = 0 } in
+    let lt : place (isFor o) (tab (routeCount ns) (routeIn ns os)) < length (tab (routeCount ns) (routeIn ns os)) = rw (tab-length, ← e) h in
+    let found = place-finds (isFor o) (tab (routeCount ns) (routeIn ns os)) none lt in
+    same-eq _ _ (rw (← e, tab-get (routeCount ns) (routeIn ns os) i none h) at found)
+
+-- a route, by its two parts
+route-is : (ns os o : List ℕ) (i via : ℕ) → rootName os i ≡ o → getD ns (4 + i) 0 ≡ via → _≡_ {A = Route} (routeIn ns os i) (record { root = o; via = via })
+unfolding routeIn
+route-is ns os o i via r v = cc
+
+pub set-route : (ns os o : List ℕ) (i via : ℕ) → length ns ≡ 1444 → i ≡ routePlace o (cardOf ns os) → i < routeCount ns
+    → cardOf (set ns (4 + i) via) os ≡ withRoutes (put (cardOf ns os .routes) (routePlace o (cardOf ns os)) (record { root = o; via = via })) (cardOf ns os)
+unfolding routeCount cardOf
+set-route ns os o i via hl e h =
+    rw (← e)
+    (but-routes ns ms os os _
+    (agree-set 0 2 ns (4 + i) via (λ u v. omega arith))
+    (agree-set 3 1 ns (4 + i) via (λ u v. omega arith))
+    (agree-set 36 1408 ns (4 + i) via (λ u v. omega (arith, limit)))
+    (agree-refl 0 17600 os)
+    (rw (count, put-in (tab (routeCount ns) (routeIn ns os)) i (record { root = o; via = via }) (rw tab-length h))
+    (tab-set (routeCount ns) (routeIn ns os) (routeIn ms os) i _ h
+    (route-is ms os o i via (found-root ns os o i e h) (getD-set-same ns (4 + i) via 0 (omega (arith, limit))))
+    (λ j ne lt. route-same ns ms os os j (agree-set (4 + j) 1 ns (4 + i) via (λ u v. ne (omega arith))) (agree-refl (17600 + j * 17) 17 os)))))
+  where
+    ms : List ℕ
+    ms = set ns (4 + i) via
+
+    limit : i < 32
+    limit = omega (arith, upTo-le 32 (getD ns 2 0))
+
+    count : getD ms 2 0 ≡ getD ns 2 0
+    count = getD-set-other ns (4 + i) 2 via 0 (λ e. omega arith)
+
+-- no entry yet: one behind the others
+pub add-route : (ns os qs o : List ℕ) (i n via : ℕ) → length ns ≡ 1444 → i ≡ routePlace o (cardOf ns os) → n ≡ routeCount ns → n ≤ i → n < 32 → length o ≤ 16
+    → Written (17600 + n * 17) (length o ∷ o) os qs
+    → cardOf (set (set ns (4 + n) via) 2 (n + 1)) qs ≡ withRoutes (put (cardOf ns os .routes) (routePlace o (cardOf ns os)) (record { root = o; via = via })) (cardOf ns os)
+unfolding routeCount cardOf routePlace rootName
+add-route ns os qs o i n via hl e hn le h32 ho w =
+    but-routes ns ms os qs _
+    (λ j x y. keep j (λ e. omega arith) (λ e. omega arith))
+    (λ j x y. keep j (λ e. omega arith) (λ e. omega arith))
+    (λ j x y. keep j (λ e. omega arith) (λ e. omega arith))
+    (λ j x y. w .rest j (λ u v. omega arith))
+    (rw (count, put-end (tab (routeCount ns) (routeIn ns os)) (place (isFor o) (tab (routeCount ns) (routeIn ns os))) (record { root = o; via = via }) (omega (arith, tab-length (routeCount ns) (routeIn ns os), place-le (isFor o) (tab (routeCount ns) (routeIn ns os)))), ← hn)
+    (tab-snoc n (routeIn ns os) (routeIn ms qs) _
+    (λ j lt. route-same ns ms os qs j (λ k x y. keep k (λ e. omega arith) (λ e. omega arith)) (λ k x y. w .rest k (λ u v. omega arith)))
+    (route-is ms qs o n via (text-put 16 (17600 + n * 17) o os qs ho w)
+    (getD-set-other (set ns (4 + n) via) 2 (4 + n) (n + 1) 0 (λ e. omega arith) ∙ getD-set-same ns (4 + n) via 0 (omega arith)))))
+  where
+    ms : List ℕ
+    ms = set (set ns (4 + n) via) 2 (n + 1)
+
+    count : upTo 32 (getD ms 2 0) ≡ n + 1
+    count = ap (upTo 32) (getD-set-same (set ns (4 + n) via) 2 (n + 1) 0 (rw length-set (omega arith))) ∙ upTo-in 32 (n + 1) (omega arith)
+
+    keep : (j : ℕ) → (j ≡ 2 → ⊥) → (j ≡ 4 + n → ⊥) → getD ms j 0 ≡ getD ns j 0
+    keep j ne me = getD-set-other (set ns (4 + n) via) 2 j (n + 1) 0 ne ∙ getD-set-other ns (4 + n) j via 0 me

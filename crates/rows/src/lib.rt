@@ -1,0 +1,143 @@
+// Trees and routes that come and go in the card's memory, the labels' remembered names, and the fresh card.
+ghost use mathlib.Core.Path.{_≡_};
+ghost use mathlib.Core.List.{List, [], _∷_, _++_};
+ghost use Prim.Native.Nat.{ℕ, _+_, _≤_, _<_};
+ghost use lib.ListN.{length, replicate};
+ghost use Rattle.meaning.specs.Octets.{put, cut};
+ghost use Rattle.meaning.specs.Card.{Card, fresh, withTrees, withRoutes, bare, treeAt, mapped, routePlace};
+ghost use Rattle.meaning.specs.Events.{setUse};
+ghost use Rattle.table.specs.Memory.{cardOf, baseIn, treeCount, routeCount};
+ghost use Rattle.rows.specs.Parts.{Written, Closed};
+
+fn tree_count(numbers: &[u64]) -> usize
+    requires { ⌜ length (now numbers) ≡ 1444 ⌝ }
+    ensures { λ r. ⌜ (r ≡ treeCount (now (numbers .entry))) × (r ≤ 64) ⌝ }
+{
+    let n = numbers[3];
+    if n < 64 { n as usize } else { 64 }
+}
+
+fn route_count(numbers: &[u64]) -> usize
+    requires { ⌜ length (now numbers) ≡ 1444 ⌝ }
+    ensures { λ r. ⌜ (r ≡ routeCount (now (numbers .entry))) × (r ≤ 32) ⌝ }
+{
+    let n = numbers[2];
+    if n < 32 { n as usize } else { 32 }
+}
+
+// ---- parts of the memory
+
+fn close_numbers(numbers: &mut [u64], a: usize, e: usize, w: usize)
+    requires { ⌜ (a + w ≤ e) × (e ≤ length (now numbers)) ⌝ }
+    ensures { λ _. ⌜ Closed a e w (now (numbers .entry)) (now (numbers .exit)) ⌝ }
+{
+    octets::shift_numbers(&mut numbers[a..e], w);
+}
+
+fn close_octets(names: &mut [u8], a: usize, e: usize, w: usize)
+    requires { ⌜ (a + w ≤ e) × (e ≤ length (now names)) ⌝ }
+    ensures { λ _. ⌜ Closed a e w (now (names .entry)) (now (names .exit)) ⌝ }
+{
+    octets::shift_octets(&mut names[a..e], w);
+}
+
+fn clear(numbers: &mut [u64], a: usize, k: usize)
+    requires { ⌜ a + k ≤ length (now numbers) ⌝ }
+    ensures { λ _. ⌜ Written a (replicate k 0) (now (numbers .entry)) (now (numbers .exit)) ⌝ }
+{
+    let e = a + k;
+    octets::zero(&mut numbers[a..e]);
+}
+
+// A text in its slot: its length, and then its octets.
+fn put_text(names: &mut [u8], at: usize, text: &[u8])
+    requires { ⌜ (at + 1 + length (now text) ≤ length (now names)) × (length (now text) < 256) ⌝ }
+    ensures { λ _. ⌜ Written at (length (now (text .entry)) ∷ now (text .entry)) (now (names .entry)) (now (names .exit)) ⌝ }
+{
+    names[at] = text.len() as u8;
+    let f = at + 1;
+    let e = f + text.len();
+    octets::copy(&mut names[f..e], text);
+}
+
+// ---- trees
+
+// A tree comes, with neither branch nor leaf nor label: the newest.
+pub fn enter_tree(numbers: &mut [u64], names: &mut [u8], name: &[u8])
+    requires { ⌜ (length (now numbers) ≡ 1444) × (length (now names) ≡ 18144) × (treeCount (now numbers) < 64) × (length (now name) ≤ 54) ⌝ }
+    ensures { λ _. ⌜ cardOf (now (numbers .exit)) (now (names .exit))
+        ≡ withTrees (cardOf (now (numbers .entry)) (now (names .entry)) .trees ++ (bare (now (name .entry)) ∷ [])) (cardOf (now (numbers .entry)) (now (names .entry))) ⌝ }
+{
+    let n = tree_count(numbers);
+    clear(numbers, 100 + n * 17, 17);
+    put_text(names, n * 55, name);
+    numbers[36 + n] = 256;
+    numbers[3] = (n + 1) as u64;
+}
+
+// A tree goes, and the gap is closed.
+pub fn remove_tree(numbers: &mut [u64], names: &mut [u8], i: usize)
+    requires { ⌜ (length (now numbers) ≡ 1444) × (length (now names) ≡ 18144) × (i < treeCount (now numbers)) × (i < 64) ⌝ }
+    ensures { λ _. ⌜ cardOf (now (numbers .exit)) (now (names .exit))
+        ≡ withTrees (cut (cardOf (now (numbers .entry)) (now (names .entry)) .trees) i) (cardOf (now (numbers .entry)) (now (names .entry))) ⌝ }
+{
+    let n = tree_count(numbers);
+    close_numbers(numbers, 36 + i, 36 + n, 1);
+    close_numbers(numbers, 100 + i * 17, 100 + n * 17, 17);
+    close_octets(names, i * 55, n * 55, 55);
+    numbers[3] = (n - 1) as u64;
+}
+
+// The label at place p of the block is mapped to neighbour n, for the tree at place i.
+pub fn map_label(numbers: &mut [u64], names: &mut [u8], p: usize, i: usize, n: u64)
+    requires { ⌜ (length (now numbers) ≡ 1444) × (length (now names) ≡ 18144) × (p < 256) × (i < treeCount (now numbers)) × (i < 64) × (n < 16) ⌝ }
+    ensures { λ _. ⌜ cardOf (now (numbers .exit)) (now (names .exit))
+        ≡ setUse (baseIn (now (numbers .entry)) + p) (mapped n (treeAt i (cardOf (now (numbers .entry)) (now (names .entry))) .name)) (cardOf (now (numbers .entry)) (now (names .entry))) ⌝ }
+{
+    octets::copy_within(names, i * 55, 3520 + p * 55, 55);
+    numbers[1188 + p] = n + 1;
+}
+
+// ---- routes
+
+// The route of the root whose place is i: its entry, or a new one behind the others.
+pub fn put_route(numbers: &mut [u64], names: &mut [u8], i: usize, root: &[u8], via: u64)
+    requires { ⌜ (length (now numbers) ≡ 1444) × (length (now names) ≡ 18144) × (length (now root) ≤ 16)
+        × (i ≡ routePlace (now root) (cardOf (now numbers) (now names)))
+        × (routeCount (now numbers) ≤ routePlace (now root) (cardOf (now numbers) (now names)) → routeCount (now numbers) < 32) ⌝ }
+    ensures { λ _. ⌜ cardOf (now (numbers .exit)) (now (names .exit))
+        ≡ withRoutes (put (cardOf (now (numbers .entry)) (now (names .entry)) .routes) (routePlace (now (root .entry)) (cardOf (now (numbers .entry)) (now (names .entry)))) (record { root = now (root .entry); via = via })) (cardOf (now (numbers .entry)) (now (names .entry))) ⌝ }
+{
+    let n = route_count(numbers);
+    if i < n {
+        numbers[4 + i] = via;
+        return;
+    }
+    put_text(names, 17600 + n * 17, root);
+    numbers[4 + n] = via;
+    numbers[2] = (n + 1) as u64;
+}
+
+// A root's entry goes, and the gap is closed.
+pub fn remove_route(numbers: &mut [u64], names: &mut [u8], i: usize)
+    requires { ⌜ (length (now numbers) ≡ 1444) × (length (now names) ≡ 18144) × (i < routeCount (now numbers)) × (i < 32) ⌝ }
+    ensures { λ _. ⌜ cardOf (now (numbers .exit)) (now (names .exit))
+        ≡ withRoutes (cut (cardOf (now (numbers .entry)) (now (names .entry)) .routes) i) (cardOf (now (numbers .entry)) (now (names .entry))) ⌝ }
+{
+    let n = route_count(numbers);
+    close_numbers(numbers, 4 + i, 4 + n, 1);
+    close_octets(names, 17600 + i * 17, 17600 + n * 17, 17);
+    numbers[2] = (n - 1) as u64;
+}
+
+// ---- the start
+
+// A fresh card, whatever the memory held.
+pub fn start_fresh(numbers: &mut [u64], base: u64)
+    requires { ⌜ (length (now numbers) ≡ 1444) × (16 ≤ base) × (base ≤ 1048320) ⌝ }
+    ensures { λ _. ⌜ ((os : List ℕ) → cardOf (now (numbers .exit)) os ≡ fresh base) ⌝ }
+{
+    octets::zero(numbers);
+    numbers[0] = base;
+    numbers[1] = 1;
+}

@@ -1,0 +1,65 @@
+use Prim.Native.Nat.{ℕ}
+use mathlib.Core.Path.{ap, _∙_}
+use mathlib.Core.List.{List}
+use borrow.Author.Needs.{needs}
+use Rattle.meaning.specs.Octets.{same}
+use Rattle.table.proofs.Laws.{awaits-under, awaits-above, awaits-not, awaits-same}
+use Rattle.table.proofs.is_awaited.Statement.{statement}
+use Rattle.table.proofs.is_awaited.Tie as tie
+
+base-requires : tie.Need-base-requires
+base-requires c κs = search needs
+
+returns : tie.Need-returns
+returns c =
+    let s = c .before .before .before .before .before in
+    awaits-under (s .args .numbers .now) (s .args .names .now) (s .args .label) (c .before .base .result) (c .before .base .ensures .0) (s .args .neighbour) (s .args .name .now) (c .if1 .taken)
+
+returns-2 : tie.Need-returns-2
+returns-2 c =
+    let s = c .before .before .before .before .before .before in
+    awaits-above (s .args .numbers .now) (s .args .names .now) (s .args .label) (c .before .before .base .result) (c .before .before .base .ensures .0) (s .args .neighbour) (s .args .name .now) (c .before .if1 .left) (c .if2 .taken)
+
+add-if3 : tie.Need-add-if3
+add-if3 c = search needs
+
+mul-if3 : tie.Need-mul-if3
+mul-if3 c = search needs
+
+shared-slice-read-if3 : tie.Need-shared-slice-read-if3
+shared-slice-read-if3 c = search needs
+
+add-if3-2 : tie.Need-add-if3-2
+add-if3-2 c = search needs
+
+returns-3 : tie.Need-returns-3
+returns-3 c =
+    let s = c .before .before .before .before .before .before .before .before in
+    awaits-not (s .args .numbers .now) (s .args .names .now) (s .args .label) (c .before .before .before .before .base .result) (c .before .before .before .before .base .ensures .0) (s .args .neighbour) (s .args .name .now) (c .before .before .before .if1 .left) (c .before .before .if2 .left) (c .if3 .taken)
+
+label-name-requires : tie.Need-label-name-requires
+label-name-requires c κs = search needs
+
+equal-requires : tie.Need-equal-requires
+equal-requires c κs = search needs
+
+returns-4 : tie.Need-returns-4
+returns-4 c =
+    let s = c .before .before .before .before .before .before .before .before .before .before in
+    awaits-same (s .args .numbers .now) (s .args .names .now) (s .args .label) (c .before .before .before .before .before .before .base .result) (c .before .before .before .before .before .before .base .ensures .0) (s .args .neighbour) (s .args .name .now) (c .equal .result) (c .before .before .before .before .before .if1 .left) (c .before .before .before .before .if2 .left) (s .pre .2) (c .before .before .if3 .left) (c .equal .ensures ∙ ap (λ (l : List ℕ). same l (s .args .name .now)) (c .before .label-name .ensures))
+
+pub is-awaited-spec : {M : Type 1} → statement M
+is-awaited-spec =
+    tie.close
+    (tie.spec
+    base-requires
+    returns
+    returns-2
+    add-if3
+    mul-if3
+    shared-slice-read-if3
+    add-if3-2
+    returns-3
+    label-name-requires
+    equal-requires
+    returns-4)

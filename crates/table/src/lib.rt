@@ -1,0 +1,357 @@
+// The card's memory: what is asked of it, and what changes in one place. The memory is two lent arrays; specs/Memory.antt says
+// which card they denote, and docs/MEMORY.md draws them. A function that sees the numbers alone speaks of every content of the octets.
+ghost use mathlib.Core.Path.{_≡_};
+ghost use mathlib.Core.Bool.{true};
+ghost use mathlib.Core.List.{List};
+ghost use Prim.Native.Nat.{ℕ, _+_, _-_, _≤_, _<_};
+ghost use lib.ListN.{length, getD, set};
+ghost use Rattle.meaning.specs.Octets.{place, any};
+ghost use Rattle.meaning.specs.Card.{Card, withNext, withTrees, withBranch, withLeaf, treePlace, treeAt, isBranch, isFree, isAwaiting, mappedTo, useOf, heldFor, freeLabels, routePlace, routeOf, carries, free};
+ghost use Rattle.meaning.specs.Events.{setUse, setLabel, ended};
+ghost use Rattle.table.specs.Memory.{cardOf, baseIn, treeCount, routeCount, textAt, treeName, labelName, rootName, useIn, labelIn};
+
+// ---- the head
+
+pub fn base(numbers: &[u64]) -> u64
+    requires { ⌜ length (now numbers) ≡ 1444 ⌝ }
+    ensures { λ r. ⌜ (r ≡ baseIn (now (numbers .entry))) × (16 ≤ r) × (r ≤ 1048320) ⌝ }
+{
+    let b = numbers[0];
+    if b < 16 {
+        return 16;
+    }
+    if 1048320 < b {
+        return 16;
+    }
+    b
+}
+
+pub fn next_id(numbers: &[u64]) -> u32
+    requires { ⌜ length (now numbers) ≡ 1444 ⌝ }
+    ensures { λ r. ⌜ ((os : List ℕ) → r ≡ cardOf (now (numbers .entry)) os .next) ⌝ }
+{
+    (numbers[1] % 4294967296) as u32
+}
+
+pub fn set_next_id(numbers: &mut [u64], id: u32)
+    requires { ⌜ length (now numbers) ≡ 1444 ⌝ }
+    ensures { λ _. ⌜ ((os : List ℕ) → cardOf (now (numbers .exit)) os ≡ withNext id (cardOf (now (numbers .entry)) os)) ⌝ }
+{
+    numbers[1] = id as u64;
+}
+
+pub fn route_count(numbers: &[u64]) -> usize
+    requires { ⌜ length (now numbers) ≡ 1444 ⌝ }
+    ensures { λ r. ⌜ (r ≡ routeCount (now (numbers .entry))) × (r ≤ 32) ⌝ }
+{
+    let n = numbers[2];
+    if n < 32 { n as usize } else { 32 }
+}
+
+pub fn tree_count(numbers: &[u64]) -> usize
+    requires { ⌜ length (now numbers) ≡ 1444 ⌝ }
+    ensures { λ r. ⌜ (r ≡ treeCount (now (numbers .entry))) × (r ≤ 64) ⌝ }
+{
+    let n = numbers[3];
+    if n < 64 { n as usize } else { 64 }
+}
+
+// ---- trees
+
+pub fn tree_label(numbers: &[u64], i: usize) -> u64
+    requires { ⌜ (length (now numbers) ≡ 1444) × (i < treeCount (now numbers)) × (i < 64) ⌝ }
+    ensures { λ r. ⌜ ((os : List ℕ) → r ≡ treeAt i (cardOf (now (numbers .entry)) os) .label) ⌝ }
+{
+    let p = numbers[36 + i];
+    if p < 256 { base(numbers) + p } else { 0 }
+}
+
+pub fn is_leaf(numbers: &[u64], i: usize) -> bool
+    requires { ⌜ (length (now numbers) ≡ 1444) × (i < treeCount (now numbers)) × (i < 64) ⌝ }
+    ensures { λ r. ⌜ ((os : List ℕ) → r ≡ treeAt i (cardOf (now (numbers .entry)) os) .leaf) ⌝ }
+{
+    numbers[100 + i * 17] != 0
+}
+
+pub fn branch(numbers: &[u64], i: usize, n: usize) -> u64
+    requires { ⌜ (length (now numbers) ≡ 1444) × (i < treeCount (now numbers)) × (i < 64) × (n < 16) ⌝ }
+    ensures { λ r. ⌜ ((os : List ℕ) → r ≡ getD (treeAt i (cardOf (now (numbers .entry)) os) .branches) n 0) ⌝ }
+{
+    numbers[101 + i * 17 + n]
+}
+
+// Whether the tree has a branch, apart from that of neighbour `but` (16: none apart).
+pub fn any_branch(numbers: &[u64], i: usize, but: usize) -> bool
+    requires { ⌜ (length (now numbers) ≡ 1444) × (i < treeCount (now numbers)) × (i < 64) ⌝ }
+    ensures { λ r. ⌜ ((os : List ℕ) → r ≡ any isBranch (set (treeAt i (cardOf (now (numbers .entry)) os) .branches) but 0)) ⌝ }
+{
+    let mut n = 0;
+    while n < 16 {
+        if n != but {
+            if branch(numbers, i, n) != 0 {
+                return true;
+            }
+        }
+        n += 1;
+    }
+    false
+}
+
+// The text that stands at place a: its length, at most k, and then its octets.
+fn text(names: &[u8], k: usize, a: usize) -> &[u8]
+    requires { ⌜ a + 1 + k ≤ length (now names) ⌝ }
+    ensures { λ r. ⌜ (now r ≡ textAt k (now (names .entry)) a) × (length (now r) ≤ k) ⌝ }
+{
+    let n = names[a] as usize;
+    let s = a + 1;
+    if n < k {
+        let e = s + n;
+        return &names[s..e];
+    }
+    let e = s + k;
+    &names[s..e]
+}
+
+pub fn tree_name(names: &[u8], i: usize) -> &[u8]
+    requires { ⌜ (length (now names) ≡ 18144) × (i < 64) ⌝ }
+    ensures { λ r. ⌜ ((ns : List ℕ) → i < treeCount ns → now r ≡ treeAt i (cardOf ns (now (names .entry))) .name) × (length (now r) ≤ 54) × (now r ≡ treeName (now (names .entry)) i) ⌝ }
+{
+    text(names, 54, i * 55)
+}
+
+// The place of the tree of that name; the number of trees where it does not stand.
+pub fn tree_place(numbers: &[u64], names: &[u8], name: &[u8]) -> usize
+    requires { ⌜ (length (now numbers) ≡ 1444) × (length (now names) ≡ 18144) ⌝ }
+    ensures { λ r. ⌜ (r ≡ treePlace (now (name .entry)) (cardOf (now (numbers .entry)) (now (names .entry)))) × (r ≤ treeCount (now (numbers .entry))) × (r ≤ 64) ⌝ }
+{
+    let n = tree_count(numbers);
+    let mut i = 0;
+    while i < n {
+        if octets::equal(tree_name(names, i), name) {
+            return i;
+        }
+        i += 1;
+    }
+    n
+}
+
+pub fn set_branch(numbers: &mut [u64], i: usize, n: usize, label: u64)
+    requires { ⌜ (length (now numbers) ≡ 1444) × (i < treeCount (now numbers)) × (i < 64) × (n < 16) ⌝ }
+    ensures { λ _. ⌜ ((os : List ℕ) → cardOf (now (numbers .exit)) os
+        ≡ withTrees (set (cardOf (now (numbers .entry)) os .trees) i (withBranch n label (treeAt i (cardOf (now (numbers .entry)) os)))) (cardOf (now (numbers .entry)) os)) ⌝ }
+{
+    numbers[101 + i * 17 + n] = label;
+}
+
+pub fn set_leaf(numbers: &mut [u64], i: usize, leaf: bool)
+    requires { ⌜ (length (now numbers) ≡ 1444) × (i < treeCount (now numbers)) × (i < 64) ⌝ }
+    ensures { λ _. ⌜ ((os : List ℕ) → cardOf (now (numbers .exit)) os
+        ≡ withTrees (set (cardOf (now (numbers .entry)) os .trees) i (withLeaf leaf (treeAt i (cardOf (now (numbers .entry)) os)))) (cardOf (now (numbers .entry)) os)) ⌝ }
+{
+    numbers[100 + i * 17] = if leaf { 1 } else { 0 };
+}
+
+// The tree carries the label at place p of the block from now on; or none.
+pub fn set_label(numbers: &mut [u64], i: usize, p: usize)
+    requires { ⌜ (length (now numbers) ≡ 1444) × (i < treeCount (now numbers)) × (i < 64) × (p < 256) ⌝ }
+    ensures { λ _. ⌜ ((os : List ℕ) → cardOf (now (numbers .exit)) os ≡ setLabel i (baseIn (now (numbers .entry)) + p) (cardOf (now (numbers .entry)) os)) ⌝ }
+{
+    numbers[36 + i] = p as u64;
+}
+
+pub fn clear_label(numbers: &mut [u64], i: usize)
+    requires { ⌜ (length (now numbers) ≡ 1444) × (i < treeCount (now numbers)) × (i < 64) ⌝ }
+    ensures { λ _. ⌜ ((os : List ℕ) → cardOf (now (numbers .exit)) os ≡ setLabel i 0 (cardOf (now (numbers .entry)) os)) ⌝ }
+{
+    numbers[36 + i] = 256;
+}
+
+// ---- labels
+
+// The mark of a label; 0, as of a free one, outside the block.
+fn mark(numbers: &[u64], label: u64) -> u64
+    requires { ⌜ length (now numbers) ≡ 1444 ⌝ }
+    ensures { λ r. ⌜ ((os : List ℕ) → useOf label (cardOf (now (numbers .entry)) os) ≡ useIn r (labelName os (label - baseIn (now (numbers .entry))))) ⌝ }
+{
+    let b = base(numbers);
+    if label < b {
+        return 0;
+    }
+    let p = label - b;
+    if p < 256 {
+        numbers[1188 + p as usize]
+    } else {
+        0
+    }
+}
+
+// The neighbour to which a label is mapped; 17 for none.
+pub fn mapped_to(numbers: &[u64], label: u64) -> u64
+    requires { ⌜ length (now numbers) ≡ 1444 ⌝ }
+    ensures { λ r. ⌜ ((os : List ℕ) → r ≡ mappedTo (useOf label (cardOf (now (numbers .entry)) os))) × (r ≤ 17) ⌝ }
+{
+    let m = mark(numbers, label);
+    if m == 0 {
+        return 17;
+    }
+    if m <= 16 { m - 1 } else { 17 }
+}
+
+// The neighbour for which the tree at place i holds its label; 17 for none.
+pub fn held_for(numbers: &[u64], i: usize) -> u64
+    requires { ⌜ (length (now numbers) ≡ 1444) × (i < treeCount (now numbers)) × (i < 64) ⌝ }
+    ensures { λ r. ⌜ ((os : List ℕ) → r ≡ heldFor (cardOf (now (numbers .entry)) os) (treeAt i (cardOf (now (numbers .entry)) os))) × (r ≤ 17) ⌝ }
+{
+    mapped_to(numbers, tree_label(numbers, i))
+}
+
+fn label_name(names: &[u8], p: usize) -> &[u8]
+    requires { ⌜ (length (now names) ≡ 18144) × (p < 256) ⌝ }
+    ensures { λ r. ⌜ now r ≡ labelName (now (names .entry)) p ⌝ }
+{
+    text(names, 54, 3520 + p * 55)
+}
+
+// Whether a label awaits release from that neighbour for that name.
+pub fn is_awaited(numbers: &[u64], names: &[u8], neighbour: u64, name: &[u8], label: u64) -> bool
+    requires { ⌜ (length (now numbers) ≡ 1444) × (length (now names) ≡ 18144) × (neighbour < 16) ⌝ }
+    ensures { λ r. ⌜ (r ≡ isAwaiting neighbour (now (name .entry)) (useOf label (cardOf (now (numbers .entry)) (now (names .entry)))))
+        × (r ≡ true → (baseIn (now (numbers .entry)) ≤ label) × (label < baseIn (now (numbers .entry)) + 256)) ⌝ }
+{
+    let b = base(numbers);
+    if label < b {
+        return false;
+    }
+    if 256 <= label - b {
+        return false;
+    }
+    let p = (label - b) as usize;
+    if numbers[1188 + p] != 17 + neighbour {
+        return false;
+    }
+    octets::equal(label_name(names, p), name)
+}
+
+fn is_free(numbers: &[u64], p: usize) -> bool
+    requires { ⌜ (length (now numbers) ≡ 1444) × (p < 256) ⌝ }
+    ensures { λ r. ⌜ ((os : List ℕ) → r ≡ isFree (labelIn (now (numbers .entry)) os p)) ⌝ }
+{
+    let m = numbers[1188 + p];
+    if m == 0 {
+        return true;
+    }
+    32 < m
+}
+
+pub fn free_labels(numbers: &[u64]) -> usize
+    requires { ⌜ length (now numbers) ≡ 1444 ⌝ }
+    ensures { λ r. ⌜ ((os : List ℕ) → r ≡ freeLabels (cardOf (now (numbers .entry)) os)) × (r ≤ 256) ⌝ }
+{
+    let mut found = 0;
+    let mut p = 0;
+    while p < 256 {
+        if is_free(numbers, p) {
+            found += 1;
+        }
+        p += 1;
+    }
+    found
+}
+
+// The place of the lowest free label; 256 where none is free.
+pub fn lowest_free(numbers: &[u64]) -> usize
+    requires { ⌜ length (now numbers) ≡ 1444 ⌝ }
+    ensures { λ r. ⌜ ((os : List ℕ) → r ≡ place isFree (cardOf (now (numbers .entry)) os .labels)) × (r ≤ 256) ⌝ }
+{
+    let mut p = 0;
+    while p < 256 {
+        if is_free(numbers, p) {
+            return p;
+        }
+        p += 1;
+    }
+    256
+}
+
+// The place of the tree that carries a label of the block; the number of trees where none does.
+pub fn carrier_place(numbers: &[u64], label: u64) -> usize
+    requires { ⌜ (length (now numbers) ≡ 1444) × (baseIn (now numbers) ≤ label) × (label < baseIn (now numbers) + 256) ⌝ }
+    ensures { λ r. ⌜ ((os : List ℕ) → r ≡ place (carries label) (cardOf (now (numbers .entry)) os .trees)) × (r ≤ treeCount (now (numbers .entry))) × (r ≤ 64) ⌝ }
+{
+    let p = label - base(numbers);
+    let n = tree_count(numbers);
+    let mut i = 0;
+    while i < n {
+        if numbers[36 + i] == p {
+            return i;
+        }
+        i += 1;
+    }
+    n
+}
+
+// The label that the tree carries was mapped, and awaits release from now on.
+pub fn end_use(numbers: &mut [u64], i: usize)
+    requires { ⌜ (length (now numbers) ≡ 1444) × (i < treeCount (now numbers)) × (i < 64) × ((os : List ℕ) → treeAt i (cardOf (now numbers) os) .label ≡ 0 → ⊥) ⌝ }
+    ensures { λ _. ⌜ ((os : List ℕ) → cardOf (now (numbers .exit)) os
+        ≡ setUse (treeAt i (cardOf (now (numbers .entry)) os) .label) (ended (useOf (treeAt i (cardOf (now (numbers .entry)) os) .label) (cardOf (now (numbers .entry)) os))) (cardOf (now (numbers .entry)) os)) ⌝ }
+{
+    let p = numbers[36 + i];
+    if 256 <= p {
+        return;
+    }
+    let k = 1188 + p as usize;
+    let m = numbers[k];
+    if m == 0 {
+        return;
+    }
+    if 16 < m {
+        return;
+    }
+    numbers[k] = m + 16;
+}
+
+pub fn free_label(numbers: &mut [u64], label: u64)
+    requires { ⌜ (length (now numbers) ≡ 1444) × (baseIn (now numbers) ≤ label) × (label < baseIn (now numbers) + 256) ⌝ }
+    ensures { λ _. ⌜ ((os : List ℕ) → cardOf (now (numbers .exit)) os ≡ setUse label free (cardOf (now (numbers .entry)) os)) ⌝ }
+{
+    let p = (label - base(numbers)) as usize;
+    numbers[1188 + p] = 0;
+}
+
+// ---- routes
+
+fn root_name(names: &[u8], i: usize) -> &[u8]
+    requires { ⌜ (length (now names) ≡ 18144) × (i < 32) ⌝ }
+    ensures { λ r. ⌜ now r ≡ rootName (now (names .entry)) i ⌝ }
+{
+    text(names, 16, 17600 + i * 17)
+}
+
+pub fn route_place(numbers: &[u64], names: &[u8], root: &[u8]) -> usize
+    requires { ⌜ (length (now numbers) ≡ 1444) × (length (now names) ≡ 18144) ⌝ }
+    ensures { λ r. ⌜ (r ≡ routePlace (now (root .entry)) (cardOf (now (numbers .entry)) (now (names .entry)))) × (r ≤ routeCount (now (numbers .entry))) × (r ≤ 32) ⌝ }
+{
+    let n = route_count(numbers);
+    let mut i = 0;
+    while i < n {
+        if octets::equal(root_name(names, i), root) {
+            return i;
+        }
+        i += 1;
+    }
+    n
+}
+
+// The route of a root: 0 to 15 a neighbour, 16 this node, 17 no route.
+pub fn route_of(numbers: &[u64], names: &[u8], root: &[u8]) -> u64
+    requires { ⌜ (length (now numbers) ≡ 1444) × (length (now names) ≡ 18144) ⌝ }
+    ensures { λ r. ⌜ r ≡ routeOf (now (root .entry)) (cardOf (now (numbers .entry)) (now (names .entry))) ⌝ }
+{
+    let i = route_place(numbers, names, root);
+    if i < route_count(numbers) {
+        numbers[4 + i]
+    } else {
+        17
+    }
+}
