@@ -43,8 +43,8 @@ shared-slice-read-if1 c = search needs
 returns : tie.Need-returns Inv-loop μ-loop
 returns c =
     let l = c .before .before in
-    let s = l .before .before .before .before .before in
-    ((λ os. sym (l .before .loop .inv .1 os ∙ place-hit (carries (s .args .label)) _ (treeIn _ os) _ (l .loop-test .taken) (carries-this (s .args .numbers .now) os (s .args .label) (c .before .before .before .before .before .base .result) _ (c .before .before .before .before .before .base .ensures .0) (omega arith) (omega arith) (c .if1 .taken)))), omega arith, omega arith)
+    let b = l .before .before .before in
+    ((λ os. sym (l .before .loop .inv .1 os ∙ place-hit (carries _) _ (treeIn _ os) _ (l .loop-test .taken) (carries-this _ os _ (b .base .result) _ (b .base .ensures .0) (omega arith) (omega arith) (c .if1 .taken)))), omega arith, omega arith)
 
 add-i : tie.Need-add-i Inv-loop μ-loop
 add-i c = search needs
@@ -55,8 +55,8 @@ loop-less c = search needs
 loop-again : tie.Need-loop-again Inv-loop μ-loop
 loop-again c =
     let l = c .before .before in
-    let s = l .before .before .before .before .before in
-    (omega arith, (λ os. l .before .loop .inv .1 os ∙ place-miss (carries (s .args .label)) _ (treeIn _ os) _ (l .loop-test .taken) (carries-not (s .args .numbers .now) os (s .args .label) (c .before .before .before .before .before .base .result) _ (c .before .before .before .before .before .base .ensures .0) (omega arith) (omega arith) (c .if1 .left))))
+    let b = l .before .before .before in
+    (omega arith, (λ os. l .before .loop .inv .1 os ∙ place-miss (carries _) _ (treeIn _ os) _ (l .loop-test .taken) (carries-not _ os _ (b .base .result) _ (b .base .ensures .0) (omega arith) (omega arith) (c .if1 .left))))
 
 returns-2 : tie.Need-returns-2 Inv-loop μ-loop
 returns-2 c = ((λ os. sym (c .before .loop .inv .1 os ∙ place-none (carries _) _ (treeIn _ os) _ (c .loop-test .left) (c .before .loop .inv .0))), omega arith, omega arith)

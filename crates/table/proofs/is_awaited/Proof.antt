@@ -11,14 +11,10 @@ base-requires : tie.Need-base-requires
 base-requires c κs = search needs
 
 returns : tie.Need-returns
-returns c =
-    let s = c .before .before .before .before .before in
-    awaits-under (s .args .numbers .now) (s .args .names .now) (s .args .label) (c .before .base .result) (c .before .base .ensures .0) (s .args .neighbour) (s .args .name .now) (c .if1 .taken)
+returns c = awaits-under _ _ _ _ (c .before .base .ensures .0) _ _ (c .if1 .taken)
 
 returns-2 : tie.Need-returns-2
-returns-2 c =
-    let s = c .before .before .before .before .before .before in
-    awaits-above (s .args .numbers .now) (s .args .names .now) (s .args .label) (c .before .before .base .result) (c .before .before .base .ensures .0) (s .args .neighbour) (s .args .name .now) (c .before .if1 .left) (c .if2 .taken)
+returns-2 c = awaits-above _ _ _ _ (c .before .before .base .ensures .0) _ _ (c .before .if1 .left) (c .if2 .taken)
 
 add-if3 : tie.Need-add-if3
 add-if3 c = search needs
@@ -34,8 +30,8 @@ add-if3-2 c = search needs
 
 returns-3 : tie.Need-returns-3
 returns-3 c =
-    let s = c .before .before .before .before .before .before .before .before in
-    awaits-not (s .args .numbers .now) (s .args .names .now) (s .args .label) (c .before .before .before .before .base .result) (c .before .before .before .before .base .ensures .0) (s .args .neighbour) (s .args .name .now) (c .before .before .before .if1 .left) (c .before .before .if2 .left) (c .if3 .taken)
+    let b = c .before .before .before .before in
+    awaits-not _ _ _ _ (b .base .ensures .0) (b .before .before .before .before .args .neighbour) _ (c .before .before .before .if1 .left) (c .before .before .if2 .left) (c .if3 .taken)
 
 label-name-requires : tie.Need-label-name-requires
 label-name-requires c κs = search needs
@@ -45,8 +41,10 @@ equal-requires c κs = search needs
 
 returns-4 : tie.Need-returns-4
 returns-4 c =
-    let s = c .before .before .before .before .before .before .before .before .before .before in
-    awaits-same (s .args .numbers .now) (s .args .names .now) (s .args .label) (c .before .before .before .before .before .before .base .result) (c .before .before .before .before .before .before .base .ensures .0) (s .args .neighbour) (s .args .name .now) (c .equal .result) (c .before .before .before .before .before .if1 .left) (c .before .before .before .before .if2 .left) (s .pre .2) (c .before .before .if3 .left) (c .equal .ensures ∙ ap (λ (l : List ℕ). same l (s .args .name .now)) (c .before .label-name .ensures))
+    let k = c .before .before .before .before in
+    let a = k .before .before .before .before .before .before .args in
+    let name-same = c .equal .ensures ∙ ap (λ (l : List ℕ). same l (a .name .now)) (c .before .label-name .ensures) in
+    awaits-same _ _ _ _ (k .before .before .base .ensures .0) _ _ _ (k .before .if1 .left) (k .if2 .left) (k .before .before .before .before .before .before .pre .2) (c .before .before .if3 .left) name-same
 
 pub is-awaited-spec : {M : Type 1} → statement M
 is-awaited-spec =

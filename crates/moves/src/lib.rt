@@ -1,0 +1,200 @@
+// The rule of labels, in memory and on the wire: a tree gives up its label and is given one, and the records say so.
+ghost use mathlib.Core.Path.{_≡_};
+ghost use mathlib.Core.List.{List};
+ghost use Prim.Native.Nat.{ℕ, _+_, _*_, _-_, _≤_, _<_};
+ghost use lib.ListN.{length};
+ghost use Rattle.meaning.specs.Wire.{rootIn, records};
+ghost use Rattle.meaning.specs.Card.{Card, treeAt, routeOf, heldFor, freeLabels, noRoute};
+ghost use Rattle.meaning.specs.Events.{Moved, giveUp, give, letGo, takeUp, moveLabel, relabel, needMove, need, labelsShort, upstream};
+ghost use Rattle.table.specs.Memory.{cardOf, treeCount};
+ghost use Rattle.moves.specs.Move.{Wrote, moveSize, relabelSize};
+
+// Where the next record goes, and its identifier.
+pub struct Written {
+    pub at: usize,
+    pub id: u32,
+}
+
+// ---- one tree
+
+fn give_up(
+    numbers: &mut [u64],
+    names: &[u8],
+    i: usize,
+    out: &mut [u8],
+    at: usize,
+    id: u32,
+) -> Written
+    requires { ⌜ (length (now numbers) ≡ 1444) × (length (now names) ≡ 18144) × (i < treeCount (now numbers)) × (i < 64)
+        × (treeAt i (cardOf (now numbers) (now names)) .label ≡ 0 → ⊥)
+        × (at + (24 + length (treeAt i (cardOf (now numbers) (now names)) .name)) ≤ length (now out)) ⌝ }
+    ensures { λ r. ⌜ Wrote (giveUp i (cardOf (now (numbers .entry)) (now (names .entry)))) id at (now (out .entry)) (now (out .exit)) (cardOf (now (numbers .exit)) (now (names .entry))) (r .at) (r .id)
+        × (freeLabels (cardOf (now (numbers .exit)) (now (names .entry))) ≡ freeLabels (cardOf (now (numbers .entry)) (now (names .entry)))) ⌝ }
+{
+    let to = table::held_for(numbers, i);
+    let label = table::tree_label(numbers, i);
+    let name = table::tree_name(names, i);
+    let end = at + (24 + name.len());
+    let next = writer::send(id, out, at, to, 0x0402, label, name);
+    table::end_use(numbers, i);
+    table::clear_label(numbers, i);
+    Written { at: end, id: next }
+}
+
+fn let_go(
+    numbers: &mut [u64],
+    names: &[u8],
+    i: usize,
+    out: &mut [u8],
+    at: usize,
+    id: u32,
+) -> Written
+    requires { ⌜ (length (now numbers) ≡ 1444) × (length (now names) ≡ 18144) × (i < treeCount (now numbers)) × (i < 64)
+        × (at + length (records id (letGo i (cardOf (now numbers) (now names)) .sent)) ≤ length (now out)) ⌝ }
+    ensures { λ r. ⌜ Wrote (letGo i (cardOf (now (numbers .entry)) (now (names .entry)))) id at (now (out .entry)) (now (out .exit)) (cardOf (now (numbers .exit)) (now (names .entry))) (r .at) (r .id)
+        × (freeLabels (cardOf (now (numbers .exit)) (now (names .entry))) ≡ freeLabels (cardOf (now (numbers .entry)) (now (names .entry)))) ⌝ }
+{
+    if table::tree_label(numbers, i) == 0 {
+        return Written { at, id };
+    }
+    give_up(numbers, names, i, out, at, id)
+}
+
+fn give(
+    numbers: &mut [u64],
+    names: &mut [u8],
+    i: usize,
+    u: u64,
+    out: &mut [u8],
+    at: usize,
+    id: u32,
+) -> Written
+    requires { ⌜ (length (now numbers) ≡ 1444) × (length (now names) ≡ 18144) × (i < treeCount (now numbers)) × (i < 64) × (u < 16)
+        × (0 < freeLabels (cardOf (now numbers) (now names)))
+        × (at + (24 + length (treeAt i (cardOf (now numbers) (now names)) .name)) ≤ length (now out)) ⌝ }
+    ensures { λ r. ⌜ Wrote (give i u (cardOf (now (numbers .entry)) (now (names .entry)))) id at (now (out .entry)) (now (out .exit)) (cardOf (now (numbers .exit)) (now (names .exit))) (r .at) (r .id)
+        × (freeLabels (cardOf (now (numbers .exit)) (now (names .exit))) + 1 ≡ freeLabels (cardOf (now (numbers .entry)) (now (names .entry)))) ⌝ }
+{
+    let p = table::lowest_free(numbers);
+    let label = table::base(numbers) + p as u64;
+    let name = table::tree_name(names, i);
+    let end = at + (24 + name.len());
+    let next = writer::send(id, out, at, u, 0x0400, label, name);
+    rows::map_label(numbers, names, p, i, u);
+    table::set_label(numbers, i, p);
+    Written { at: end, id: next }
+}
+
+pub fn take_up(
+    numbers: &mut [u64],
+    names: &mut [u8],
+    i: usize,
+    u: u64,
+    out: &mut [u8],
+    at: usize,
+    id: u32,
+) -> Written
+    requires { ⌜ (length (now numbers) ≡ 1444) × (length (now names) ≡ 18144) × (i < treeCount (now numbers)) × (i < 64) × (u ≤ 17) × (u ≡ 16 → ⊥)
+        × (needMove u ≤ freeLabels (cardOf (now numbers) (now names)))
+        × (at + length (records id (takeUp i u (cardOf (now numbers) (now names)) .sent)) ≤ length (now out)) ⌝ }
+    ensures { λ r. ⌜ Wrote (takeUp i u (cardOf (now (numbers .entry)) (now (names .entry)))) id at (now (out .entry)) (now (out .exit)) (cardOf (now (numbers .exit)) (now (names .exit))) (r .at) (r .id)
+        × (freeLabels (cardOf (now (numbers .exit)) (now (names .exit))) + needMove u ≡ freeLabels (cardOf (now (numbers .entry)) (now (names .entry)))) ⌝ }
+{
+    if u == 17 {
+        return Written { at, id };
+    }
+    give(numbers, names, i, u, out, at, id)
+}
+
+pub fn move_label(
+    numbers: &mut [u64],
+    names: &mut [u8],
+    i: usize,
+    u: u64,
+    out: &mut [u8],
+    at: usize,
+    id: u32,
+) -> Written
+    requires { ⌜ (length (now numbers) ≡ 1444) × (length (now names) ≡ 18144) × (i < treeCount (now numbers)) × (i < 64) × (u ≤ 17) × (u ≡ 16 → ⊥)
+        × (needMove u ≤ freeLabels (cardOf (now numbers) (now names)))
+        × (at + moveSize (treeAt i (cardOf (now numbers) (now names))) u ≤ length (now out)) ⌝ }
+    ensures { λ r. ⌜ Wrote (moveLabel i u (cardOf (now (numbers .entry)) (now (names .entry)))) id at (now (out .entry)) (now (out .exit)) (cardOf (now (numbers .exit)) (now (names .exit))) (r .at) (r .id)
+        × (freeLabels (cardOf (now (numbers .exit)) (now (names .exit))) + needMove u ≡ freeLabels (cardOf (now (numbers .entry)) (now (names .entry)))) ⌝ }
+{
+    let w = let_go(numbers, names, i, out, at, id);
+    let end = w.at;
+    let next = w.id;
+    take_up(numbers, names, i, u, out, end, next)
+}
+
+// From now on the tree at place i holds a label for u, or none where u is 17.
+pub fn relabel(
+    numbers: &mut [u64],
+    names: &mut [u8],
+    i: usize,
+    u: u64,
+    out: &mut [u8],
+    at: usize,
+    id: u32,
+) -> Written
+    requires { ⌜ (length (now numbers) ≡ 1444) × (length (now names) ≡ 18144) × (i < treeCount (now numbers)) × (i < 64) × (u ≤ 17) × (u ≡ 16 → ⊥)
+        × (need (cardOf (now numbers) (now names)) (treeAt i (cardOf (now numbers) (now names))) u ≤ freeLabels (cardOf (now numbers) (now names)))
+        × (at + relabelSize (cardOf (now numbers) (now names)) (treeAt i (cardOf (now numbers) (now names))) u ≤ length (now out)) ⌝ }
+    ensures { λ r. ⌜ Wrote (relabel i u (cardOf (now (numbers .entry)) (now (names .entry)))) id at (now (out .entry)) (now (out .exit)) (cardOf (now (numbers .exit)) (now (names .exit))) (r .at) (r .id) ⌝ }
+{
+    if table::held_for(numbers, i) == u {
+        return Written { at, id };
+    }
+    move_label(numbers, names, i, u, out, at, id)
+}
+
+// How many octets the records of a move have.
+pub fn move_size(numbers: &[u64], names: &[u8], i: usize, u: u64) -> usize
+    requires { ⌜ (length (now numbers) ≡ 1444) × (length (now names) ≡ 18144) × (i < treeCount (now numbers)) × (i < 64) ⌝ }
+    ensures { λ r. ⌜ (r ≡ moveSize (treeAt i (cardOf (now (numbers .entry)) (now (names .entry)))) u) × (r ≤ 156) ⌝ }
+{
+    let size = 24 + table::tree_name(names, i).len();
+    if table::tree_label(numbers, i) == 0 {
+        if u == 17 {
+            return 0;
+        }
+        return size;
+    }
+    if u == 17 {
+        return size;
+    }
+    2 * size
+}
+
+pub fn relabel_size(numbers: &[u64], names: &[u8], i: usize, u: u64) -> usize
+    requires { ⌜ (length (now numbers) ≡ 1444) × (length (now names) ≡ 18144) × (i < treeCount (now numbers)) × (i < 64) ⌝ }
+    ensures { λ r. ⌜ (r ≡ relabelSize (cardOf (now (numbers .entry)) (now (names .entry))) (treeAt i (cardOf (now (numbers .entry)) (now (names .entry)))) u) × (r ≤ 156) ⌝ }
+{
+    if table::held_for(numbers, i) == u {
+        return 0;
+    }
+    move_size(numbers, names, i, u)
+}
+
+// 12 for the tree at place i, which is to hold a label for u.
+pub fn labels_short(numbers: &[u64], i: usize, u: u64) -> bool
+    requires { ⌜ (length (now numbers) ≡ 1444) × (i < treeCount (now numbers)) × (i < 64) ⌝ }
+    ensures { λ r. ⌜ ((os : List ℕ) → r ≡ labelsShort (cardOf (now (numbers .entry)) os) (need (cardOf (now (numbers .entry)) os) (treeAt i (cardOf (now (numbers .entry)) os)) u)) ⌝ }
+{
+    if table::held_for(numbers, i) == u {
+        return false;
+    }
+    if u == 17 {
+        return false;
+    }
+    table::free_labels(numbers) == 0
+}
+
+// The neighbour that a tree of this name, if it is not empty, holds a label for; 17 for none.
+pub fn upstream_of(numbers: &[u64], names: &[u8], name: &[u8]) -> u64
+    requires { ⌜ (length (now numbers) ≡ 1444) × (length (now names) ≡ 18144) ⌝ }
+    ensures { λ r. ⌜ (r ≡ upstream (routeOf (rootIn (now (name .entry))) (cardOf (now (numbers .entry)) (now (names .entry))))) × (r ≤ 17) × (r ≡ 16 → ⊥) ⌝ }
+{
+    let via = table::route_of(numbers, names, reader::root_of(name));
+    if via < 16 { via } else { 17 }
+}
