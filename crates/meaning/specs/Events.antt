@@ -233,12 +233,13 @@ moveAll r u c = moveFrom r u (length (c .trees)) 0 c
 unfoldable pub needOne : List ℕ → ℕ → Tree → ℕ
 needOne r u t = pick (ofRoot r t) (needMove u) 0
 
-unfoldable pub needFrom : List ℕ → ℕ → ℕ → ℕ → Card → ℕ
-needFrom r u zero i c = 0
-needFrom r u (suc n) i c = needOne r u (treeAt i c) + needFrom r u n (suc i) c
+-- the sum of a number that each tree has, over the n trees from place i on
+unfoldable pub sumFrom : (Tree → ℕ) → ℕ → ℕ → Card → ℕ
+sumFrom f zero i c = 0
+sumFrom f (suc n) i c = f (treeAt i c) + sumFrom f n (suc i) c
 
 unfoldable pub needAll : List ℕ → ℕ → Card → ℕ
-needAll r u c = needFrom r u (length (c .trees)) 0 c
+needAll r u c = sumFrom (needOne r u) (length (c .trees)) 0 c
 
 unfoldable pub routesWith : Card → List ℕ → ℕ → List Route
 routesWith c r via = pick (eqb via noRoute) (cut (c .routes) (routePlace r c)) (put (c .routes) (routePlace r c) (record { root = r; via = via }))

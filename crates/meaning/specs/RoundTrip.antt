@@ -13,7 +13,7 @@ use lib.Dec.{eqb, leb, ltb}
 use borrow.Author.Tests.{eqb-true, eqb-false, ltb-true, leb-true, eq-eqb, ne-eqb, le-leb, not-false}
 use Rattle.meaning.specs.Octets.{pick, any, two, four, twoAt, fourAt, _when_else_}
 use Rattle.meaning.specs.Wire.{addressLength, familyIn, rootLength, opaqueLength, rootIn, opaqueIn, isElement, opaqueLimit, isOpaque, elementRefusal, element, Tlv, Framed, framed, after, tlvs, tlv, Message, isKind, isSized, isLabel, isOrdered, isOverrun, must, messageIn, octetsOf, messageRefusal, fecOf, labelOf, bodyOf, found, Sent, recordOf, records, nextId, recordsF, recordsIn}
-use Rattle.meaning.specs.WireLaws.{tlvs-end, tlvs-step}
+use Rattle.meaning.specs.WireLaws.{tlvs-end, tlvs-step, element-0}
 use Rattle.meaning.specs.Lists.{by-test, picked, no-when}
 
 pub both : (a b : Bool) → (a && b) ≡ true → (a ≡ true) × (b ≡ true)
@@ -249,3 +249,35 @@ records-back (suc f) id (m ∷ ms) h p =
     let long = record-long id m (p .0) rest in
     rw (ne-eqb (length (recordOf id m ++ rest)) 0 (λ z. omega arith))
     (rw (to-back id m (p .0) rest, first-back id m (p .0) rest, rest-back id m (p .0) rest, message-back id (m .message) (p .0 .says), records-back f (nextId id) ms (omega arith) (p .1)) refl)
+
+-- ---- what a message that is not refused says
+
+pub record Heard (n : ℕ) (a : List ℕ) (l : ℕ) : Type 0 where
+  pub near : n < 16
+  pub name : elementRefusal a ≡ 0
+  pub low : 16 ≤ l
+  pub high : l ≤ 1048575
+
+label-ok : (v : List ℕ) → isLabel v ≡ true → (16 ≤ fourAt v 0) × (fourAt v 0 ≤ 1048575)
+unfolding isLabel
+label-ok v e =
+    let a = both (eqb (length v) 4 && leb 16 (fourAt v 0)) (leb (fourAt v 0) 1048575) e in
+    let b = both (eqb (length v) 4) (leb 16 (fourAt v 0)) (a .0) in
+    (leb-true _ _ (b .1), leb-true _ _ (a .1))
+
+pub heard : (n : ℕ) (s : List ℕ) → n < 16 → messageRefusal s ≡ 0 → Heard n (messageIn s .name) (messageIn s .label)
+unfolding messageRefusal messageIn
+heard n s near e =
+    let p2 = no-when 1 _ _ e in
+    let p3 = no-when 2 _ _ (p2 .1) in
+    let p4 = no-when 3 _ _ (p3 .1) in
+    let p5 = no-when 4 _ _ (p4 .1) in
+    let p6 = no-when 5 _ _ (p5 .1) in
+    let p7 = no-when 6 _ _ (p6 .1) in
+    let p8 = no-when 7 _ _ (p7 .1) in
+    let l = label-ok (labelOf s .value) (not-false _ (p8 .0)) in
+    record { near = near; name = element-0 (fecOf s .value) (not-false _ (p6 .0)) (not-false _ (p7 .0)); low = l .0; high = l .1 }
+
+-- a name that 6 and 7 pass has at most 22 octets besides its opaque value
+pub name-fits : (e : List ℕ) → elementRefusal e ≡ 0 → length e ≤ 22 + opaqueLimit
+name-fits e ok = let w = whole e ok in omega (arith, w .fills, w .family, w .fits, w .opaque)

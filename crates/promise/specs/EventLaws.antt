@@ -16,7 +16,7 @@ use Rattle.meaning.specs.Events.{Outcome, refused, taken, unless, Moved, tell, 
 use Rattle.promise.specs.Promise.{Given, remove, noteSent, noteAll, noteTaken, NoneLive}
 use Rattle.meaning.specs.Lists.{by-test, picked, same-eq, same-refl, same-no, count-set, count-new, no-when}
 use Rattle.meaning.specs.WireLaws.{element-0}
-use Rattle.meaning.specs.RoundTrip.{both, AllSendable, Sendable, Sayable, sendable-append}
+use Rattle.meaning.specs.RoundTrip.{Heard, heard, both, AllSendable, Sendable, Sayable, sendable-append}
 use Rattle.promise.specs.LiveLaws.{Linked, linked-eq, upd, free-linked, Books, books-eq, books-remove, books-removed}
 use Rattle.promise.specs.CardLaws.{use-after, in-block, shape, Proper, Tidy, tree-name, tree-sized, entered-is, entered-tidy, put-within, at-named, swept-is, swept-tidy, swept-use, swept-labels, swept-base, swept-routes}
 use Rattle.promise.specs.RuleLaws.{Ruled, upstream-same, route-ruled, put-other-at, swept-at}
@@ -77,12 +77,6 @@ unfolding Quiet noteAll NoneLive AllSendable
 none-quiet gs = (refl, tt, tt)
 
 -- what is known of a message that 1 to 9 pass, from neighbour n
-pub record Heard (n : ℕ) (a : List ℕ) (l : ℕ) : Type 0 where
-  pub near : n < 16
-  pub name : elementRefusal a ≡ 0
-  pub low : 16 ≤ l
-  pub high : l ≤ 1048575
-
 release-quiet : (gs : List Given) (n : ℕ) (a : List ℕ) (l : ℕ) → Heard n a l → Quiet gs (tell n release a l ∷ [])
 unfolding Quiet noteAll noteSent NoneLive AllSendable isKind
 release-quiet gs n a l g = (
@@ -90,26 +84,6 @@ release-quiet gs n a l g = (
   ((λ e. absurd (omega arith)), tt),
   (record { near = g .near; says = record { kind = refl; kind-fits = omega arith; name = g .name; low = g .low; high = g .high } }, tt),
 )
-
-label-ok : (v : List ℕ) → isLabel v ≡ true → (16 ≤ fourAt v 0) × (fourAt v 0 ≤ 1048575)
-unfolding isLabel
-label-ok v e =
-    let a = both (eqb (length v) 4 && leb 16 (fourAt v 0)) (leb (fourAt v 0) 1048575) e in
-    let b = both (eqb (length v) 4) (leb 16 (fourAt v 0)) (a .0) in
-    (leb-true _ _ (b .1), leb-true _ _ (a .1))
-
-heard : (n : ℕ) (s : List ℕ) → n < 16 → messageRefusal s ≡ 0 → Heard n (messageIn s .name) (messageIn s .label)
-unfolding messageRefusal messageIn
-heard n s near e =
-    let p2 = no-when 1 _ _ e in
-    let p3 = no-when 2 _ _ (p2 .1) in
-    let p4 = no-when 3 _ _ (p3 .1) in
-    let p5 = no-when 4 _ _ (p4 .1) in
-    let p6 = no-when 5 _ _ (p5 .1) in
-    let p7 = no-when 6 _ _ (p6 .1) in
-    let p8 = no-when 7 _ _ (p7 .1) in
-    let l = label-ok (labelOf s .value) (not-false _ (p8 .0)) in
-    record { near = near; name = element-0 (fecOf s .value) (not-false _ (p6 .0)) (not-false _ (p7 .0)); low = l .0; high = l .1 }
 
 upstream-near : (via : ℕ) → eqb (upstream via) noRoute ≡ false → upstream via < 16
 unfolding upstream

@@ -12,7 +12,7 @@ use borrow.Author.Tests.{eqb-true, eqb-false, eq-eqb, ne-eqb, ltb-true, ltb-fals
 use Rattle.meaning.specs.Octets.{pick, place, count, any, same, put, cut}
 use Rattle.meaning.specs.Wire.{elementRefusal, isKind, mapping, withdraw, release, Message, Sent}
 use Rattle.meaning.specs.Card.{Tree, Use, free, mapped, awaiting, Card, noRoute, withTrees, withLabels, withLabel, named, bare, treePlace, treeOf, treeAt, isEmpty, isFree, mappedTo, useOf, heldFor, lowestFree, freeLabels}
-use Rattle.meaning.specs.Events.{Moved, still, followedBy, tell, setUse, setLabel, ended, giveUp, give, letGo, takeUp, moveLabel, relabel, needMove, need, ofRoot, moveOne, moveFrom, moveAll, needOne, needFrom, needAll}
+use Rattle.meaning.specs.Events.{Moved, still, followedBy, tell, setUse, setLabel, ended, giveUp, give, letGo, takeUp, moveLabel, relabel, needMove, need, ofRoot, moveOne, moveFrom, moveAll, needOne, sumFrom, needAll}
 use Rattle.promise.specs.Promise.{Given, ofLabel, mark, noteSent, noteAll, NoneLive}
 use Rattle.meaning.specs.Lists.{by-test, picked, same-eq, same-refl, same-no, count-set, count-set-place}
 use Rattle.meaning.specs.RoundTrip.{AllSendable, Sendable, Sayable, sendable-append}
@@ -425,13 +425,13 @@ module _ (r : List ℕ) (u : ℕ) (near : eqb u noRoute ≡ false → u < 16) wh
     need-other : (j : ℕ) → j < length (c .trees) → (i ≡ j → ⊥) → needOne r u (treeAt j (m .card)) ≡ needOne r u (treeAt j c)
     need-other j k n = ap (needOne r u) (at-other c gs S i h m p j k n)
 
-    pub need-later : (n j : ℕ) → i < j → j + n ≤ length (c .trees) → needFrom r u n j (m .card) ≡ needFrom r u n j c
-    unfolding needFrom
+    pub need-later : (n j : ℕ) → i < j → j + n ≤ length (c .trees) → sumFrom (needOne r u) n j (m .card) ≡ sumFrom (needOne r u) n j c
+    unfolding sumFrom
     need-later zero j a b = refl
     need-later (suc n) j a b = ap₂ _+_ (need-other j (omega arith) (λ e. omega arith)) (need-later n (suc j) (omega arith) (omega arith))
 
-  pub from-kept : (n i : ℕ) (c : Card) (gs : List Given) → Sound c gs → i + n ≤ length (c .trees) → needFrom r u n i c ≤ freeLabels c → Kept c gs (moveFrom r u n i c)
-  unfolding moveFrom needFrom
+  pub from-kept : (n i : ℕ) (c : Card) (gs : List Given) → Sound c gs → i + n ≤ length (c .trees) → sumFrom (needOne r u) n i c ≤ freeLabels c → Kept c gs (moveFrom r u n i c)
+  unfolding moveFrom sumFrom
   from-kept zero i c gs S h enough = unfold still noteAll NoneLive AllSendable in record { sound = S; fair = tt; said = tt; shapes = λ b. refl; size = refl; routes = refl; at = λ j. refl }
   from-kept (suc n) i c gs S h enough =
       let within : i < length (c .trees) = omega arith in
@@ -465,9 +465,9 @@ module _ (r : List ℕ) (u : ℕ) (near : eqb u noRoute ≡ false → u < 16) wh
       ap (heldFor (moveOne r u i c .card)) (at-other c gs S i h (moveOne r u i c) p j k d) ∙ held-other c gs S i h (moveOne r u i c) p j k d
 
   -- those before place i are left alone
-  from-before : (n i : ℕ) (c : Card) (gs : List Given) → Sound c gs → i + n ≤ length (c .trees) → needFrom r u n i c ≤ freeLabels c → (j : ℕ) → j < i → j < length (c .trees)
+  from-before : (n i : ℕ) (c : Card) (gs : List Given) → Sound c gs → i + n ≤ length (c .trees) → sumFrom (needOne r u) n i c ≤ freeLabels c → (j : ℕ) → j < i → j < length (c .trees)
       → heldFor (moveFrom r u n i c .card) (treeAt j (moveFrom r u n i c .card)) ≡ heldFor c (treeAt j c)
-  unfolding moveFrom needFrom followedBy still
+  unfolding moveFrom sumFrom followedBy still
   from-before zero i c gs S h enough j lt k = refl
   from-before (suc n) i c gs S h enough j lt k =
       let within : i < length (c .trees) = omega arith in
@@ -480,9 +480,9 @@ module _ (r : List ℕ) (u : ℕ) (near : eqb u noRoute ≡ false → u < 16) wh
       ∙ one-other c gs S i within first j k (λ e. omega arith)
 
   -- those from place i on hold theirs for u, where they are of the root
-  from-held : (n i : ℕ) (c : Card) (gs : List Given) → Sound c gs → i + n ≤ length (c .trees) → needFrom r u n i c ≤ freeLabels c → (j : ℕ) → i ≤ j → j < i + n
+  from-held : (n i : ℕ) (c : Card) (gs : List Given) → Sound c gs → i + n ≤ length (c .trees) → sumFrom (needOne r u) n i c ≤ freeLabels c → (j : ℕ) → i ≤ j → j < i + n
       → heldFor (moveFrom r u n i c .card) (treeAt j (moveFrom r u n i c .card)) ≡ pick (ofRoot r (treeAt j c)) u (heldFor c (treeAt j c))
-  unfolding moveFrom needFrom followedBy still
+  unfolding moveFrom sumFrom followedBy still
   from-held zero i c gs S h enough j le lt = absurd (omega arith)
   from-held (suc n) i c gs S h enough j le lt =
       let within : i < length (c .trees) = omega arith in

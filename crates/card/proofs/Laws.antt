@@ -1,0 +1,146 @@
+-- The laws by which the calls follow the definitions. Assumes nothing.
+use Prim.Native.Nat.{ℕ, zero, suc, _+_, _-_, _≤_, _<_}
+use native.Mathlib.Omega.{arith}
+use mathlib.Core.Path.{_≡_, refl, sym, ap, ap₂, _∙_, subst}
+use mathlib.Core.Bool.{Bool, true, false, not, _&&_, _||_, and-false}
+use mathlib.Core.List.{List, [], _∷_, _++_}
+use lib.ListN.{take, drop, getD, length}
+use lib.Seq.{take-append-seam}
+use lib.Dec.{eqb, leb, ltb}
+use borrow.Author.Tests.{eq-eqb, ne-eqb, le-leb, lt-leb, le-ltb, lt-ltb}
+use Rattle.meaning.specs.Octets.{pick, _when_else_}
+use Rattle.meaning.specs.Lists.{by-test, picked}
+use Rattle.meaning.specs.Wire.{Message, mapping, withdraw, release, messageIn, messageRefusal, elementRefusal}
+use Rattle.meaning.specs.RoundTrip.{Heard, heard, name-fits}
+use Rattle.meaning.specs.Card.{Card, fresh, withNext}
+use Rattle.meaning.specs.Events.{Out, Outcome, refused, unless, refuse, accept, finish, onMapping, onWithdraw, onRelease, onMessage, noNeighbour, onOctets, onJoin, onLeave, become, Event, receive, join, leave, outcome, event, baseOutside, start}
+use Rattle.meaning.specs.Calls.{over, Does, Hands}
+use Rattle.trees.specs.End.{joinOf, leaveOf}
+use Rattle.trees.proofs.Laws.{does-refused}
+use Rattle.card.specs.Calls.{onRead}
+
+-- ---- start
+
+module _ (base : ℕ) where
+  outside-low : base < 16 → baseOutside base ≡ true
+  unfolding baseOutside
+  outside-low h = rw (lt-leb 16 base h) refl
+
+  outside-high : 1048320 < base → baseOutside base ≡ true
+  unfolding baseOutside
+  outside-high h = rw (lt-leb base 1048320 h) (ap not (and-false (leb 16 base)))
+
+  inside : 16 ≤ base → base ≤ 1048320 → baseOutside base ≡ false
+  unfolding baseOutside
+  inside h k = rw (le-leb 16 base h, le-leb base 1048320 k) refl
+
+  starts-refused : baseOutside base ≡ true → (17 ≡ start base .answer) × (fresh 16 ≡ start base .card)
+  unfolding start
+  starts-refused e = rw e (unfold refuse in (refl, refl))
+
+  pub starts-low : base < 16 → (17 ≡ start base .answer) × (fresh 16 ≡ start base .card)
+  starts-low h = starts-refused (outside-low h)
+
+  pub starts-high : 1048320 < base → (17 ≡ start base .answer) × (fresh 16 ≡ start base .card)
+  starts-high h = starts-refused (outside-high h)
+
+  pub starts : 16 ≤ base → base ≤ 1048320 → (0 ≡ start base .answer) × (fresh base ≡ start base .card)
+  unfolding start
+  starts h k = rw (inside h k) (unfold accept fresh withNext in (refl, refl))
+
+-- ---- a message by its kind
+
+module _ (c : Card) (n : ℕ) (m : Message) where
+  pub says-mapping : m .kind ≡ mapping → onMapping c n (m .name) (m .label) ≡ onMessage c n m
+  unfolding onMessage
+  says-mapping e = rw (eq-eqb (m .kind) mapping e) refl
+
+  pub says-withdraw : (m .kind ≡ mapping → ⊥) → m .kind ≡ withdraw → onWithdraw c n (m .name) (m .label) ≡ onMessage c n m
+  unfolding onMessage
+  says-withdraw p e = rw (ne-eqb (m .kind) mapping p, eq-eqb (m .kind) withdraw e) refl
+
+  pub says-release : (m .kind ≡ mapping → ⊥) → (m .kind ≡ withdraw → ⊥) → m .kind ≡ release → onRelease c n (m .name) (m .label) ≡ onMessage c n m
+  unfolding onMessage
+  says-release p q e = rw (ne-eqb (m .kind) mapping p, ne-eqb (m .kind) withdraw q, eq-eqb (m .kind) release e) refl
+
+  pub says-nothing : (m .kind ≡ mapping → ⊥) → (m .kind ≡ withdraw → ⊥) → (m .kind ≡ release → ⊥) → refused 3 ≡ onMessage c n m
+  unfolding onMessage
+  says-nothing p q r = rw (ne-eqb (m .kind) mapping p, ne-eqb (m .kind) withdraw q, ne-eqb (m .kind) release r) refl
+
+-- ---- octets from a neighbour
+
+unless-refused : (k : ℕ) (o : Outcome) → 0 < k → unless k o ≡ refused k
+unfolding unless
+unless-refused zero o h = absurd (omega arith)
+unless-refused (suc k) o h = refl
+
+unless-none : (k : ℕ) (o : Outcome) → k ≡ 0 → unless k o ≡ o
+unless-none k o e = rw e (unfold unless in refl)
+
+module _ (c : Card) (n : ℕ) (s : List ℕ) where
+  pub read-refused : (k : ℕ) (t : List ℕ) → k ≡ messageRefusal s → 0 < k → Does (finish (length t) c (onRead c n s)) k 0 t t c
+  unfolding onRead
+  read-refused k t e h = rw (← e, unless-refused k _ h) (does-refused c k t)
+
+  pub read-says : (m : Message) → messageRefusal s ≡ 0 → messageIn s ≡ m → onMessage c n m ≡ onRead c n s
+  unfolding onRead
+  read-says m e q = sym (unless-none (messageRefusal s) _ e ∙ ap (onMessage c n) q)
+
+  pub far : 15 < n → (t : List ℕ) → Does (event (length t) c (receive n s)) 1 0 t t c
+  unfolding event outcome onOctets noNeighbour
+  far h t = rw (lt-ltb 15 n h) (unfold _when_else_ unless in does-refused c 1 t)
+
+  pub near : n ≤ 15 → (room : ℕ) → finish room c (onRead c n s) ≡ event room c (receive n s)
+  unfolding event outcome onOctets noNeighbour onRead
+  near h room = rw (le-ltb 15 n h) (unfold _when_else_ unless in refl)
+
+-- the name and the label of a message that is read
+pub read-fits : (s : List ℕ) (kind label : ℕ) (a : List ℕ) → messageRefusal s ≡ 0 → messageIn s ≡ record { kind = kind; name = a; label = label } → (16 ≤ label) × (length a ≤ 54)
+read-fits s kind label a e q =
+    let g = heard 0 s (omega arith) e in
+    let l : messageIn s .label ≡ label = ap (λ (m : Message). m .label) q in
+    let n : messageIn s .name ≡ a = ap (λ (m : Message). m .name) q in
+    (rw l at (g .low), rw n at (name-fits (messageIn s .name) (g .name)))
+
+-- ---- leaf orders
+
+module _ (c : Card) (e : List ℕ) where
+  pub join-refused : (k : ℕ) (t : List ℕ) → k ≡ elementRefusal e → (k ≡ 0 → ⊥) → Does (event (length t) c (join e)) k 0 t t c
+  unfolding event outcome onJoin
+  join-refused k t q h = rw (← q, unless-refused k _ (positive k h)) (does-refused c k t)
+    where
+      positive : (k : ℕ) → (k ≡ 0 → ⊥) → 0 < k
+      positive zero h = absurd (h refl)
+      positive (suc k) h = omega arith
+
+  pub join-is : elementRefusal e ≡ 0 → (room : ℕ) → finish room c (joinOf c e) ≡ event room c (join e)
+  unfolding event outcome onJoin joinOf
+  join-is z room = ap (finish room c) (sym (unless-none (elementRefusal e) _ z))
+
+  pub leave-refused : (k : ℕ) (t : List ℕ) → k ≡ elementRefusal e → (k ≡ 0 → ⊥) → Does (event (length t) c (leave e)) k 0 t t c
+  unfolding event outcome onLeave
+  leave-refused k t q h = rw (← q, unless-refused k _ (positive k h)) (does-refused c k t)
+    where
+      positive : (k : ℕ) → (k ≡ 0 → ⊥) → 0 < k
+      positive zero h = absurd (h refl)
+      positive (suc k) h = omega arith
+
+  pub leave-is : elementRefusal e ≡ 0 → (room : ℕ) → finish room c (leaveOf c e) ≡ event room c (leave e)
+  unfolding event outcome onLeave leaveOf
+  leave-is z room = ap (finish room c) (sym (unless-none (elementRefusal e) _ z))
+
+-- ---- from the core to the part that is handed back
+
+module _ (o : Out) (a n : ℕ) (s s' : List ℕ) (c : Card) (d : Does o a n s s' c) where
+  pub handed : Hands o a (take n s') c
+  handed = record { answers = d .answers; hands = front; leaves = d .leaves }
+    where
+      front : take n s' ≡ o .octets
+      front = rw (d .counts, d .writes) (unfold over in take-append-seam (o .octets) (drop (length (o .octets)) s))
+
+  pub handed-count : n ≡ length (take n s')
+  handed-count = d .counts ∙ ap length (sym (handed .hands))
+
+-- the same outcome by another name
+pub does-same : (room : ℕ) (c : Card) (o o' : Outcome) (a n : ℕ) (s s' : List ℕ) (d : Card) → o ≡ o' → Does (finish room c o) a n s s' d → Does (finish room c o') a n s s' d
+does-same room c o o' a n s s' d e p = subst (λ (x : Outcome). Does (finish room c x) a n s s' d) e p

@@ -1,0 +1,19 @@
+-- What the calls' own functions say: the answer of a lookup, and the parts of an event. Assumes nothing.
+use Prim.Native.Nat.{ℕ}
+use mathlib.Core.Bool.{Bool}
+use mathlib.Core.List.{List}
+use Rattle.meaning.specs.Wire.{messageRefusal, messageIn}
+use Rattle.meaning.specs.Card.{Card, Feed, branchesFrom, withRoutes}
+use Rattle.meaning.specs.Events.{Outcome, unless, onMessage, Moved, moveAll, routesWith, upstream}
+
+-- sixteen branch labels, one for each neighbour and 0 for none, and the leaf mark: the branches by rising neighbour number
+abbrev pub feedIn : List ℕ → Bool → Feed
+feedIn branches leaf = record { branches = branchesFrom 0 branches; leaf = leaf }
+
+-- octets from a neighbour that 1 passes
+unfoldable pub onRead : Card → ℕ → List ℕ → Outcome
+onRead c n s = unless (messageRefusal s) (onMessage c n (messageIn s))
+
+-- the trees of the root moved, and its entry anew
+unfoldable pub movedTo : Card → List ℕ → ℕ → Moved
+movedTo c r via = record { sent = moveAll r (upstream via) c .sent; card = withRoutes (routesWith c r via) (moveAll r (upstream via) c .card) }
