@@ -3,8 +3,8 @@ use Prim.Native.Nat.{ℕ}
 use mathlib.Core.Bool.{Bool}
 use mathlib.Core.List.{List}
 use Rattle.meaning.specs.Wire.{messageRefusal, messageIn}
-use Rattle.meaning.specs.Card.{Card, Feed, branchesFrom, withRoutes}
-use Rattle.meaning.specs.Events.{Outcome, unless, onMessage, Moved, moveAll, routesWith, upstream}
+use Rattle.meaning.specs.Card.{Card, Feed, branchesFrom}
+use Rattle.meaning.specs.Events.{Outcome, unless, onMessage}
 
 -- sixteen branch labels, one for each neighbour and 0 for none, and the leaf mark: the branches by rising neighbour number
 abbrev pub feedIn : List ℕ → Bool → Feed
@@ -13,7 +13,3 @@ feedIn branches leaf = record { branches = branchesFrom 0 branches; leaf = leaf 
 -- octets from a neighbour that 1 passes
 unfoldable pub onRead : Card → ℕ → List ℕ → Outcome
 onRead c n s = unless (messageRefusal s) (onMessage c n (messageIn s))
-
--- the trees of the root moved, and its entry anew
-unfoldable pub movedTo : Card → List ℕ → ℕ → Moved
-movedTo c r via = record { sent = moveAll r (upstream via) c .sent; card = withRoutes (routesWith c r via) (moveAll r (upstream via) c .card) }

@@ -2,18 +2,13 @@
 // Each event has a core, which says what becomes of the whole output, and a call that hands back the part that holds the records.
 ghost use mathlib.Core.Path.{_≡_};
 ghost use mathlib.Core.List.{List};
-ghost use Prim.Native.Nat.{ℕ, _+_, _≤_, _<_};
+ghost use Prim.Native.Nat.{ℕ, _≤_, _<_};
 ghost use lib.ListN.{length};
-ghost use lib.Dec.{ltb};
 ghost use denote.Ref.{ptr};
-ghost use Rattle.meaning.specs.Octets.{_when_else_};
-ghost use Rattle.meaning.specs.Wire.{records};
-ghost use Rattle.meaning.specs.Card.{Feed, treeAt, feedOf, routeOf, routePlace, freeLabels, lookupLabel, lookupName, nothing};
-ghost use Rattle.meaning.specs.Events.{start, event, finish, onMessage, receive, join, leave, route, reRoute, routesFull, labelsShort, needAll, upstream, notRoot};
+ghost use Rattle.meaning.specs.Card.{treeAt, feedOf, freeLabels, lookupLabel, lookupName, nothing};
+ghost use Rattle.meaning.specs.Events.{start, event, finish, onMessage, receive, join, leave, route, notRoot};
 ghost use Rattle.meaning.specs.Calls.{Does, Hands};
 ghost use Rattle.table.specs.Memory.{cardOf, treeCount};
-ghost use Rattle.moves.specs.Move.{sizeAll};
-ghost use Rattle.trees.specs.End.{Ended, joinOf, leaveOf};
 ghost use Rattle.card.specs.Calls.{feedIn, onRead};
 use reader::Read;
 
@@ -37,7 +32,16 @@ pub fn start(numbers: &mut [u64; 1444], base: u32) -> u32
 
 // ---- a message from a neighbour
 
-fn on_message(numbers: &mut [u64], names: &mut [u8], n: usize, kind: u64, name: &[u8], label: u64, out: &mut [u8], answer: &mut u32) -> usize
+fn on_message(
+    numbers: &mut [u64],
+    names: &mut [u8],
+    n: usize,
+    kind: u64,
+    name: &[u8],
+    label: u64,
+    out: &mut [u8],
+    answer: &mut u32,
+) -> usize
     requires { ⌜ (length (now numbers) ≡ 1444) × (length (now names) ≡ 18144) × (n < 16) × (16 ≤ label) × (length (now name) ≤ 54) ⌝ }
     ensures { λ r. ⌜ Does (finish (length (now (out .entry))) (cardOf (now (numbers .entry)) (now (names .entry))) (onMessage (cardOf (now (numbers .entry)) (now (names .entry))) n (record { kind = kind; name = now (name .entry); label = label })))
         (now (answer .exit)) r (now (out .entry)) (now (out .exit)) (cardOf (now (numbers .exit)) (now (names .exit))) ⌝ }
@@ -57,7 +61,14 @@ fn on_message(numbers: &mut [u64], names: &mut [u8], n: usize, kind: u64, name: 
 }
 
 // What a message that was read says, or its refusal.
-fn on_read(numbers: &mut [u64], names: &mut [u8], n: usize, message: &[u8], out: &mut [u8], answer: &mut u32) -> usize
+fn on_read(
+    numbers: &mut [u64],
+    names: &mut [u8],
+    n: usize,
+    message: &[u8],
+    out: &mut [u8],
+    answer: &mut u32,
+) -> usize
     requires { ⌜ (length (now numbers) ≡ 1444) × (length (now names) ≡ 18144) × (n < 16) ⌝ }
     ensures { λ r. ⌜ Does (finish (length (now (out .entry))) (cardOf (now (numbers .entry)) (now (names .entry))) (onRead (cardOf (now (numbers .entry)) (now (names .entry))) n (now (message .entry))))
         (now (answer .exit)) r (now (out .entry)) (now (out .exit)) (cardOf (now (numbers .exit)) (now (names .exit))) ⌝ }
@@ -67,11 +78,32 @@ fn on_read(numbers: &mut [u64], names: &mut [u8], n: usize, message: &[u8], out:
             *answer = refusal;
             0
         }
-        Read::Says { kind, start, end, label } => on_message(numbers, names, n, kind, &message[start..end], label, out, answer),
+        Read::Says {
+            kind,
+            start,
+            end,
+            label,
+        } => on_message(
+            numbers,
+            names,
+            n,
+            kind,
+            &message[start..end],
+            label,
+            out,
+            answer,
+        ),
     }
 }
 
-pub fn receive_core(numbers: &mut [u64; 1444], names: &mut [u8; 18144], neighbour: u32, message: &[u8], out: &mut [u8], answer: &mut u32) -> usize
+pub fn receive_core(
+    numbers: &mut [u64; 1444],
+    names: &mut [u8; 18144],
+    neighbour: u32,
+    message: &[u8],
+    out: &mut [u8],
+    answer: &mut u32,
+) -> usize
     ensures { λ r. ⌜ Does (event (length (now (out .entry))) (cardOf (now (numbers .entry)) (now (names .entry))) (receive neighbour (now (message .entry))))
         (now (answer .exit)) r (now (out .entry)) (now (out .exit)) (cardOf (now (numbers .exit)) (now (names .exit))) ⌝ }
 {
@@ -82,7 +114,14 @@ pub fn receive_core(numbers: &mut [u64; 1444], names: &mut [u8; 18144], neighbou
     on_read(numbers, names, neighbour as usize, message, out, answer)
 }
 
-pub fn receive<'a>(numbers: &mut [u64; 1444], names: &mut [u8; 18144], neighbour: u32, message: &[u8], out: &'a mut [u8], answer: &mut u32) -> &'a mut [u8]
+pub fn receive<'a>(
+    numbers: &mut [u64; 1444],
+    names: &mut [u8; 18144],
+    neighbour: u32,
+    message: &[u8],
+    out: &'a mut [u8],
+    answer: &mut u32,
+) -> &'a mut [u8]
     ensures { λ r. ⌜ Hands (event (length (now (out .entry))) (cardOf (now (numbers .entry)) (now (names .entry))) (receive neighbour (now (message .entry))))
         (now (answer .exit)) (now r) (cardOf (now (numbers .exit)) (now (names .exit))) × (ptr r ≡ ptr (out .entry)) ⌝ }
 {
@@ -92,7 +131,13 @@ pub fn receive<'a>(numbers: &mut [u64; 1444], names: &mut [u8; 18144], neighbour
 
 // ---- local leaf orders, on the octets of one element
 
-pub fn join_core(numbers: &mut [u64; 1444], names: &mut [u8; 18144], element: &[u8], out: &mut [u8], answer: &mut u32) -> usize
+pub fn join_core(
+    numbers: &mut [u64; 1444],
+    names: &mut [u8; 18144],
+    element: &[u8],
+    out: &mut [u8],
+    answer: &mut u32,
+) -> usize
     ensures { λ r. ⌜ Does (event (length (now (out .entry))) (cardOf (now (numbers .entry)) (now (names .entry))) (join (now (element .entry))))
         (now (answer .exit)) r (now (out .entry)) (now (out .exit)) (cardOf (now (numbers .exit)) (now (names .exit))) ⌝ }
 {
@@ -104,7 +149,13 @@ pub fn join_core(numbers: &mut [u64; 1444], names: &mut [u8; 18144], element: &[
     trees::join(numbers, names, element, out, answer)
 }
 
-pub fn join<'a>(numbers: &mut [u64; 1444], names: &mut [u8; 18144], element: &[u8], out: &'a mut [u8], answer: &mut u32) -> &'a mut [u8]
+pub fn join<'a>(
+    numbers: &mut [u64; 1444],
+    names: &mut [u8; 18144],
+    element: &[u8],
+    out: &'a mut [u8],
+    answer: &mut u32,
+) -> &'a mut [u8]
     ensures { λ r. ⌜ Hands (event (length (now (out .entry))) (cardOf (now (numbers .entry)) (now (names .entry))) (join (now (element .entry))))
         (now (answer .exit)) (now r) (cardOf (now (numbers .exit)) (now (names .exit))) × (ptr r ≡ ptr (out .entry)) ⌝ }
 {
@@ -112,7 +163,13 @@ pub fn join<'a>(numbers: &mut [u64; 1444], names: &mut [u8; 18144], element: &[u
     &mut out[..n]
 }
 
-pub fn leave_core(numbers: &mut [u64; 1444], names: &mut [u8; 18144], element: &[u8], out: &mut [u8], answer: &mut u32) -> usize
+pub fn leave_core(
+    numbers: &mut [u64; 1444],
+    names: &mut [u8; 18144],
+    element: &[u8],
+    out: &mut [u8],
+    answer: &mut u32,
+) -> usize
     ensures { λ r. ⌜ Does (event (length (now (out .entry))) (cardOf (now (numbers .entry)) (now (names .entry))) (leave (now (element .entry))))
         (now (answer .exit)) r (now (out .entry)) (now (out .exit)) (cardOf (now (numbers .exit)) (now (names .exit))) ⌝ }
 {
@@ -124,10 +181,144 @@ pub fn leave_core(numbers: &mut [u64; 1444], names: &mut [u8; 18144], element: &
     trees::leave(numbers, names, element, out, answer)
 }
 
-pub fn leave<'a>(numbers: &mut [u64; 1444], names: &mut [u8; 18144], element: &[u8], out: &'a mut [u8], answer: &mut u32) -> &'a mut [u8]
+pub fn leave<'a>(
+    numbers: &mut [u64; 1444],
+    names: &mut [u8; 18144],
+    element: &[u8],
+    out: &'a mut [u8],
+    answer: &mut u32,
+) -> &'a mut [u8]
     ensures { λ r. ⌜ Hands (event (length (now (out .entry))) (cardOf (now (numbers .entry)) (now (names .entry))) (leave (now (element .entry))))
         (now (answer .exit)) (now r) (cardOf (now (numbers .exit)) (now (names .exit))) × (ptr r ≡ ptr (out .entry)) ⌝ }
 {
     let n = leave_core(numbers, names, element, &mut *out, answer);
     &mut out[..n]
+}
+
+// ---- the route order
+
+fn not_root(root: &[u8]) -> bool
+    ensures { λ r. ⌜ r ≡ notRoot (now (root .entry)) ⌝ }
+{
+    let n = root.len();
+    if n == 4 {
+        return false;
+    }
+    n != 16
+}
+
+pub fn route_core(
+    numbers: &mut [u64; 1444],
+    names: &mut [u8; 18144],
+    root: &[u8],
+    via: u32,
+    out: &mut [u8],
+    answer: &mut u32,
+) -> usize
+    ensures { λ r. ⌜ Does (event (length (now (out .entry))) (cardOf (now (numbers .entry)) (now (names .entry))) (route (now (root .entry)) via))
+        (now (answer .exit)) r (now (out .entry)) (now (out .exit)) (cardOf (now (numbers .exit)) (now (names .exit))) ⌝ }
+{
+    if 17 < via {
+        *answer = 1;
+        return 0;
+    }
+    if not_root(root) {
+        *answer = 6;
+        return 0;
+    }
+    routes::change_route(numbers, names, root, via as u64, out, answer)
+}
+
+pub fn route<'a>(
+    numbers: &mut [u64; 1444],
+    names: &mut [u8; 18144],
+    root: &[u8],
+    via: u32,
+    out: &'a mut [u8],
+    answer: &mut u32,
+) -> &'a mut [u8]
+    ensures { λ r. ⌜ Hands (event (length (now (out .entry))) (cardOf (now (numbers .entry)) (now (names .entry))) (route (now (root .entry)) via))
+        (now (answer .exit)) (now r) (cardOf (now (numbers .exit)) (now (names .exit))) × (ptr r ≡ ptr (out .entry)) ⌝ }
+{
+    let n = route_core(numbers, names, root, via, &mut *out, answer);
+    &mut out[..n]
+}
+
+// ---- lookups
+
+// Sixteen branch labels, one for each neighbour and 0 for none, and the leaf mark. Nothing is no branch and no leaf.
+pub struct Feed {
+    pub leaf: bool,
+    pub branches: [u64; 16],
+}
+
+fn feed_at(numbers: &[u64], i: usize) -> Feed
+    requires { ⌜ (length (now numbers) ≡ 1444) × (i < treeCount (now numbers)) × (i < 64) ⌝ }
+    ensures { λ r. ⌜ ((os : List ℕ) → feedIn (r .branches) (r .leaf) ≡ feedOf (treeAt i (cardOf (now (numbers .entry)) os))) ⌝ }
+{
+    let mut branches = [0u64; 16];
+    let mut n = 0;
+    while n < 16 {
+        branches[n] = table::branch(numbers, i, n);
+        n += 1;
+    }
+    Feed {
+        leaf: table::is_leaf(numbers, i),
+        branches,
+    }
+}
+
+fn no_feed() -> Feed
+    ensures { λ r. ⌜ feedIn (r .branches) (r .leaf) ≡ nothing ⌝ }
+{
+    Feed {
+        leaf: false,
+        branches: [0u64; 16],
+    }
+}
+
+fn find_label(numbers: &[u64], label: u64) -> Feed
+    requires { ⌜ length (now numbers) ≡ 1444 ⌝ }
+    ensures { λ r. ⌜ ((os : List ℕ) → feedIn (r .branches) (r .leaf) ≡ lookupLabel label (cardOf (now (numbers .entry)) os)) ⌝ }
+{
+    if table::mapped_to(numbers, label) == 17 {
+        return no_feed();
+    }
+    let i = table::carrier_place(numbers, label);
+    if i < table::tree_count(numbers) {
+        return feed_at(numbers, i);
+    }
+    no_feed()
+}
+
+fn find_name(numbers: &[u64], names: &[u8], element: &[u8]) -> Feed
+    requires { ⌜ (length (now numbers) ≡ 1444) × (length (now names) ≡ 18144) ⌝ }
+    ensures { λ r. ⌜ feedIn (r .branches) (r .leaf) ≡ lookupName (now (element .entry)) (cardOf (now (numbers .entry)) (now (names .entry))) ⌝ }
+{
+    if reader::element_refusal(element) != 0 {
+        return no_feed();
+    }
+    let i = table::tree_place(numbers, names, element);
+    if i < table::tree_count(numbers) {
+        return feed_at(numbers, i);
+    }
+    no_feed()
+}
+
+pub fn lookup_label(numbers: &[u64; 1444], label: u32) -> Feed
+    ensures { λ r. ⌜ ((os : List ℕ) → feedIn (r .branches) (r .leaf) ≡ lookupLabel label (cardOf (now (numbers .entry)) os)) ⌝ }
+{
+    find_label(numbers, label as u64)
+}
+
+pub fn lookup_name(numbers: &[u64; 1444], names: &[u8; 18144], element: &[u8]) -> Feed
+    ensures { λ r. ⌜ feedIn (r .branches) (r .leaf) ≡ lookupName (now (element .entry)) (cardOf (now (numbers .entry)) (now (names .entry))) ⌝ }
+{
+    find_name(numbers, names, element)
+}
+
+pub fn free_labels(numbers: &[u64; 1444]) -> u32
+    ensures { λ r. ⌜ ((os : List ℕ) → r ≡ freeLabels (cardOf (now (numbers .entry)) os)) ⌝ }
+{
+    table::free_labels(numbers) as u32
 }

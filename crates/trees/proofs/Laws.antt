@@ -610,19 +610,19 @@ place-count-end ns os a e = e ∙ sym (trees-length ns os)
 -- ---- a new tree, by the number that `new_refusal` gives
 
 module _ (n m k : ℕ) (x y z : Bool) where
-  when-1 : x ≡ true → n when x else m when y else k when z else 0 ≡ n
+  pub when-1 : x ≡ true → n when x else m when y else k when z else 0 ≡ n
   unfolding _when_else_
   when-1 p = rw p refl
 
-  when-2 : x ≡ false → y ≡ true → n when x else m when y else k when z else 0 ≡ m
+  pub when-2 : x ≡ false → y ≡ true → n when x else m when y else k when z else 0 ≡ m
   unfolding _when_else_
   when-2 p q = rw (p, q) refl
 
-  when-3 : x ≡ false → y ≡ false → z ≡ true → n when x else m when y else k when z else 0 ≡ k
+  pub when-3 : x ≡ false → y ≡ false → z ≡ true → n when x else m when y else k when z else 0 ≡ k
   unfolding _when_else_
   when-3 p q r = rw (p, q, r) refl
 
-  when-0 : x ≡ false → y ≡ false → z ≡ false → n when x else m when y else k when z else 0 ≡ 0
+  pub when-0 : x ≡ false → y ≡ false → z ≡ false → n when x else m when y else k when z else 0 ≡ 0
   unfolding _when_else_
   when-0 p q r = rw (p, q, r) refl
 
@@ -731,14 +731,28 @@ module _ (c : Card) (a : List ℕ) (i u : ℕ) (ei : i ≡ treePlace a c) (h : i
   pub mapped-new : (n l : ℕ) → n < 16 → 0 < l → Newcomer c (withBranch n l (bare a)) a i u
   mapped-new n l k p =
       let full = branch-full (bare a) n l (unfold bare in k) p in
-      record { name = unfold withBranch bare in refl; place = unfold withBranch bare in ei; last = h; zero = z; label = unfold withBranch bare in refl;
-        upstream = eu ∙ full-upstream c (withBranch n l (bare a)) a full (unfold withBranch bare in refl); full = full }
+      record {
+        name = unfold withBranch bare in refl;
+        place = unfold withBranch bare in ei;
+        last = h;
+        zero = z;
+        label = unfold withBranch bare in refl;
+        upstream = eu ∙ full-upstream c (withBranch n l (bare a)) a full (unfold withBranch bare in refl);
+        full = full;
+      }
 
   pub joined-new : Newcomer c (withLeaf true (bare a)) a i u
   joined-new =
       let full = leaf-full (bare a) in
-      record { name = unfold withLeaf bare in refl; place = unfold withLeaf bare in ei; last = h; zero = z; label = unfold withLeaf bare in refl;
-        upstream = eu ∙ full-upstream c (withLeaf true (bare a)) a full (unfold withLeaf bare in refl); full = full }
+      record {
+        name = unfold withLeaf bare in refl;
+        place = unfold withLeaf bare in ei;
+        last = h;
+        zero = z;
+        label = unfold withLeaf bare in refl;
+        upstream = eu ∙ full-upstream c (withLeaf true (bare a)) a full (unfold withLeaf bare in refl);
+        full = full;
+      }
 
 -- ---- a leave of a tree that does not stand
 
