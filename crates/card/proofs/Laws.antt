@@ -4,20 +4,25 @@ use native.Mathlib.Omega.{arith}
 use mathlib.Core.Path.{_≡_, refl, sym, ap, ap₂, _∙_, subst}
 use mathlib.Core.Bool.{Bool, true, false, not, _&&_, _||_, and-false}
 use mathlib.Core.List.{List, [], _∷_, _++_}
-use lib.ListN.{take, drop, getD, length}
+use lib.ListN.{take, drop, getD, length, replicate}
 use lib.Seq.{take-append-seam}
 use lib.Dec.{eqb, leb, ltb}
-use borrow.Author.Tests.{eq-eqb, ne-eqb, le-leb, lt-leb, le-ltb, lt-ltb}
-use Rattle.meaning.specs.Octets.{pick, _when_else_}
-use Rattle.meaning.specs.Lists.{by-test, picked}
+use borrow.Author.Tests.{eq-eqb, ne-eqb, eqb-true, le-leb, lt-leb, leb-true, leb-false, le-ltb, lt-ltb, ltb-true, ltb-false}
+use Rattle.meaning.specs.Octets.{pick, place, _when_else_}
+use Rattle.meaning.specs.Lists.{by-test, picked, getD-out}
 use Rattle.meaning.specs.Wire.{Message, mapping, withdraw, release, messageIn, messageRefusal, elementRefusal}
 use Rattle.meaning.specs.RoundTrip.{Heard, heard, name-fits}
-use Rattle.meaning.specs.Card.{Card, fresh, withNext}
-use Rattle.meaning.specs.Events.{Out, Outcome, refused, unless, refuse, accept, finish, onMapping, onWithdraw, onRelease, onMessage, noNeighbour, onOctets, onJoin, onLeave, become, Event, receive, join, leave, outcome, event, baseOutside, start}
+use Rattle.meaning.specs.Card.{Card, Tree, Use, free, mapped, awaiting, Feed, noRoute, fresh, withNext, bare, treePlace, treeAt, isBranch, mappedTo, useOf, nothing, branchesFrom, feedOf, carries, carrier, feedOfUse, lookupLabel, lookupName}
+use Rattle.meaning.specs.Events.{Out, Outcome, refused, unless, refuse, accept, finish, onMapping, onWithdraw, onRelease, onMessage, noNeighbour, onOctets, onJoin, onLeave, notRoute, notRoot, onRoute, Event, receive, join, leave, route, outcome, event, baseOutside, start}
 use Rattle.meaning.specs.Calls.{over, Does, Hands}
+use Rattle.octets.specs.Part.{tab}
+use Rattle.octets.proofs.Tab.{tab-length, tab-get}
+use Rattle.table.specs.Memory.{cardOf, baseIn, treeCount, useIn, labelIn, labelName}
+use Rattle.table.proofs.Memory.{trees-length}
 use Rattle.trees.specs.End.{joinOf, leaveOf}
-use Rattle.trees.proofs.Laws.{does-refused}
-use Rattle.card.specs.Calls.{onRead}
+use Rattle.trees.proofs.Laws.{does-refused, standing-at, not-standing}
+use Rattle.routes.specs.Order.{routeOrder}
+use Rattle.card.specs.Calls.{feedIn, onRead}
 
 -- ---- start
 
@@ -144,3 +149,132 @@ module _ (o : Out) (a n : ℕ) (s s' : List ℕ) (c : Card) (d : Does o a n s s'
 -- the same outcome by another name
 pub does-same : (room : ℕ) (c : Card) (o o' : Outcome) (a n : ℕ) (s s' : List ℕ) (d : Card) → o ≡ o' → Does (finish room c o) a n s s' d → Does (finish room c o') a n s s' d
 does-same room c o o' a n s s' d e p = subst (λ (x : Outcome). Does (finish room c x) a n s s' d) e p
+
+-- ---- route orders
+
+pub four-octets : (r : List ℕ) → length r ≡ 4 → false ≡ notRoot r
+unfolding notRoot
+four-octets r e = rw (eq-eqb (length r) 4 e) refl
+
+pub other-length : (r : List ℕ) → (length r ≡ 4 → ⊥) → not (eqb (length r) 16) ≡ notRoot r
+unfolding notRoot
+other-length r e = rw (ne-eqb (length r) 4 e) refl
+
+pub root-fits : (r : List ℕ) → notRoot r ≡ false → length r ≤ 16
+unfolding notRoot
+root-fits r e =
+    by-test (eqb (length r) 4)
+    (λ k. omega (arith, eqb-true (length r) 4 k))
+    (λ k. by-test (eqb (length r) 16)
+    (λ l. omega (arith, eqb-true (length r) 16 l))
+    (λ l. let z : true ≡ false = rw (k, l) at e in let z′ : _≡_ {A = ℕ} 0 1 = cc in absurd (omega arith)))
+
+module _ (c : Card) (r : List ℕ) (via : ℕ) where
+  pub route-far : 17 < via → (t : List ℕ) → Does (event (length t) c (route r via)) 1 0 t t c
+  unfolding event outcome onRoute notRoute
+  route-far h t = rw (lt-ltb 17 via h) (unfold _when_else_ unless in does-refused c 1 t)
+
+  pub route-odd : via ≤ 17 → notRoot r ≡ true → (t : List ℕ) → Does (event (length t) c (route r via)) 6 0 t t c
+  unfolding event outcome onRoute notRoute
+  route-odd h e t = rw (le-ltb 17 via h, e) (unfold _when_else_ unless in does-refused c 6 t)
+
+  pub route-is : via ≤ 17 → notRoot r ≡ false → (room : ℕ) → finish room c (routeOrder c r via) ≡ event room c (route r via)
+  unfolding event outcome onRoute notRoute routeOrder
+  route-is h e room = rw (le-ltb 17 via h, e) (unfold _when_else_ unless in refl)
+
+-- ---- lookups
+
+pub empty-feed : feedIn (replicate 16 0) false ≡ nothing
+unfolding nothing branchesFrom isBranch
+empty-feed = refl
+
+bare-feed : (a : List ℕ) → feedOf (bare a) ≡ nothing
+unfolding feedOf bare nothing branchesFrom isBranch
+bare-feed a = refl
+
+pub feed-is : (t : Tree) (bs : List ℕ) (leaf : Bool) → bs ≡ t .branches → leaf ≡ t .leaf → feedIn bs leaf ≡ feedOf t
+unfolding feedOf
+feed-is t bs leaf p q = rw (p, q) refl
+
+-- a label that is mapped leads where its carrier does, any other nowhere
+some-found : (l : ℕ) (c : Card) (u : Use) → (mappedTo u ≡ noRoute → ⊥) → feedOfUse l c u ≡ feedOf (carrier l c)
+unfolding feedOfUse mappedTo
+some-found l c free h = absurd (h refl)
+some-found l c (mapped n a) h = refl
+some-found l c (awaiting n a) h = absurd (h refl)
+
+none-in : (l : ℕ) (c : Card) (m : ℕ) (a : List ℕ) → mappedTo (useIn m a) ≡ noRoute → feedOfUse l c (useIn m a) ≡ nothing
+unfolding useIn
+none-in l c m a e =
+    by-test (eqb m 0)
+    (λ x. rw x (unfold feedOfUse in refl))
+    (λ x. by-test (leb m 16)
+    (λ y. absurd (near m (leb-true _ _ y) (rw (x, y) at e)))
+    (λ y. by-test (leb m 32)
+    (λ z. rw (x, y, z) (unfold feedOfUse in refl))
+    (λ z. rw (x, y, z) (unfold feedOfUse in refl))))
+  where
+    near : (m : ℕ) → m ≤ 16 → mappedTo (mapped (m - 1) a) ≡ noRoute → ⊥
+    near m h e = let q : m - 1 ≡ 17 = unfold mappedTo in e in omega arith
+
+module _ (ns os : List ℕ) (l : ℕ) where
+  outside : (baseIn ns ≤ l → l < baseIn ns + 256 → ⊥) → useOf l (cardOf ns os) ≡ free
+  unfolding useOf cardOf
+  outside h =
+      by-test (leb (baseIn ns) l)
+      (λ e. rw e (getD-out (tab 256 (labelIn ns os)) (l - baseIn ns) free (rw (tab-length 256 (labelIn ns os)) (far-off (leb-true _ _ e)))))
+      (λ e. rw e refl)
+    where
+      far-off : baseIn ns ≤ l → 256 ≤ l - baseIn ns
+      far-off k = by-test (ltb l (baseIn ns + 256)) (λ e. absurd (h k (ltb-true _ _ e))) (λ e. omega (arith, ltb-false l (baseIn ns + 256) e))
+
+  pub mapped-inside : (mappedTo (useOf l (cardOf ns os)) ≡ noRoute → ⊥) → (baseIn ns ≤ l) × (l < baseIn ns + 256)
+  mapped-inside h =
+      by-test (leb (baseIn ns) l)
+      (λ x. by-test (ltb l (baseIn ns + 256))
+      (λ y. (leb-true _ _ x, ltb-true _ _ y))
+      (λ y. absurd (h (ap mappedTo (outside (λ _ k. omega (arith, ltb-false l (baseIn ns + 256) y))) ∙ unfold mappedTo in refl))))
+      (λ x. absurd (h (ap mappedTo (outside (λ k _. omega (arith, leb-false (baseIn ns) l x))) ∙ unfold mappedTo in refl)))
+
+  pub none-found : mappedTo (useOf l (cardOf ns os)) ≡ noRoute → nothing ≡ lookupLabel l (cardOf ns os)
+  unfolding lookupLabel
+  none-found e =
+      by-test (leb (baseIn ns) l)
+      (λ x. by-test (ltb l (baseIn ns + 256))
+      (λ y. let u : useOf l (cardOf ns os) ≡ useIn (getD ns (1188 + (l - baseIn ns)) 0) (labelName os (l - baseIn ns)) = use-inside (leb-true _ _ x) (ltb-true _ _ y) in
+      sym (ap (feedOfUse l (cardOf ns os)) u ∙ none-in l (cardOf ns os) _ _ (sym (ap mappedTo u) ∙ e)))
+      (λ y. sym (ap (feedOfUse l (cardOf ns os)) (outside (λ _ k. omega (arith, ltb-false l (baseIn ns + 256) y))) ∙ unfold feedOfUse in refl)))
+      (λ x. sym (ap (feedOfUse l (cardOf ns os)) (outside (λ k _. omega (arith, leb-false (baseIn ns) l x))) ∙ unfold feedOfUse in refl))
+    where
+      use-inside : baseIn ns ≤ l → l < baseIn ns + 256 → useOf l (cardOf ns os) ≡ useIn (getD ns (1188 + (l - baseIn ns)) 0) (labelName os (l - baseIn ns))
+      use-inside h k = unfold useOf cardOf in rw (le-leb (baseIn ns) l h) (tab-get 256 (labelIn ns os) (l - baseIn ns) free (omega arith) ∙ unfold labelIn in refl)
+
+  module _ (h : mappedTo (useOf l (cardOf ns os)) ≡ noRoute → ⊥) (i : ℕ) (ei : i ≡ place (carries l) (cardOf ns os .trees)) where
+    leads : lookupLabel l (cardOf ns os) ≡ feedOf (treeAt i (cardOf ns os))
+    unfolding lookupLabel
+    leads = some-found l (cardOf ns os) (useOf l (cardOf ns os)) h ∙ ap feedOf (unfold carrier in rw (← ei) refl)
+
+    pub carrier-found : (f : Feed) → f ≡ feedOf (treeAt i (cardOf ns os)) → f ≡ lookupLabel l (cardOf ns os)
+    carrier-found f e = e ∙ sym leads
+
+    pub carrier-none : (f : Feed) → f ≡ nothing → treeCount ns ≤ i → f ≡ lookupLabel l (cardOf ns os)
+    carrier-none f e k =
+        e ∙ sym (leads ∙ ap feedOf no-tree ∙ bare-feed [])
+      where
+        no-tree : treeAt i (cardOf ns os) ≡ bare []
+        no-tree = unfold treeAt in getD-out (cardOf ns os .trees) i (bare []) (rw (trees-length ns os) k)
+
+module _ (ns os : List ℕ) (e : List ℕ) where
+  pub name-refused : (f : Feed) (k : ℕ) → f ≡ nothing → k ≡ elementRefusal e → (k ≡ 0 → ⊥) → f ≡ lookupName e (cardOf ns os)
+  unfolding lookupName
+  name-refused f k q ek h = rw (ne-eqb (elementRefusal e) 0 (λ z. h (ek ∙ z))) q
+
+  pub name-found : (f : Feed) (k i : ℕ) → k ≡ elementRefusal e → k ≡ 0 → i ≡ treePlace e (cardOf ns os) → i < treeCount ns → f ≡ feedOf (treeAt i (cardOf ns os)) → f ≡ lookupName e (cardOf ns os)
+  unfolding lookupName
+  name-found f k i ek z ei h q =
+      rw (eq-eqb (elementRefusal e) 0 (sym ek ∙ z)) (q ∙ ap feedOf (sym (standing-at (cardOf ns os) e (rw (← ei, trees-length ns os) h) ∙ ap (λ (j : ℕ). treeAt j (cardOf ns os)) (sym ei))))
+
+  pub name-unknown : (f : Feed) (k i : ℕ) → k ≡ elementRefusal e → k ≡ 0 → i ≡ treePlace e (cardOf ns os) → treeCount ns ≤ i → f ≡ nothing → f ≡ lookupName e (cardOf ns os)
+  unfolding lookupName
+  name-unknown f k i ek z ei h q =
+      rw (eq-eqb (elementRefusal e) 0 (sym ek ∙ z)) (q ∙ sym (ap feedOf (not-standing (cardOf ns os) e (rw (← ei, trees-length ns os) h)) ∙ bare-feed e))

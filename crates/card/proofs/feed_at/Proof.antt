@@ -1,51 +1,58 @@
+use Prim.Native.Nat.{ℕ, _≤_, _<_, _-_, _+_}
+use native.Mathlib.Omega.{arith}
+use mathlib.Core.Path.{_≡_, refl, sym, ap, _∙_}
+use mathlib.Core.List.{List}
+use lib.ListN.{length, length-set}
+use borrow.Author.Needs.{needs}
+use Rattle.meaning.specs.Card.{treeAt}
+use Rattle.octets.proofs.Laws.{front, front-more, copy-done}
+use Rattle.table.specs.Memory.{cardOf}
+use Rattle.table.proofs.Laws.{branches-length}
+use Rattle.card.proofs.Laws.{feed-is}
 use Rattle.card.proofs.feed_at.Statement.{statement}
 use Rattle.card.proofs.feed_at.Tie as tie
-use Rattle.card.proofs.feed_at.Reads as reads
-use Rattle.card.proofs.feed_at.Lts as lts
-use Rattle.table.proofs.branch.Reads as branch-reads
-use Rattle.table.proofs.is_leaf.Reads as is-leaf-reads
 
 abbrev Inv-loop : tie.InvT-loop
-Inv-loop numbers i branches₀ n₀ branches n = ?
+Inv-loop numbers i branches₀ n₀ branches n =
+    (n ≤ 16) × (length branches ≡ 16) × (length branches₀ ≡ 16) × ((os : List ℕ) → branches ≡ front n (treeAt i (cardOf numbers os) .branches) branches₀)
 
 abbrev μ-loop : tie.MeasureT-loop
-μ-loop numbers i branches₀ n₀ branches n = ?
+μ-loop numbers i branches₀ n₀ branches n = 16 - n
 
--- src/lib.rt:261:5
 loop-holds : tie.Need-loop-holds Inv-loop μ-loop
-loop-holds c = ?
+loop-holds c = (omega arith, refl, refl, λ os. refl)
 
--- src/lib.rt:262:23
 branch-requires : tie.Need-branch-requires Inv-loop μ-loop
-branch-requires c κs = ?
+branch-requires c κs = search needs
 
--- src/lib.rt:262:9
 mul-branches : tie.Need-mul-branches Inv-loop μ-loop
-mul-branches c = ?
+mul-branches c = search needs
 
--- src/lib.rt:262:9
 array-write-branches : tie.Need-array-write-branches Inv-loop μ-loop
-array-write-branches c = ?
+array-write-branches c = search needs
 
--- src/lib.rt:263:9
 add-n : tie.Need-add-n Inv-loop μ-loop
-add-n c = ?
+add-n c = search needs
 
--- src/lib.rt:261:5
 loop-less : tie.Need-loop-less Inv-loop μ-loop
-loop-less c = ?
+loop-less c = search needs
 
--- src/lib.rt:261:5
 loop-again : tie.Need-loop-again Inv-loop μ-loop
-loop-again c = ?
+loop-again c =
+    let the-loop = c .before .before .loop in
+    let start = c .before .before .before .before in
+    let inv = the-loop .inv in
+    (omega arith, simp length-set (inv .1), inv .2, λ os. front-more _ _ _ 0 _ _ (rw (branches-length _ os _ (start .pre .1)) (omega arith)) (omega arith) (inv .3 os) (c .branch .ensures os))
 
--- src/lib.rt:266:15
 is-leaf-requires : tie.Need-is-leaf-requires Inv-loop μ-loop
-is-leaf-requires c κs = ?
+is-leaf-requires c κs = search needs
 
--- src/lib.rt:255:1
 returns : tie.Need-returns Inv-loop μ-loop
-returns c = ?
+returns c =
+    let the-loop = c .before .before .loop in
+    let start = c .before .before .before .before in
+    let inv = the-loop .inv in
+    λ os. feed-is _ _ _ (copy-done (treeAt (start .args .i) (cardOf (start .args .numbers .now) os) .branches) _ _ (the-loop .n) (rw (branches-length _ os _ (start .pre .1)) (c .before .loop-test .left)) (branches-length _ os _ (start .pre .1) ∙ sym (inv .2)) (inv .3 os)) (c .is-leaf .ensures os)
 
 pub feed-at-spec : {M : Type 1} → statement M
 feed-at-spec =

@@ -1,21 +1,21 @@
+use mathlib.Core.Path.{refl, sym, ap, _∙_}
+use Rattle.card.proofs.Laws.{handed, handed-count}
 use borrow.Author.Needs.{needs}
 use Rattle.card.proofs.route.Statement.{statement}
 use Rattle.card.proofs.route.Tie as tie
-use Rattle.card.proofs.route.Reads as reads
-use Rattle.card.proofs.route.Lts as lts
-use Rattle.card.proofs.route_core.Reads as route-core-reads
 
--- src/lib.rt:243:9
 route-core-requires : tie.Need-route-core-requires
 route-core-requires c κs = search needs
 
--- src/lib.rt:244:5
 slice-aggregate-result : tie.Need-slice-aggregate-result
-slice-aggregate-result c = ?
+slice-aggregate-result c =
+    let the-route-core = c .before .before .before .route-core in
+    handed-count _ _ _ _ _ _ (the-route-core .ensures)
 
--- src/lib.rt:232:1
 returns : tie.Need-returns
-returns c = ?
+returns c =
+    let the-route-core = c .before .before .before .route-core in
+    (handed _ _ _ _ _ _ (the-route-core .ensures), refl)
 
 pub route-spec : {M : Type 1} → statement M
 route-spec = tie.close (tie.spec route-core-requires slice-aggregate-result returns)

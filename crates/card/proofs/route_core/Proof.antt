@@ -1,34 +1,37 @@
+use mathlib.Core.Path.{refl, sym, ap, _∙_, subst}
+use native.Mathlib.Omega.{arith}
+use Rattle.card.proofs.Laws.{route-far, route-odd, route-is, root-fits}
 use borrow.Author.Needs.{needs}
 use Rattle.card.proofs.route_core.Statement.{statement}
 use Rattle.card.proofs.route_core.Tie as tie
-use Rattle.card.proofs.route_core.Reads as reads
-use Rattle.card.proofs.route_core.Lts as lts
-use Rattle.card.proofs.not_root.Reads as not-root-reads
-use Rattle.routes.proofs.change_route.Reads as change-route-reads
 
--- src/lib.rt:223:9
 returns : tie.Need-returns
-returns c = ?
+returns c = route-far _ _ _ (c .if1 .taken) _
 
--- src/lib.rt:225:8
 not-root-requires : tie.Need-not-root-requires
 not-root-requires c κs = search needs
 
--- src/lib.rt:227:9
 returns-2 : tie.Need-returns-2
-returns-2 c = ?
+returns-2 c =
+    let the-if1 = c .before .before .if1 in
+    route-odd _ _ _ (the-if1 .left) (sym (c .before .not-root .ensures) ∙ c .if2 .taken) _
 
--- src/lib.rt:229:5
 change-route-requires : tie.Need-change-route-requires
-change-route-requires c κs = ?
+change-route-requires c κs =
+    let the-not-root = c .before .before .before .before .before .not-root in
+    let the-if2 = c .before .before .before .before .if2 in
+    (search needs, search needs, root-fits _ (sym (the-not-root .ensures) ∙ the-if2 .left), search needs)
 
--- src/lib.rt:210:1
 same-length : tie.Need-same-length
 same-length c = search needs
 
--- src/lib.rt:210:1
 returns-3 : tie.Need-returns-3
-returns-3 c = ?
+returns-3 c =
+    let the-if1 = c .before .before .before .before .before .before .before .before .before .if1 in
+    let the-not-root = c .before .before .before .before .before .before .before .before .not-root in
+    let the-if2 = c .before .before .before .before .before .before .before .if2 in
+    let the-change-route = c .before .before .change-route in
+    rw (← (route-is _ _ _ (the-if1 .left) (sym (the-not-root .ensures) ∙ the-if2 .left) _)) (the-change-route .ensures)
 
 pub route-core-spec : {M : Type 1} → statement M
 route-core-spec =
