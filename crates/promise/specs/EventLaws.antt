@@ -8,18 +8,18 @@ use mathlib.Core.Bool.{Bool, true, false, not, _&&_, _||_}
 use mathlib.Core.List.{List, [], _∷_, _++_}
 use lib.ListN.{take, drop, getD, length, set, length-set, replicate}
 use lib.Dec.{eqb, leb, ltb}
-use borrow.Author.Tests.{eqb-true, eqb-false, eq-eqb, ne-eqb, ltb-true, ltb-false, leb-true, not-true, not-false}
+use borrow.Author.Tests.{eqb-true, eqb-false, eq-eqb, ne-eqb, ltb-true, ltb-false, leb-true, leb-false, not-true, not-false}
 use Rattle.meaning.specs.Octets.{pick, place, count, any, same, put, cut, fourAt, _when_else_}
 use Rattle.meaning.specs.Wire.{Tlv, fecOf, labelOf, isLabel, isKind, mapping, withdraw, release, Message, messageIn, messageRefusal, elementRefusal, Sent}
-use Rattle.meaning.specs.Card.{Tree, Use, free, mapped, awaiting, Card, noRoute, withRoutes, withTrees, withLabels, withBranch, withLeaf, withLabel, named, bare, treePlace, treeOf, treeAt, isEmpty, isFree, isAwaiting, mappedTo, useOf, heldFor, freeLabels, routeOf}
-use Rattle.meaning.specs.Events.{Outcome, refused, taken, unless, Moved, tell, setUse, relabel, need, labelsShort, upstream, upstreamOf, entered, swept, treeRefusal, enter, become, branch, onMapping, lessBranch, onWithdraw, notAwaited, onRelease, onMessage, noNeighbour, onOctets, onJoin, onLeave, moveAll, needAll, routesWith, routeRefusal, reRoute, onRoute, Event, receive, join, leave, route, outcome}
+use Rattle.meaning.specs.Card.{Tree, Use, free, mapped, awaiting, Card, noRoute, withRoutes, withTrees, withLabels, withBranch, withLeaf, withLabel, treeLimit, named, bare, treePlace, treeOf, treeAt, stands, isEmpty, isFree, isAwaiting, mappedTo, useOf, heldFor, freeLabels, routeOf}
+use Rattle.meaning.specs.Events.{Outcome, refused, taken, unless, Moved, tell, setUse, relabel, need, labelsShort, upstream, upstreamOf, entered, swept, treesFull, treeRefusal, enter, become, branch, onMapping, lessBranch, onWithdraw, notAwaited, onRelease, onMessage, noNeighbour, onOctets, onJoin, onLeave, moveAll, needAll, routesWith, routeRefusal, reRoute, onRoute, Event, receive, join, leave, route, outcome}
 use Rattle.promise.specs.Promise.{Given, remove, noteSent, noteAll, noteTaken, NoneLive}
 use Rattle.meaning.specs.Lists.{by-test, picked, same-eq, same-refl, same-no, count-set, count-new, no-when}
 use Rattle.meaning.specs.WireLaws.{element-0}
 use Rattle.meaning.specs.RoundTrip.{Heard, heard, both, AllSendable, Sendable, Sayable, sendable-append}
 use Rattle.promise.specs.LiveLaws.{Linked, linked-eq, upd, free-linked, Books, books-eq, books-remove, books-removed}
 use Rattle.promise.specs.CardLaws.{use-after, in-block, shape, Proper, Tidy, tree-name, tree-sized, entered-is, entered-tidy, put-within, at-named, swept-is, swept-tidy, swept-use, swept-labels, swept-base, swept-routes}
-use Rattle.promise.specs.RuleLaws.{Ruled, upstream-same, route-ruled, put-other-at, swept-at}
+use Rattle.promise.specs.RuleLaws.{Ruled, shape-empty, upstream-same, route-ruled, put-in, put-more, cut-in, put-other-at, swept-at}
 use Rattle.promise.specs.LabelLaws.{at-other, held-other, relabel-own, Sound, Fine, relabel-fine, relabel-none, none-append, note-append, shape-name, Kept, all-kept, use-place}
 
 -- ---- what an event that is taken makes of the tree named a
@@ -231,8 +231,26 @@ module _ (c : Card) (gs : List Given) (S : Sound c gs) (a : List ℕ) (good : el
         own
         ∙ upstream-same c end its (treeAt its-place (relabelled .card)) (sym end-routes) (sym (fine .at its-place ∙ ap shape its-at))
 
-    ruled-after : Ruled c → Ruled (swept its-place (relabelled .card))
-    ruled-after R = record {
+    -- the trees are no more than before, but for one that is new
+    size-after : length (relabelled .card .trees) ≡ length (put (c .trees) its-place its)
+    unfolding its-place
+    size-after = fine .size ∙ unfold entered withTrees in refl
+
+    few-after : treesFull c its ≡ false → length (c .trees) ≤ treeLimit → length (end .trees) ≤ treeLimit
+    unfolding swept withTrees treesFull stands its-place
+    few-after full few =
+        let more = put-more (c .trees) its-place its in
+        let same-empty : isEmpty (treeAt its-place (relabelled .card)) ≡ isEmpty its = shape-empty _ _ (fine .at its-place ∙ ap shape its-at) in
+        by-test (isEmpty its)
+        (λ e. rw (same-empty, e) (omega (arith, cut-in (relabelled .card .trees) its-place within-after, size-after)))
+        (λ e. rw (same-empty, e) (rw size-after (by-test (ltb its-place (length (c .trees)))
+        (λ k. rw (put-in (c .trees) its-place its (ltb-true _ _ k)) few)
+        (λ k. let left = leb-false treeLimit (length (c .trees)) (rw (e, k) at full) in omega arith))))
+
+    ruled-after : treesFull c its ≡ false → Ruled c → Ruled (swept its-place (relabelled .card))
+    ruled-after full R = record {
+      trees = few-after full (R .trees);
+      routes = rw end-routes (R .routes);
       roots = λ r. rw end-routes (R .roots r);
       full = λ j h. let r = swept-at (relabelled .card) its-place j h in
           rw (r .2) (by-test (eqb its-place (r .0))
@@ -245,20 +263,20 @@ module _ (c : Card) (gs : List Given) (S : Sound c gs) (a : List ℕ) (good : el
           rw (o .1) (o .2 ∙ R .held (r .0) (o .0) ∙ upstream-same c end (treeAt (r .0) c) (treeAt (r .0) c) (sym end-routes) refl)));
     }
 
-    entered-follows : (first : List Sent) → Quiet gs first → Follows c gs (onlyFor a f) (same a) (first ++ relabelled .sent) (swept its-place (relabelled .card))
+    entered-follows : treesFull c its ≡ false → (first : List Sent) → Quiet gs first → Follows c gs (onlyFor a f) (same a) (first ++ relabelled .sent) (swept its-place (relabelled .card))
     unfolding Quiet
-    entered-follows first q = record {
+    entered-follows full first q = record {
       sound = rw (note-append first (relabelled .sent) gs, q .0) swept-sound;
       fair = none-append first (relabelled .sent) gs (q .1) (rw (q .0) (fine .fair));
       said = sendable-append first (relabelled .sent) (q .2) (fine .said);
       shapes = λ b. ap shape (swept-tree b) ∙ fine .shapes b ∙ ap shape (entered-tree b);
       apart = λ b n. swept-tree b ∙ fine .others b (ap (λ (t : Tree). same (t .name) b) its-at ∙ ap (λ (x : List ℕ). same x b) its-name ∙ n) ∙ entered-tree b ∙ (unfold onlyFor in rw n refl);
-      ruled = ruled-after;
+      ruled = ruled-after full;
     }
 
   pub enter-keeps : (first : List Sent) → Quiet gs first → treeRefusal c (f (treeOf a c)) ≡ 0 → Keeps c gs (onlyFor a f) (same a) (enter c first (f (treeOf a c)))
   unfolding treeRefusal labelsShort its enter Keeps relabelled its-place
-  enter-keeps first q e = entered-follows (ltb-false _ _ (no-when 11 _ 0 (no-when 10 _ _ e .1) .0)) first q
+  enter-keeps first q e = let r = no-when 10 _ _ e in entered-follows (ltb-false _ _ (no-when 11 _ 0 (r .1) .0)) (r .0) first q
 
   pub become-keeps : (first : List Sent) → Quiet gs first → Keeps c gs (onlyFor a f) (same a) (become c first (f (treeOf a c)))
   unfolding become
@@ -270,11 +288,11 @@ size-branch : (n l : ℕ) (t : Tree) → length (withBranch n l t .branches) ≡
 unfolding withBranch
 size-branch n l t = length-set (t .branches) n l
 
-less-name : (n l : ℕ) (t : Tree) → lessBranch n l t .name ≡ t .name
+pub less-name : (n l : ℕ) (t : Tree) → lessBranch n l t .name ≡ t .name
 unfolding lessBranch withBranch
 less-name n l t = picked (λ (x : Tree). x .name ≡ t .name) (eqb (branch t n) l) (λ _. refl) (λ _. refl)
 
-less-label : (n l : ℕ) (t : Tree) → lessBranch n l t .label ≡ t .label
+pub less-label : (n l : ℕ) (t : Tree) → lessBranch n l t .label ≡ t .label
 unfolding lessBranch withBranch
 less-label n l t = picked (λ (x : Tree). x .label ≡ t .label) (eqb (branch t n) l) (λ _. refl) (λ _. refl)
 
@@ -338,6 +356,8 @@ module _ (c : Card) (gs : List Given) (S : Sound c gs) where
   freed-ruled : (n k : ℕ) (a : List ℕ) (l : ℕ) → isAwaiting n a (useOf l c) ≡ true → Ruled c → Ruled (setUse l free c)
   freed-ruled n k a l w R = record {
     roots = unfold setUse withLabels in R .roots;
+    trees = unfold setUse withLabels in R .trees;
+    routes = unfold setUse withLabels in R .routes;
     full = unfold setUse withLabels treeAt in R .full;
     held = λ j h. ap (heldFor (setUse l free c)) (freed-at j) ∙ freed-held n a l w j (unfold setUse withLabels in h) ∙ R .held j (unfold setUse withLabels in h) ∙ upstream-same c (setUse l free c) (treeAt j c) (treeAt j (setUse l free c)) (unfold setUse withLabels in refl) (ap shape (sym (freed-at j)));
   }
@@ -402,8 +422,9 @@ module _ (c : Card) (gs : List Given) (S : Sound c gs) where
   moved-keeps : (r : List ℕ) (via : ℕ) → routeRefusal c r via ≡ 0 → Keeps c gs (λ b x. x) (λ b. true) (reRoute c r via)
   unfolding reRoute Keeps routeRefusal labelsShort
   moved-keeps r via e =
-      let enough : needAll r (upstream via) c ≤ freeLabels c = ltb-false _ _ (no-when 11 _ 0 (no-when 14 _ _ e .1) .0) in
-      routed r via (moveAll r (upstream via) c) (all-kept r (upstream via) (upstream-near via) c gs S enough) (λ R. route-ruled c gs S R r via (upstream-near via) enough)
+      let full = no-when 14 _ _ e in
+      let enough : needAll r (upstream via) c ≤ freeLabels c = ltb-false _ _ (no-when 11 _ 0 (full .1) .0) in
+      routed r via (moveAll r (upstream via) c) (all-kept r (upstream via) (upstream-near via) c gs S enough) (λ R. route-ruled c gs S R r via (upstream-near via) enough (full .0))
 
   route-keeps : (r : List ℕ) (via : ℕ) → Keeps c gs (λ b x. x) (λ b. true) (onRoute c r via)
   unfolding onRoute

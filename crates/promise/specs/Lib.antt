@@ -6,4 +6,5 @@ pub mod RuleLaws
 pub mod EventLaws
 pub mod PromiseProof
 pub mod RulesKept
+pub mod Sizes
 pub mod PromiseExample

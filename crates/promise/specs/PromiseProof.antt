@@ -16,7 +16,7 @@ use Rattle.meaning.specs.Card.{Tree, Use, free, mapped, awaiting, Card, fresh, 
 use Rattle.meaning.specs.Events.{Out, Outcome, refused, taken, refuse, accept, roomShort, finish, upstreamOf, branch, lessBranch, Event, receive, join, leave, route, outcome, event, baseOutside, start}
 use Rattle.promise.specs.Promise.{Given, ofLabel, isAbout, isWithdrawn, Demand3, noteAll, noteTaken, branchSaid, branchBy, leafBy, branchesBy, feedBy, Step, Past, answerTo, sends, thenStep, thenSteps, history, Each, NoneLive, Leads, Promise}
 use Rattle.meaning.specs.Lists.{getD-same, by-test, picked, place-finds, place-count, same-eq, same-refl, same-no, getD-out, count-some}
-use Rattle.meaning.specs.RoundTrip.{both, records-back}
+use Rattle.meaning.specs.RoundTrip.{both, AllSendable, records-back}
 use Rattle.promise.specs.LiveLaws.{isMapped, stray, Linked, mapped-one, mapped-not-free, Books, only, givens, count-only, books-one, books-none, each-only}
 use Rattle.promise.specs.CardLaws.{shape, Tidy, AllProper, tree-name, at-named}
 use Rattle.promise.specs.LabelLaws.{Sound}
@@ -147,7 +147,7 @@ module _ (c : Card) (gs : List Given) (es : List Event) (e : Event) where
       (λ t. rw t (unfold withNext treeOf treePlace useOf freeLabels in record {
         sound = record { tidy = k .sound .tidy; low = k .sound .low; high = k .sound .high; many = k .sound .many; linked = k .sound .linked; books = k .sound .books; sum = k .sound .sum };
         reads = λ a. reads-shape a (e ∷ es) _ _ (k .shapes a) (became-reads a es (treeOf a c) (u .reads a) e);
-        ruled = unfold treeAt heldFor upstreamOf routeOf routePlace in record { roots = k .ruled (u .ruled) .roots; full = k .ruled (u .ruled) .full; held = k .ruled (u .ruled) .held };
+        ruled = unfold treeAt heldFor upstreamOf routeOf routePlace in record { roots = k .ruled (u .ruled) .roots; full = k .ruled (u .ruled) .full; held = k .ruled (u .ruled) .held; trees = k .ruled (u .ruled) .trees; routes = k .ruled (u .ruled) .routes };
       }))
 
   step-fair : (room : ℕ) (o : Outcome) → Keeps c (noteTaken e gs) (became e) (names e) o → NoneLive (pick (eqb (finish room c o .answer) 0) (messagesOf o) []) (noteTaken e gs)
@@ -182,6 +182,16 @@ module _ (c : Card) (gs : List Given) (es : List Event) (e : Event) where
 sends-is : (p : Past) (s : Step) → Upheld p → sends (p .card) s ≡ pick (eqb (answerTo (p .card) s .answer) 0) (messagesOf (outcome (p .card) (s .does))) []
 unfolding sends answerTo event
 sends-is p s u = step-wire (p .card) (p .live) (p .accepted) (s .does) (s .room) (outcome (p .card) (s .does)) (event-keeps (p .card) (p .live) (u .sound) (s .does))
+
+-- every message that a step sends may be said
+pub sends-said : (p : Past) (s : Step) → Upheld p → AllSendable (sends (p .card) s)
+sends-said p s u =
+    rw (sends-is p s u)
+    (picked AllSendable (eqb (answerTo (p .card) s .answer) 0) (λ _. said (outcome (p .card) (s .does)) (event-keeps (p .card) (p .live) (u .sound) (s .does))) (λ _. unfold AllSendable in tt))
+  where
+    said : (o : Outcome) → Keeps (p .card) (noteTaken (s .does) (p .live)) (became (s .does)) (names (s .does)) o → AllSendable (messagesOf o)
+    said (refused n) k = unfold AllSendable messagesOf in tt
+    said (taken ms after) k = unfold messagesOf Keeps in k .said
 
 pub then-upheld : (p : Past) (s : Step) → Upheld p → Upheld (thenStep p s)
 unfolding thenStep
@@ -220,7 +230,7 @@ fresh-upheld b low high = record {
     sum = unfold freeLabels fresh count isFree in refl;
   };
   reads = λ a. unfold treeOf treePlace place fresh bare branchesBy branchBy leafBy in record { name = refl; branches = refl; leaf = refl };
-  ruled = unfold fresh count in record { roots = λ r. zero-le; full = λ j h. absurd (not-suc-le-zero h); held = λ j h. absurd (not-suc-le-zero h) };
+  ruled = unfold fresh count in record { roots = λ r. zero-le; full = λ j h. absurd (not-suc-le-zero h); held = λ j h. absurd (not-suc-le-zero h); trees = zero-le; routes = zero-le };
 }
 
 -- ---- where labels lead

@@ -1,4 +1,4 @@
--- The table's rules: a tree stands while it has a branch or a leaf, and holds a label exactly while its root's route is a neighbour.
+-- The table's rules: a tree stands while it has a branch or a leaf, and holds a label exactly while its root's route is a neighbour; its sizes.
 -- Assumes nothing.
 use Prim.Native.Nat.{ℕ, zero, suc, _+_, _-_, _≤_, _<_, suc-le-suc, zero-le}
 use native.Mathlib.Nat.{le-of-suc-le-suc, not-suc-le-zero, le-refl, le-trans}
@@ -6,13 +6,13 @@ use native.Mathlib.Omega.{arith}
 use mathlib.Core.Path.{_≡_, refl, sym, ap, ap₂, _∙_, subst}
 use mathlib.Core.Bool.{Bool, true, false, not, _&&_, _||_, or-true}
 use mathlib.Core.List.{List, [], _∷_, _++_}
-use lib.ListN.{take, drop, getD, length, set, length-set, replicate}
+use lib.ListN.{take, drop, getD, length, set, length-set, length-append, length-take, length-drop, replicate}
 use lib.Dec.{eqb, leb, ltb}
-use borrow.Author.Tests.{eqb-true, eqb-false, eq-eqb, ne-eqb, ltb-true, ltb-false}
+use borrow.Author.Tests.{eqb-true, eqb-false, eq-eqb, ne-eqb, ltb-true, ltb-false, leb-false}
 use Rattle.meaning.specs.Octets.{pick, place, count, any, same, put, cut}
 use Rattle.meaning.specs.Wire.{rootIn}
-use Rattle.meaning.specs.Card.{Tree, Route, Use, free, Card, noRoute, withRoutes, withTrees, withLabel, isFor, routePlace, routeOf, named, bare, treePlace, treeOf, treeAt, isBranch, isEmpty, mappedTo, useOf, heldFor, freeLabels}
-use Rattle.meaning.specs.Events.{Moved, upstream, upstreamOf, swept, ofRoot, moveAll, needAll, routesWith}
+use Rattle.meaning.specs.Card.{Tree, Route, Use, free, Card, noRoute, withRoutes, withTrees, withLabel, treeLimit, routeLimit, isFor, routePlace, routeOf, named, bare, treePlace, treeOf, treeAt, isBranch, isEmpty, mappedTo, useOf, heldFor, freeLabels}
+use Rattle.meaning.specs.Events.{Moved, upstream, upstreamOf, swept, ofRoot, moveAll, needAll, routesWith, routesFull}
 use Rattle.promise.specs.Promise.{Given}
 use Rattle.meaning.specs.Lists.{getD-same, by-test, picked, same-eq, same-refl, same-no, same-flip, getD-out, found-put, found-cut, other-put, other-cut, count-put, count-cut, count-other-put}
 use Rattle.promise.specs.CardLaws.{shape, Tidy}
@@ -22,6 +22,8 @@ pub record Ruled (c : Card) : Type 0 where
   pub roots : (r : List ℕ) → count (isFor r) (c .routes) ≤ 1
   pub full : (j : ℕ) → j < length (c .trees) → isEmpty (treeAt j c) ≡ false
   pub held : (j : ℕ) → j < length (c .trees) → heldFor c (treeAt j c) ≡ upstreamOf c (treeAt j c)
+  pub trees : length (c .trees) ≤ treeLimit
+  pub routes : length (c .routes) ≤ routeLimit
 
 pub shape-empty : (t s : Tree) → shape t ≡ shape s → isEmpty t ≡ isEmpty s
 unfolding isEmpty shape withLabel
@@ -36,7 +38,7 @@ pub bare-empty : (a : List ℕ) → isEmpty (bare a) ≡ true
 unfolding isEmpty bare any isBranch
 bare-empty a = refl
 
-standing-at : (c : Card) (a : List ℕ) → treePlace a c < length (c .trees) → treeOf a c ≡ treeAt (treePlace a c) c
+pub standing-at : (c : Card) (a : List ℕ) → treePlace a c < length (c .trees) → treeOf a c ≡ treeAt (treePlace a c) c
 unfolding treeOf treeAt
 standing-at c a h = getD-same (c .trees) (treePlace a c) (bare a) (bare []) h
 
@@ -58,6 +60,24 @@ held-named c gs S R a =
     by-test (ltb (treePlace a c) (length (c .trees)))
     (λ e. rw (standing-at c a (ltb-true _ _ e)) (R .held (treePlace a c) (ltb-true _ _ e)))
     (λ e. rw (not-standing c a (ltb-false _ _ e)) (bare-held c a (S .linked .zero-free) ∙ sym (bare-asked c a)))
+
+-- ---- sizes after `put` and `cut`
+
+pub put-in {ℓ} : {A : Type ℓ} (l : List A) (i : ℕ) (x : A) → i < length l → length (put l i x) ≡ length l
+unfolding put
+put-in l i x h = simp (length-append, length-take, length-drop) (omega arith)
+
+pub put-more {ℓ} : {A : Type ℓ} (l : List A) (i : ℕ) (x : A) → length (put l i x) ≤ suc (length l)
+unfolding put
+put-more l i x = simp (length-append, length-take, length-drop) (omega arith)
+
+pub cut-in {ℓ} : {A : Type ℓ} (l : List A) (i : ℕ) → i < length l → suc (length (cut l i)) ≡ length l
+unfolding cut
+cut-in l i h = simp (length-append, length-take, length-drop) (omega arith)
+
+cut-less {ℓ} : {A : Type ℓ} (l : List A) (i : ℕ) → length (cut l i) ≤ length l
+unfolding cut
+cut-less l i = simp (length-append, length-take, length-drop) (omega arith)
 
 -- ---- the route order
 
@@ -96,6 +116,23 @@ module _ (c : Card) (gs : List Given) (S : Sound c gs) (R : Ruled c) (r : List �
       (λ k. subst (λ (x : List ℕ). count (isFor x) (put (c .routes) (place (isFor r) (c .routes)) (record { root = r; via = via })) ≤ 1) (same-eq r q k) (count-put (isFor r) (c .routes) _ (R .roots r)))
       (λ k. rw (count-other-put (isFor r) (isFor q) (root-apart r q k) (c .routes) (record { root = r; via = via }) (root-apart r q k _ (own-for r via))) (R .roots q))))
 
+  -- a root with a route has its place
+  placed : eqb (routeOf r c) noRoute ≡ false → routePlace r c < length (c .routes)
+  unfolding routeOf
+  placed e =
+      by-test (ltb (routePlace r c) (length (c .routes)))
+      (λ k. ltb-true _ _ k)
+      (λ k. absurd (eqb-false _ _ e (ap (λ (x : Route). x .via) (getD-out (c .routes) (routePlace r c) (record { root = r; via = noRoute }) (ltb-false _ _ k)))))
+
+  few-routes : routesFull c r via ≡ false → length (routesWith c r via) ≤ routeLimit
+  unfolding routesFull routesWith
+  few-routes full =
+      by-test (eqb via noRoute)
+      (λ e. rw e (omega (arith, cut-less (c .routes) (routePlace r c), R .routes)))
+      (λ e. rw e (by-test (eqb (routeOf r c) noRoute)
+      (λ k. let left = leb-false routeLimit (length (c .routes)) (rw (k, e) at full) in omega (arith, put-more (c .routes) (routePlace r c) (record { root = r; via = via })))
+      (λ k. rw (put-in (c .routes) (routePlace r c) (record { root = r; via = via }) (placed k)) (R .routes))))
+
   moved-now : Kept c gs (moveAll r (upstream via) c)
   moved-now = all-kept r (upstream via) near c gs S enough
 
@@ -118,11 +155,13 @@ module _ (c : Card) (gs : List Given) (S : Sound c gs) (R : Ruled c) (r : List �
   unfolding heldFor withRoutes treeAt useOf
   held-same j = refl
 
-  pub route-ruled : Ruled routed
-  route-ruled = record {
+  pub route-ruled : routesFull c r via ≡ false → Ruled routed
+  route-ruled full = record {
     roots = unfold withRoutes in new-roots;
     full = λ j h. shape-empty _ _ (at-same j) ∙ R .full j (within j h);
     held = λ j h. held-same j ∙ all-held r (upstream via) near c gs S enough j (within j h) ∙ asked j (within j h) ∙ upstream-same routed routed (treeAt j c) (treeAt j routed) refl (sym (at-same j));
+    trees = unfold withRoutes in rw (moved-now .size) (R .trees);
+    routes = unfold withRoutes in few-routes full;
   }
 
 -- ---- places after `put` and `cut`

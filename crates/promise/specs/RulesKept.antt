@@ -1,4 +1,4 @@
--- The table's rules after any history, and what they say of a Withdraw.
+-- The table's rules after any history, and what they say of a Withdraw and of a leave.
 -- Assumes nothing.
 use Prim.Native.Nat.{ℕ, zero, suc, _+_, _≤_, _<_, zero-le}
 use native.Mathlib.Omega.{arith}
@@ -7,23 +7,43 @@ use mathlib.Core.Bool.{Bool, true, false, not, _&&_, _||_}
 use mathlib.Core.List.{List, [], _∷_, _++_}
 use lib.ListN.{getD, length, set}
 use lib.Dec.{eqb, leb, ltb}
-use borrow.Author.Tests.{eq-eqb, ne-eqb, ltb-false, le-ltb}
-use Rattle.meaning.specs.Octets.{pick, any, _when_else_}
-use Rattle.meaning.specs.Wire.{rootIn, mapping, withdraw, release, Message, messageIn, messageRefusal, Sent}
-use Rattle.meaning.specs.Card.{withTrees, named, treeAt, useOf, routeOf, Tree, Card, noRoute, withBranch, treePlace, treeOf, stands, bare, isBranch, isEmpty, heldFor, freeLabels}
-use Rattle.meaning.specs.Events.{Outcome, taken, unless, Moved, still, upstream, tell, relabel, entered, swept, needMove, need, labelsShort, upstreamOf, treesFull, treeRefusal, enter, become, branch, lessBranch, onWithdraw, onMessage, noNeighbour, onOctets, Event, receive, outcome}
+use borrow.Author.Tests.{eq-eqb, ne-eqb, ltb-true, ltb-false, le-ltb}
+use Rattle.meaning.specs.Octets.{pick, count, any, _when_else_}
+use Rattle.meaning.specs.Wire.{rootIn, elementRefusal, mapping, withdraw, release, Message, messageIn, messageRefusal, Sent}
+use Rattle.meaning.specs.Card.{withTrees, named, treeAt, useOf, routeOf, Tree, Card, noRoute, withBranch, withLeaf, isFor, treePlace, treeOf, stands, bare, isBranch, isEmpty, heldFor, freeLabels}
+use Rattle.meaning.specs.Events.{Outcome, taken, unless, Moved, still, upstream, tell, relabel, entered, swept, needMove, need, labelsShort, upstreamOf, treesFull, treeRefusal, enter, become, branch, lessBranch, onWithdraw, onMessage, noNeighbour, onOctets, notLeaf, onLeave, Event, receive, leave, outcome}
 use Rattle.promise.specs.Promise.{Given, Step, Past, history}
 use Rattle.meaning.specs.Lists.{by-test, picked}
+use Rattle.meaning.specs.RoundTrip.{both}
 use Rattle.promise.specs.CardLaws.{shape, tree-name}
 use Rattle.promise.specs.LabelLaws.{Sound}
-use Rattle.promise.specs.RuleLaws.{Ruled, held-named, not-standing, bare-empty}
-use Rattle.promise.specs.EventLaws.{getD-put}
+use Rattle.promise.specs.RuleLaws.{Ruled, held-named, standing-at, not-standing, bare-empty}
+use Rattle.promise.specs.EventLaws.{getD-put, less-name, less-label}
 use Rattle.promise.specs.PromiseProof.{Upheld, history-upheld}
 
--- A tree holds a label exactly while it stands and its root's route is a neighbour, for that neighbour.
+-- All of the table's rules.
 pub rules-kept : (base : ℕ) (steps : List Step) → Ruled (history base steps .card)
 rules-kept base steps = history-upheld base steps .ruled
 
+-- No two trees have one name.
+pub names-once : (base : ℕ) (steps : List Step) (a : List ℕ) → count (named a) (history base steps .card .trees) ≤ 1
+names-once base steps a = history-upheld base steps .sound .tidy .once a
+
+-- No two routes have one root.
+pub roots-once : (base : ℕ) (steps : List Step) (r : List ℕ) → count (isFor r) (history base steps .card .routes) ≤ 1
+roots-once base steps r = history-upheld base steps .ruled .roots r
+
+-- A tree stands exactly while it has a branch or a leaf.
+pub stands-exactly : (base : ℕ) (steps : List Step) (a : List ℕ) → stands a (history base steps .card) ≡ not (isEmpty (treeOf a (history base steps .card)))
+stands-exactly base steps a = standing (history base steps .card) (history-upheld base steps .ruled)
+  where
+    standing : (c : Card) → Ruled c → stands a c ≡ not (isEmpty (treeOf a c))
+    standing c R =
+        unfold stands in by-test (ltb (treePlace a c) (length (c .trees)))
+        (λ k. rw (k, standing-at c a (ltb-true _ _ k), R .full (treePlace a c) (ltb-true _ _ k)) refl)
+        (λ k. rw (k, not-standing c a (ltb-false _ _ k), bare-empty a) refl)
+
+-- A tree holds a label exactly while it stands and its root's route is a neighbour, for that neighbour.
 pub holds-exactly : (base : ℕ) (steps : List Step) (a : List ℕ) → heldFor (history base steps .card) (treeOf a (history base steps .card)) ≡ upstreamOf (history base steps .card) (treeOf a (history base steps .card))
 holds-exactly base steps a = let u = history-upheld base steps in held-named (history base steps .card) _ (u .sound) (u .ruled) a
 
@@ -72,14 +92,6 @@ less-empty : (n l : ℕ) (t : Tree) → isEmpty t ≡ true → isEmpty (lessBran
 unfolding lessBranch
 less-empty n l t e = picked (λ (x : Tree). isEmpty x ≡ true) (eqb (branch t n) l) (λ _. with-branch-empty n t e) (λ _. e)
 
-less-name : (n l : ℕ) (t : Tree) → lessBranch n l t .name ≡ t .name
-unfolding lessBranch withBranch
-less-name n l t = picked (λ (x : Tree). x .name ≡ t .name) (eqb (branch t n) l) (λ _. refl) (λ _. refl)
-
-less-label : (n l : ℕ) (t : Tree) → lessBranch n l t .label ≡ t .label
-unfolding lessBranch withBranch
-less-label n l t = picked (λ (x : Tree). x .label ≡ t .label) (eqb (branch t n) l) (λ _. refl) (λ _. refl)
-
 not-empty-stands : (c : Card) (a : List ℕ) → isEmpty (treeOf a c) ≡ false → stands a c ≡ true
 unfolding stands
 not-empty-stands c a e =
@@ -87,19 +99,13 @@ not-empty-stands c a e =
     (λ k. k)
     (λ k. let z : false ≡ true = sym e ∙ ap isEmpty (not-standing c a (ltb-false _ _ k)) ∙ bare-empty a in cc)
 
-module _ (c : Card) (gs : List Given) (S : Sound c gs) (R : Ruled c) (n : ℕ) (a : List ℕ) (l : ℕ) where
-  rest : Tree
-  rest = lessBranch n l (treeOf a c)
-
-  rest-name : rest .name ≡ a
-  unfolding rest
-  rest-name = less-name n l (treeOf a c) ∙ tree-name a c
-
+-- the tree named a, with less than it had
+module _ (c : Card) (gs : List Given) (S : Sound c gs) (R : Ruled c) (a : List ℕ) (rest : Tree)
+    (named-so : rest .name ≡ a) (labelled-so : rest .label ≡ treeOf a c .label) (less : isEmpty (treeOf a c) ≡ true → isEmpty rest ≡ true) where
   rest-was : isEmpty rest ≡ false → isEmpty (treeOf a c) ≡ false
-  unfolding rest
   rest-was e =
       by-test (isEmpty (treeOf a c))
-      (λ k. let z : true ≡ false = sym (less-empty n l (treeOf a c) k) ∙ e in cc)
+      (λ k. let z : true ≡ false = sym (less k) ∙ e in cc)
       (λ k. k)
 
   -- it needs no label
@@ -108,30 +114,56 @@ module _ (c : Card) (gs : List Given) (S : Sound c gs) (R : Ruled c) (n : ℕ) (
   rest-need =
       by-test (isEmpty rest)
       (λ e. let none : upstreamOf c rest ≡ noRoute = unfold upstreamOf in rw e refl in rw none (picked (λ (k : ℕ). k ≡ 0) (eqb (heldFor c rest) noRoute) (λ _. refl) (λ _. unfold needMove in refl)))
-      (λ e. let same-held : heldFor c rest ≡ heldFor c (treeOf a c) = unfold heldFor rest in rw (less-label n l (treeOf a c)) refl in
-      let same-up : upstreamOf c (treeOf a c) ≡ upstreamOf c rest = unfold upstreamOf in rw (e, rest-was e, rest-name, tree-name a c) refl in
-      rw (eq-eqb (heldFor c rest) (upstreamOf c rest) (same-held ∙ held-named c gs S R a ∙ same-up)) refl)
+      (λ e. let same-up : upstreamOf c (treeOf a c) ≡ upstreamOf c rest = unfold upstreamOf in rw (e, rest-was e, named-so, tree-name a c) refl in
+      rw (eq-eqb (heldFor c rest) (upstreamOf c rest) (same-held c rest (treeOf a c) labelled-so ∙ held-named c gs S R a ∙ same-up)) refl)
 
   -- neither 11 nor 12 applies
-  withdraw-fits : treeRefusal c rest ≡ 0
+  rest-fits : treeRefusal c rest ≡ 0
   unfolding treeRefusal treesFull labelsShort _when_else_
-  withdraw-fits =
+  rest-fits =
       by-test (isEmpty rest)
       (λ e. rw (e, rest-need) (rw (le-ltb (freeLabels c) 0 zero-le) refl))
-      (λ e. rw (e, rest-need, rest-name, not-empty-stands c a (rest-was e)) (rw (le-ltb (freeLabels c) 0 zero-le) refl))
+      (λ e. rw (e, rest-need, named-so, not-empty-stands c a (rest-was e)) (rw (le-ltb (freeLabels c) 0 zero-le) refl))
 
-  answered : (ms : List Sent) × (after : Card) × (onWithdraw c n a l ≡ taken (tell n release a l ∷ ms) after)
-  unfolding onWithdraw become enter rest unless
-  answered =
-      let i : ℕ = treePlace (rest .name) c in
-      let m : Moved = relabel i (upstreamOf c rest) (entered c rest) in
-      (m .sent, swept i (m .card), ap (λ (k : ℕ). unless k (enter c (tell n release a l ∷ []) rest)) withdraw-fits)
+-- After any history neither 11 nor 12 applies to a Withdraw.
+pub withdraw-fits : (base : ℕ) (steps : List Step) (n : ℕ) (a : List ℕ) (l : ℕ) → treeRefusal (history base steps .card) (lessBranch n l (treeOf a (history base steps .card))) ≡ 0
+withdraw-fits base steps n a l =
+    let c = history base steps .card in
+    let u = history-upheld base steps in
+    rest-fits c _ (u .sound) (u .ruled) a (lessBranch n l (treeOf a c)) (less-name n l (treeOf a c) ∙ tree-name a c) (less-label n l (treeOf a c)) (less-empty n l (treeOf a c))
+
+-- Nor to a leave.
+pub leave-fits : (base : ℕ) (steps : List Step) (e : List ℕ) → treeRefusal (history base steps .card) (withLeaf false (treeOf e (history base steps .card))) ≡ 0
+unfolding withLeaf
+leave-fits base steps e =
+    let c = history base steps .card in
+    let u = history-upheld base steps in
+    rest-fits c _ (u .sound) (u .ruled) e (withLeaf false (treeOf e c)) (tree-name e c) refl (leaf-empty (treeOf e c))
+  where
+    leaf-empty : (t : Tree) → isEmpty t ≡ true → isEmpty (withLeaf false t) ≡ true
+    leaf-empty t k = unfold isEmpty withLeaf in rw (both (not (any isBranch (t .branches))) (not (t .leaf)) (unfold isEmpty in k) .0) refl
+
+enter-taken : (c : Card) (first : List Sent) (t : Tree) → (ms : List Sent) × (after : Card) × (enter c first t ≡ taken (first ++ ms) after)
+unfolding enter
+enter-taken c first t =
+    let i : ℕ = treePlace (t .name) c in
+    let m : Moved = relabel i (upstreamOf c t) (entered c t) in
+    (m .sent, swept i (m .card), refl)
 
 -- After any history, a Withdraw that 1 to 9 pass is answered by the Release that it names, whatever stands.
 pub withdraw-answered : (base : ℕ) (steps : List Step) (n : ℕ) (s : List ℕ) → noNeighbour n ≡ false → messageRefusal s ≡ 0 → messageIn s .kind ≡ withdraw
     → (ms : List Sent) × (after : Card) × (outcome (history base steps .card) (receive n s) ≡ taken (tell n release (messageIn s .name) (messageIn s .label) ∷ ms) after)
-unfolding outcome onOctets onMessage unless _when_else_
+unfolding outcome onOctets onMessage onWithdraw become unless _when_else_
 withdraw-answered base steps n s near ok w =
-    let u = history-upheld base steps in
-    let r = answered (history base steps .card) _ (u .sound) (u .ruled) n (messageIn s .name) (messageIn s .label) in
-    (r .0, r .1, rw (near, ok, ne-eqb (messageIn s .kind) mapping (λ k. omega arith), eq-eqb (messageIn s .kind) withdraw w) (r .2))
+    let m : Message = messageIn s in
+    let r = enter-taken (history base steps .card) (tell n release (m .name) (m .label) ∷ []) (lessBranch n (m .label) (treeOf (m .name) (history base steps .card))) in
+    (r .0, r .1, rw (near, ok, ne-eqb (m .kind) mapping (λ k. omega arith), eq-eqb (m .kind) withdraw w, withdraw-fits base steps n (m .name) (m .label)) (r .2))
+
+-- And a leave of a leaf, that 6 and 7 pass, is taken.
+pub leave-answered : (base : ℕ) (steps : List Step) (e : List ℕ) → elementRefusal e ≡ 0 → treeOf e (history base steps .card) .leaf ≡ true
+    → (ms : List Sent) × (after : Card) × (outcome (history base steps .card) (leave e) ≡ taken ms after)
+unfolding outcome onLeave unless _when_else_
+leave-answered base steps e ok l =
+    let leaf : notLeaf (treeOf e (history base steps .card)) ≡ false = unfold notLeaf in ap not l in
+    let r = enter-taken (history base steps .card) [] (withLeaf false (treeOf e (history base steps .card))) in
+    (r .0, r .1, rw (ok, leave-fits base steps e, leaf) (r .2))

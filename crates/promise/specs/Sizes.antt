@@ -1,0 +1,120 @@
+-- The sizes of document 01, after any history: trees, routes, labels, and the octets that are written.
+-- Assumes nothing.
+use Prim.Native.Nat.{ℕ, zero, suc, _+_, _*_, _≤_, zero-le}
+use native.Mathlib.Omega.{arith}
+use mathlib.Core.Path.{_≡_}
+use mathlib.Core.List.{List, [], _∷_, _++_}
+use lib.ListN.{length, length-append}
+use lib.Dec.{eqb}
+use Rattle.meaning.specs.Octets.{two}
+use Rattle.meaning.specs.Wire.{Sent, recordOf, nextId, records}
+use Rattle.meaning.specs.Card.{Card, noRoute, treeLimit, routeLimit, labelCount, treeAt, routeOf}
+use Rattle.meaning.specs.Events.{Outcome, refused, taken, unless, refuse, accept, roomShort, finish, Moved, still, followedBy, giveUp, give, letGo, takeUp, moveLabel, upstream, ofRoot, moveOne, moveFrom, moveAll, routeRefusal, reRoute, onRoute, Event, route, outcome, event}
+use Rattle.meaning.specs.Lists.{by-test, picked}
+use Rattle.meaning.specs.RoundTrip.{AllSendable, Sendable, message-length, name-fits}
+use Rattle.promise.specs.Promise.{Given, noteTaken, Step, sends, history}
+use Rattle.promise.specs.LabelLaws.{Sound}
+use Rattle.promise.specs.RuleLaws.{Ruled}
+use Rattle.promise.specs.EventLaws.{became, names, Keeps, event-keeps}
+use Rattle.promise.specs.PromiseProof.{history-upheld, sends-said}
+
+-- the longest record: of a 16-octet root and the longest opaque value
+abbrev pub recordLimit : ℕ
+recordLimit = 78
+
+unfoldable pub AllShort : List Sent → Type 0
+AllShort [] = Unit {0}
+AllShort (m ∷ ms) = ((id : ℕ) → length (recordOf id m) ≤ recordLimit) × AllShort ms
+
+pub record Sized (c : Card) : Type 0 where
+  pub trees : length (c .trees) ≤ treeLimit
+  pub routes : length (c .routes) ≤ routeLimit
+  pub labels : length (c .labels) ≡ labelCount
+  -- each message that a step sends makes a record of at most 78 octets
+  pub short : (s : Step) → AllShort (sends c s)
+  -- a route order sends at most two messages for each tree: 9984 octets
+  pub order : (room : ℕ) (r : List ℕ) (via : ℕ) → length (event room c (route r via) .octets) ≤ treeLimit * 2 * recordLimit
+
+-- ---- a record
+
+record-short : (id : ℕ) (m : Sent) → Sendable m → length (recordOf id m) ≤ recordLimit
+unfolding recordOf two
+record-short id m g = omega (arith, message-length id (m .message) (g .says), name-fits (m .message .name) (g .says .name))
+
+all-short : (ms : List Sent) → AllSendable ms → AllShort ms
+unfolding AllSendable AllShort
+all-short [] p = tt
+all-short (m ∷ ms) p = ((λ id. record-short id m (p .0)), all-short ms (p .1))
+
+records-short : (id : ℕ) (ms : List Sent) → AllSendable ms → length (records id ms) ≤ length ms * recordLimit
+unfolding records AllSendable
+records-short id [] p = zero-le
+records-short id (m ∷ ms) p = omega (arith, length-append (recordOf id m) (records (nextId id) ms), record-short id m (p .0), records-short (nextId id) ms (p .1))
+
+-- ---- the messages of a route order
+
+let-go-one : (i : ℕ) (c : Card) → length (letGo i c .sent) ≤ 1
+unfolding letGo still giveUp
+let-go-one i c = picked (λ (m : Moved). length (m .sent) ≤ 1) (eqb (treeAt i c .label) 0) (λ _. omega arith) (λ _. omega arith)
+
+take-up-one : (i u : ℕ) (c : Card) → length (takeUp i u c .sent) ≤ 1
+unfolding takeUp still give
+take-up-one i u c = picked (λ (m : Moved). length (m .sent) ≤ 1) (eqb u noRoute) (λ _. omega arith) (λ _. omega arith)
+
+one-two : (r : List ℕ) (u i : ℕ) (c : Card) → length (moveOne r u i c .sent) ≤ 2
+unfolding moveOne moveLabel followedBy still
+one-two r u i c =
+    picked (λ (m : Moved). length (m .sent) ≤ 2) (ofRoot r (treeAt i c))
+    (λ _. omega (arith, length-append (letGo i c .sent) (takeUp i u (letGo i c .card) .sent), let-go-one i c, take-up-one i u (letGo i c .card)))
+    (λ _. omega arith)
+
+from-two : (r : List ℕ) (u n i : ℕ) (c : Card) → length (moveFrom r u n i c .sent) ≤ n * 2
+unfolding moveFrom followedBy still
+from-two r u zero i c = zero-le
+from-two r u (suc n) i c =
+    omega (arith, length-append (moveOne r u i c .sent) (moveFrom r u n (suc i) (moveOne r u i c .card) .sent), one-two r u i c, from-two r u n (suc i) (moveOne r u i c .card))
+
+-- an outcome that sends at most k messages
+unfoldable AtMost : ℕ → Outcome → Type 0
+AtMost k (refused n) = Unit {0}
+AtMost k (taken ms after) = length ms ≤ k
+
+unless-most : (k n : ℕ) (o : Outcome) → AtMost k o → AtMost k (unless n o)
+unfolding unless AtMost
+unless-most k zero o h = h
+unless-most k (suc n) o h = tt
+
+route-most : (c : Card) (r : List ℕ) (via : ℕ) → AtMost (length (c .trees) * 2) (onRoute c r via)
+unfolding onRoute reRoute moveAll
+route-most c r via =
+    unless-most _ _ _ (picked (AtMost (length (c .trees) * 2)) (eqb (routeOf r c) via)
+    (λ _. unfold AtMost in zero-le)
+    (λ _. unless-most _ _ _ (unfold AtMost in from-two r (upstream via) (length (c .trees)) 0 c)))
+
+most-octets : (c : Card) (gs : List Given) (e : Event) (room k : ℕ) (o : Outcome) → AtMost k o → Keeps c (noteTaken e gs) (became e) (names e) o → length (finish room c o .octets) ≤ k * recordLimit
+unfolding finish refuse accept AtMost Keeps
+most-octets c gs e room k (refused n) h g = zero-le
+most-octets c gs e room k (taken ms after) h g =
+    by-test (roomShort room (records (c .next) ms))
+    (λ t. rw t zero-le)
+    (λ t. rw t (omega (arith, records-short (c .next) ms (g .said))))
+
+-- After any history.
+pub sizes-kept : (base : ℕ) (steps : List Step) → Sized (history base steps .card)
+sizes-kept base steps =
+    let p = history base steps in
+    let u = history-upheld base steps in
+    record {
+      trees = u .ruled .trees;
+      routes = u .ruled .routes;
+      labels = u .sound .many;
+      short = λ s. all-short _ (sends-said p s u);
+      order = λ room r via. ordered (p .card) (p .live) (u .sound) (u .ruled) room r via;
+    }
+  where
+    ordered : (c : Card) (gs : List Given) → Sound c gs → Ruled c → (room : ℕ) (r : List ℕ) (via : ℕ) → length (event room c (route r via) .octets) ≤ 9984
+    ordered c gs S R room r via =
+        unfold event outcome in
+        let most = most-octets c gs (route r via) room (length (c .trees) * 2) (onRoute c r via) (route-most c r via) (unfold outcome in event-keeps c gs S (route r via)) in
+        let few = R .trees in
+        omega arith
