@@ -9,7 +9,7 @@ use lib.Seq.{take-append-seam}
 use lib.Dec.{eqb, leb, ltb}
 use borrow.Author.Tests.{eq-eqb, ne-eqb, eqb-true, le-leb, lt-leb, leb-true, leb-false, le-ltb, lt-ltb, ltb-true, ltb-false}
 use Rattle.meaning.specs.Octets.{pick, place, _when_else_}
-use Rattle.meaning.specs.Lists.{by-test, picked, getD-out}
+use Rattle.meaning.specs.Lists.{positive, by-test, picked, getD-out}
 use Rattle.meaning.specs.Wire.{Message, mapping, withdraw, release, messageIn, messageRefusal, elementRefusal}
 use Rattle.meaning.specs.RoundTrip.{Heard, heard, name-fits}
 use Rattle.meaning.specs.Card.{Card, Tree, Use, free, mapped, awaiting, Feed, noRoute, fresh, withNext, bare, treePlace, treeAt, isBranch, mappedTo, useOf, nothing, branchesFrom, feedOf, carries, carrier, feedOfUse, lookupLabel, lookupName}
@@ -113,10 +113,6 @@ module _ (c : Card) (e : List ℕ) where
   pub join-refused : (k : ℕ) (t : List ℕ) → k ≡ elementRefusal e → (k ≡ 0 → ⊥) → Does (event (length t) c (join e)) k 0 t t c
   unfolding event outcome onJoin
   join-refused k t q h = rw (← q, unless-refused k _ (positive k h)) (does-refused c k t)
-    where
-      positive : (k : ℕ) → (k ≡ 0 → ⊥) → 0 < k
-      positive zero h = absurd (h refl)
-      positive (suc k) h = omega arith
 
   pub join-is : elementRefusal e ≡ 0 → (room : ℕ) → finish room c (joinOf c e) ≡ event room c (join e)
   unfolding event outcome onJoin joinOf
@@ -125,10 +121,6 @@ module _ (c : Card) (e : List ℕ) where
   pub leave-refused : (k : ℕ) (t : List ℕ) → k ≡ elementRefusal e → (k ≡ 0 → ⊥) → Does (event (length t) c (leave e)) k 0 t t c
   unfolding event outcome onLeave
   leave-refused k t q h = rw (← q, unless-refused k _ (positive k h)) (does-refused c k t)
-    where
-      positive : (k : ℕ) → (k ≡ 0 → ⊥) → 0 < k
-      positive zero h = absurd (h refl)
-      positive (suc k) h = omega arith
 
   pub leave-is : elementRefusal e ≡ 0 → (room : ℕ) → finish room c (leaveOf c e) ≡ event room c (leave e)
   unfolding event outcome onLeave leaveOf

@@ -1,7 +1,7 @@
 -- What a call of the card's code does: its answer, its output and the whole table, against the definitions.
 -- Assumes nothing.
 use Prim.Native.Nat.{ℕ}
-use mathlib.Core.Path.{_≡_, sym, ap, _∙_}
+use mathlib.Core.Path.{_≡_, sym, _∙_}
 use mathlib.Core.List.{List, _++_}
 use lib.ListN.{drop, length}
 use Rattle.meaning.specs.Card.{Card}

@@ -3,11 +3,11 @@
 use Prim.Native.Nat.{ℕ, zero, suc, _+_, _-_}
 use mathlib.Core.Bool.{Bool, true, false, not, _&&_, _||_}
 use mathlib.Core.List.{List, [], _∷_, _++_}
-use lib.ListN.{take, drop, getD, length, set}
+use lib.ListN.{getD, length, set}
 use lib.Dec.{eqb, leb, ltb}
-use Rattle.meaning.specs.Octets.{pick, place, count, any, same, put, cut, _when_else_}
+use Rattle.meaning.specs.Octets.{pick, same, put, cut, _when_else_}
 use Rattle.meaning.specs.Wire.{rootIn, elementRefusal, Message, messageIn, messageRefusal, mapping, withdraw, release, Sent, records, idsAfter}
-use Rattle.meaning.specs.Card.{thisNode, noRoute, Route, Tree, Use, free, mapped, awaiting, Card, fresh, withNext, withRoutes, withTrees, withLabels, withBranch, withLeaf, withLabel, routePlace, routeOf, treePlace, treeOf, treeAt, stands, isEmpty, isFree, isAwaiting, useOf, heldFor, lowestFree, freeLabels, treeLimit, routeLimit}
+use Rattle.meaning.specs.Card.{noRoute, Route, Tree, Use, free, mapped, awaiting, Card, fresh, withNext, withRoutes, withTrees, withLabels, withBranch, withLeaf, withLabel, routePlace, routeOf, treePlace, treeOf, treeAt, stands, isEmpty, isAwaiting, useOf, heldFor, lowestFree, freeLabels, treeLimit, routeLimit}
 
 -- ---- what an event hands back
 

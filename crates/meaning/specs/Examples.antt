@@ -8,7 +8,7 @@ use lib.Dec.{eqb}
 use Rattle.meaning.specs.Octets.{pick, same}
 use Rattle.meaning.specs.Wire.{rootIn, element, mapping, withdraw, release, octetsOf, recordOf}
 use Rattle.meaning.specs.Card.{Card, freeLabels, Branch, Feed, lookupLabel}
-use Rattle.meaning.specs.Events.{Out, tell, Event, receive, join, leave, route, event, start}
+use Rattle.meaning.specs.Events.{Out, tell, Event, receive, route, event, start}
 use Rattle.meaning.specs.Computing.{computing}
 
 -- ---- a row

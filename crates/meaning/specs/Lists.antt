@@ -1,15 +1,15 @@
 -- Laws of searches, counts and stores in lists, and of tests.
 -- Assumes nothing.
-use Prim.Native.Nat.{ℕ, zero, suc, _+_, _-_, _≤_, _<_, suc-le-suc, zero-le}
+use Prim.Native.Nat.{ℕ, zero, suc, _≤_, _<_, suc-le-suc}
 use native.Mathlib.Nat.{le-of-suc-le-suc, not-suc-le-zero, le-refl, le-trans}
 use native.Mathlib.Omega.{arith}
-use mathlib.Core.Path.{_≡_, refl, sym, ap, ap₂, _∙_, subst}
-use mathlib.Core.Bool.{Bool, true, false, not, _&&_, _||_}
-use mathlib.Core.List.{List, [], _∷_, _++_, map}
-use lib.ListN.{take, drop, getD, length, set, length-set, List·getD-eq-default}
-use lib.Dec.{T, eqb, leb, ltb}
-use borrow.Author.Tests.{eqb-true, eqb-false, ltb-true, ltb-false, eq-eqb, ne-eqb}
-use Rattle.meaning.specs.Octets.{pick, place, count, any, same, put, cut, _when_else_}
+use mathlib.Core.Path.{_≡_, refl, sym, ap, ap₂, _∙_}
+use mathlib.Core.Bool.{Bool, true, false}
+use mathlib.Core.List.{List, [], _∷_, _++_}
+use lib.ListN.{getD, length, set, List·getD-eq-default}
+use lib.Dec.{eqb}
+use borrow.Author.Tests.{eqb-true, eq-eqb}
+use Rattle.meaning.specs.Octets.{pick, place, count, same, put, cut, _when_else_}
 
 -- a test, with what it tells
 pub by-test {ℓ} : {X : Type ℓ} (b : Bool) → (b ≡ true → X) → (b ≡ false → X) → X
@@ -185,3 +185,11 @@ unfolding count
 count-new t [] i x d h p q = absurd (not-suc-le-zero q)
 count-new t (y ∷ l) zero x d h p q = rw (h, p) refl
 count-new t (y ∷ l) (suc i) x d h p q = by-test (t y) (λ e. rw (e, count-new t l i x d h p (le-of-suc-le-suc q)) refl) (λ e. rw (e, count-new t l i x d h p (le-of-suc-le-suc q)) refl)
+
+pub positive : (k : ℕ) → (k ≡ 0 → ⊥) → 0 < k
+positive zero h = absurd (h refl)
+positive (suc k) h = omega arith
+
+pub append-nil {ℓ} : {A : Type ℓ} (l : List A) → l ++ [] ≡ l
+append-nil [] = refl
+append-nil (x ∷ l) = ap (_∷_ x) (append-nil l)

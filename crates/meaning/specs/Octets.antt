@@ -1,9 +1,9 @@
 -- Searches in lists, tests of equality, and numbers as octets: what the other modules are made of.
 -- Assumes nothing.
-use Prim.Native.Nat.{ℕ, zero, suc, _+_, _*_, _/_, _%_}
-use mathlib.Core.Bool.{Bool, true, false, cond, _&&_}
+use Prim.Native.Nat.{ℕ, suc, _+_, _*_, _/_, _%_}
+use mathlib.Core.Bool.{Bool, true, false}
 use mathlib.Core.List.{List, [], _∷_, _++_}
-use lib.ListN.{take, drop, getD, length}
+use lib.ListN.{take, drop, getD}
 use lib.Dec.{eqb}
 
 -- one of two; with `let`-bound or folded branches, the one not taken is not computed

@@ -1,19 +1,17 @@
 -- What a refusal is: the number given is that of the first test that applies, where the tests stand by rising number (in a route order: 1, 6, 15, 12, 16);
 -- and a refusal gives back the card it got, and no octet. Assumes nothing.
-use Prim.Native.Nat.{ℕ, zero, suc, _<_, zero-le}
-use native.Mathlib.Nat.{not-suc-le-zero}
-use native.Mathlib.Omega.{arith}
-use mathlib.Core.Path.{_≡_, refl, sym, ap, _∙_}
+use Prim.Native.Nat.{ℕ, suc, zero-le}
+use mathlib.Core.Path.{_≡_, refl, ap, _∙_}
 use mathlib.Core.Bool.{Bool, true, false, not, _&&_}
 use mathlib.Core.List.{List, [], _∷_, _++_}
 use lib.ListN.{drop}
-use lib.Dec.{T, eqb, ltb}
-use borrow.Author.Tests.{eq-eqb, ne-eqb, eqb-true, le-ltb}
+use lib.Dec.{eqb, ltb}
+use borrow.Author.Tests.{le-ltb}
 use Rattle.meaning.specs.Octets.{pick, any, twoAt, _when_else_}
-use Rattle.meaning.specs.Lists.{by-test, picked}
+use Rattle.meaning.specs.Lists.{by-test}
 use Rattle.meaning.specs.Wire.{isElement, isOpaque, opaqueIn, elementRefusal, isOverrun, tlvs, mapping, withdraw, release, Message, bodyOf, fecOf, labelOf, must, isSized, isKind, isOrdered, isLabel, messageRefusal, messageIn, Sent, records}
 use Rattle.meaning.specs.Card.{Tree, Card, withBranch, withLeaf, treeOf, routeOf}
-use Rattle.meaning.specs.Events.{Out, Outcome, refused, taken, unless, refuse, accept, roomShort, finish, Moved, tell, labelsShort, need, upstream, upstreamOf, treesFull, treeRefusal, enter, become, otherLabel, onMapping, lessBranch, onWithdraw, notAwaited, onRelease, onMessage, noNeighbour, onOctets, onJoin, notLeaf, onLeave, needAll, notRoute, notRoot, routesFull, routeRefusal, reRoute, onRoute, Event, receive, join, leave, route, outcome, event}
+use Rattle.meaning.specs.Events.{Out, Outcome, refused, taken, unless, refuse, accept, roomShort, finish, tell, labelsShort, need, upstream, upstreamOf, treesFull, treeRefusal, enter, become, otherLabel, onMapping, lessBranch, onWithdraw, notAwaited, onRelease, onMessage, noNeighbour, onOctets, onJoin, notLeaf, onLeave, needAll, notRoute, notRoot, routesFull, routeRefusal, reRoute, onRoute, Event, receive, join, leave, route, outcome, event}
 
 -- a refusal's number, and whether its test applies
 pub record Test : Type 0 where

@@ -1,20 +1,20 @@
 -- A name is its family, root and opaque value; and what is written is read back.
 -- Assumes nothing.
-use Prim.Native.Nat.{ℕ, zero, suc, _+_, _-_, _*_, _/_, _%_, _≤_, _<_}
-use native.Mathlib.Nat.{add-assoc, not-suc-le-zero, le-trans}
+use Prim.Native.Nat.{ℕ, zero, suc, _+_, _*_, _/_, _%_, _≤_, _<_}
+use native.Mathlib.Nat.{not-suc-le-zero}
 use native.Mathlib.Omega.{arith}
 use mathlib.Core.Logic.{_↔_}
-use mathlib.Core.Path.{_≡_, refl, sym, ap, ap₂, _∙_, subst}
-use mathlib.Core.Bool.{Bool, true, false, not, _&&_, _||_}
-use mathlib.Core.List.{List, [], _∷_, _++_, append-assoc}
+use mathlib.Core.Path.{_≡_, refl, sym, ap, ap₂, _∙_}
+use mathlib.Core.Bool.{Bool, true, false, not, _&&_}
+use mathlib.Core.List.{List, [], _∷_, _++_}
 use lib.ListN.{take, drop, getD, length, length-append, length-drop, length-take}
 use lib.Seq.{drop-cons, drop-drop, take-append-seam, drop-append-seam}
-use lib.Dec.{eqb, leb, ltb}
-use borrow.Author.Tests.{eqb-true, eqb-false, ltb-true, leb-true, eq-eqb, ne-eqb, le-leb, not-false}
-use Rattle.meaning.specs.Octets.{pick, any, two, four, twoAt, fourAt, _when_else_}
-use Rattle.meaning.specs.Wire.{addressLength, familyIn, rootLength, opaqueLength, rootIn, opaqueIn, isElement, opaqueLimit, isOpaque, elementRefusal, element, Tlv, Framed, framed, after, tlvs, tlv, Message, isKind, isSized, isLabel, isOrdered, isOverrun, must, messageIn, octetsOf, messageRefusal, fecOf, labelOf, bodyOf, found, Sent, recordOf, records, nextId, recordsF, recordsIn}
+use lib.Dec.{eqb, leb}
+use borrow.Author.Tests.{eqb-true, ltb-true, leb-true, eq-eqb, ne-eqb, le-leb, not-false}
+use Rattle.meaning.specs.Octets.{any, two, four, twoAt, fourAt, _when_else_}
+use Rattle.meaning.specs.Wire.{addressLength, familyIn, rootLength, opaqueLength, rootIn, opaqueIn, isElement, opaqueLimit, isOpaque, elementRefusal, element, framed, after, tlvs, tlv, Message, isKind, isSized, isLabel, isOrdered, isOverrun, messageIn, octetsOf, messageRefusal, fecOf, labelOf, bodyOf, found, Sent, recordOf, records, nextId, recordsF}
 use Rattle.meaning.specs.WireLaws.{tlvs-end, tlvs-step, element-0}
-use Rattle.meaning.specs.Lists.{by-test, picked, no-when}
+use Rattle.meaning.specs.Lists.{by-test, no-when}
 
 pub both : (a b : Bool) → (a && b) ≡ true → (a ≡ true) × (b ≡ true)
 both true true e = (refl, refl)

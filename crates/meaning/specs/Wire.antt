@@ -1,12 +1,12 @@
 -- What goes over the wire: RFC 5036's messages and TLVs, RFC 6388's P2MP FEC element, read and written.
 -- A message is read into three things, or refused by the lowest number, of 2 to 9, that applies.
 -- Assumes nothing.
-use Prim.Native.Nat.{ℕ, zero, suc, _+_, _-_, _*_, _%_}
+use Prim.Native.Nat.{ℕ, zero, suc, _+_, _*_, _%_}
 use mathlib.Core.Bool.{Bool, true, false, not, _&&_, _||_}
 use mathlib.Core.List.{List, [], _∷_, _++_}
 use lib.ListN.{take, drop, getD, length}
 use lib.Dec.{eqb, leb, ltb}
-use Rattle.meaning.specs.Octets.{pick, any, same, two, four, twoAt, fourAt, _when_else_}
+use Rattle.meaning.specs.Octets.{pick, any, two, four, twoAt, fourAt, _when_else_}
 
 -- ---- names
 

@@ -1,16 +1,16 @@
 -- Laws of the wire's definitions: the equations of `tlvs` that a reader expects, with no count in them.
 -- Assumes nothing.
-use Prim.Native.Nat.{ℕ, zero, suc, _+_, _-_, _*_, _≤_, _<_}
-use native.Mathlib.Nat.{not-suc-le-zero, le-of-eq, sub-le}
+use Prim.Native.Nat.{ℕ, zero, suc, _+_, _*_, _≤_, _<_}
+use native.Mathlib.Nat.{not-suc-le-zero}
 use native.Mathlib.Omega.{arith}
 use mathlib.Core.Path.{_≡_, refl, _∙_}
-use mathlib.Core.Bool.{Bool, true, false, not, _&&_, and-false, false-and}
-use mathlib.Core.List.{List, [], _∷_, _++_}
+use mathlib.Core.Bool.{true, false, and-false, false-and}
+use mathlib.Core.List.{List, [], _∷_}
 use lib.ListN.{take, drop, getD, length, length-drop}
-use lib.Dec.{leb, ltb, eqb}
-use borrow.Author.Tests.{eq-eqb, ne-eqb, lt-leb, le-leb, lt-ltb, le-ltb}
-use Rattle.meaning.specs.Octets.{pick, twoAt, _when_else_}
-use Rattle.meaning.specs.Wire.{Tlv, Framed, framed, overrun, after, tlvsF, tlvs, rootLength, opaqueLength, rootIn, opaqueIn, isElement, isOpaque, elementRefusal}
+use lib.Dec.{leb}
+use borrow.Author.Tests.{eq-eqb, ne-eqb, lt-leb, le-leb, lt-ltb}
+use Rattle.meaning.specs.Octets.{pick, _when_else_}
+use Rattle.meaning.specs.Wire.{framed, overrun, after, tlvsF, tlvs, rootLength, opaqueLength, opaqueIn, isElement, isOpaque, elementRefusal}
 
 -- any count above the length gives the same
 tlvs-same : (f g : ℕ) (s : List ℕ) → length s < f → length s < g → tlvsF f s ≡ tlvsF g s

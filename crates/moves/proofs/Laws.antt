@@ -8,7 +8,7 @@ use lib.ListN.{getD, length, length-set, length-append}
 use lib.Seq.{getD-set-same}
 use lib.Dec.{eqb}
 use Rattle.meaning.specs.Octets.{pick, place, two, four}
-use Rattle.meaning.specs.Lists.{by-test, picked}
+use Rattle.meaning.specs.Lists.{append-nil, by-test, picked}
 use Rattle.meaning.specs.Wire.{tlv, octetsOf, Sent, recordOf, nextId, records, idsAfter}
 use Rattle.meaning.specs.Card.{Tree, Card, Use, noRoute, withTrees, withLabels, withLabel, bare, treeAt, isEmpty, heldFor}
 use Rattle.meaning.specs.Events.{Moved, still, followedBy, setUse, setLabel, giveUp, give, letGo, takeUp, moveLabel, relabel, needMove}
@@ -35,10 +35,6 @@ record-size id m = simp length-append (omega arith)
 pub records-one : (id : ℕ) (m : Sent) → records id (m ∷ []) ≡ recordOf id m
 unfolding records
 records-one id m = append-nil (recordOf id m)
-  where
-    append-nil : (l : List ℕ) → l ++ [] ≡ l
-    append-nil [] = refl
-    append-nil (x ∷ l) = ap (λ (t : List ℕ). x ∷ t) (append-nil l)
 
 -- nothing was written
 pub wrote-nothing : (c : Card) (id at : ℕ) (s : List ℕ) → Wrote (still c) id at s s c at id

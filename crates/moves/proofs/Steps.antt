@@ -8,7 +8,7 @@ use lib.ListN.{getD, length}
 use lib.Dec.{eqb, ltb}
 use borrow.Author.Tests.{eqb-true, eqb-false, eq-eqb, ne-eqb, le-leb, lt-ltb, le-ltb}
 use Rattle.meaning.specs.Octets.{place}
-use Rattle.meaning.specs.Lists.{by-test, place-count}
+use Rattle.meaning.specs.Lists.{positive, by-test, place-count}
 use Rattle.meaning.specs.Wire.{recordOf, nextId, records, idsAfter}
 use Rattle.meaning.specs.Card.{Tree, Card, Use, free, mapped, treeAt, withLabels, isFree, useOf, heldFor, freeLabels, lowestFree}
 use Rattle.meaning.specs.Events.{still, tell, setUse, setLabel, ended, giveUp, give, letGo, takeUp, moveLabel, relabel, needMove, need, labelsShort, upstream}
@@ -208,10 +208,6 @@ short-one c n f e k =
     by-test (eqb f 0)
     (λ t. rw (t, lt-ltb (freeLabels c) n (omega (arith, eqb-true f 0 t))) refl)
     (λ t. rw (t, le-ltb (freeLabels c) n (omega (arith, positive f (eqb-false f 0 t)))) refl)
-  where
-    positive : (m : ℕ) → (m ≡ 0 → ⊥) → 1 ≤ m
-    positive zero ne = absurd (ne refl)
-    positive (suc m) ne = omega arith
 
 -- ---- upstream
 

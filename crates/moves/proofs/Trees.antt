@@ -9,7 +9,7 @@ use lib.ListN.{getD, length}
 use lib.Seq.{getD-set-other}
 use lib.Dec.{eqb}
 use Rattle.meaning.specs.Octets.{place}
-use Rattle.meaning.specs.Lists.{by-test, picked, count-set, count-set-place}
+use Rattle.meaning.specs.Lists.{append-nil, by-test, picked, count-set, count-set-place}
 use Rattle.meaning.specs.Wire.{Sent, records}
 use Rattle.meaning.specs.Card.{Tree, Card, Use, free, mapped, awaiting, withTrees, withLabels, bare, treeAt, isFree, useOf, freeLabels, lowestFree, noRoute}
 use Rattle.meaning.specs.Events.{Moved, still, followedBy, setUse, setLabel, ended, giveUp, give, letGo, takeUp, moveLabel, ofRoot, moveOne, moveFrom, sumFrom}
@@ -84,10 +84,6 @@ then-then m f g = moved-ext _ _ _ (append-assoc (m .sent) (f (m .card) .sent) _)
 then-still : (m : Moved) → followedBy m still ≡ m
 unfolding followedBy still
 then-still m = moved-ext _ _ _ (append-nil (m .sent))
-  where
-    append-nil : (l : List Sent) → l ++ [] ≡ l
-    append-nil [] = refl
-    append-nil (x ∷ l) = ap (λ (k : List Sent). x ∷ k) (append-nil l)
 
 then-same : (m : Moved) (f g : Card → Moved) → f (m .card) ≡ g (m .card) → followedBy m f ≡ followedBy m g
 unfolding followedBy

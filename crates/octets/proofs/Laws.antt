@@ -11,14 +11,10 @@ use mathlib.Core.Bool.{Bool, true, false}
 use lib.Dec.{eqb}
 use borrow.Author.Tests.{eq-eqb, ne-eqb}
 use Rattle.meaning.specs.Octets.{pick, same}
-use Rattle.meaning.specs.Lists.{by-test}
+use Rattle.meaning.specs.Lists.{by-test, append-nil}
 use Rattle.octets.specs.Part.{mid, shifted}
 
 module _ {ℓ} {A : Type ℓ} where
-  append-nil : (l : List A) → l ++ [] ≡ l
-  append-nil [] = refl
-  append-nil (x ∷ l) = ap (λ (t : List A). x ∷ t) (append-nil l)
-
   -- every element set, one after the other
   pub sets-all : (vs l : List A) → length l ≡ length vs → sets l 0 vs ≡ vs
   sets-all vs l e = sets-eq vs l 0 (omega arith) ∙ rw (drop-of-length-le l {i = 0 + length vs} (omega arith)) (append-nil vs)

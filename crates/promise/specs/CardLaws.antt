@@ -1,20 +1,20 @@
 -- What the stores of `Events` do to the table, read back: uses by label, trees by name.
 -- Assumes nothing.
-use Prim.Native.Nat.{ℕ, zero, suc, _+_, _-_, _≤_, _<_, suc-le-suc, zero-le}
-use native.Mathlib.Nat.{le-of-suc-le-suc, not-suc-le-zero, le-refl, le-trans, add-sub-cancel-left}
+use Prim.Native.Nat.{ℕ, zero, suc, _+_, _-_, _≤_, _<_, suc-le-suc}
+use native.Mathlib.Nat.{le-of-suc-le-suc, not-suc-le-zero, le-trans, add-sub-cancel-left}
 use native.Mathlib.Omega.{arith}
 use mathlib.Core.Path.{_≡_, refl, sym, ap, ap₂, _∙_, subst}
-use mathlib.Core.Bool.{Bool, true, false, not, _&&_, _||_}
-use mathlib.Core.List.{List, [], _∷_, _++_}
-use lib.ListN.{take, drop, getD, length, set, length-set, replicate}
+use mathlib.Core.Bool.{Bool, true, false}
+use mathlib.Core.List.{List, [], _∷_}
+use lib.ListN.{getD, length, set, replicate}
 use lib.Seq.{set-split, getD-set-same, getD-set-other}
 use lib.Dec.{eqb, leb, ltb}
-use borrow.Author.Tests.{eqb-true, eqb-false, eq-eqb, ne-eqb, ltb-true, ltb-false, leb-true, leb-false, le-leb, not-true}
+use borrow.Author.Tests.{eqb-true, eqb-false, ltb-true, ltb-false, leb-true, le-leb, not-true}
 use Rattle.meaning.specs.Octets.{pick, place, count, any, same, put, cut}
 use Rattle.meaning.specs.Wire.{elementRefusal}
-use Rattle.meaning.specs.Card.{Tree, Use, free, mapped, awaiting, Card, withTrees, withLabels, withLabel, named, bare, treePlace, treeOf, treeAt, isBranch, isEmpty, isFree, useOf, lowestFree, freeLabels}
+use Rattle.meaning.specs.Card.{Tree, Use, free, Card, withTrees, withLabels, withLabel, named, bare, treePlace, treeOf, treeAt, isBranch, isEmpty, isFree, useOf, lowestFree, freeLabels}
 use Rattle.meaning.specs.Events.{setUse, setLabel, entered, swept}
-use Rattle.meaning.specs.Lists.{getD-same, by-test, picked, place-finds, place-count, getD-out, same-eq, same-refl, same-no, count-set, found-put, found-cut, count-put, count-cut, other-put, other-cut, count-other-put, place-only}
+use Rattle.meaning.specs.Lists.{getD-same, by-test, picked, place-finds, place-count, getD-out, same-eq, same-refl, found-put, found-cut, count-put, count-cut, other-put, other-cut, count-other-put, place-only}
 use Rattle.promise.specs.LiveLaws.{free-eq, upd}
 
 -- ---- uses

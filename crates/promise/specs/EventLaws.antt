@@ -1,26 +1,24 @@
 -- Every event keeps the table sound, and makes of each tree what it says.
 -- Assumes nothing.
-use Prim.Native.Nat.{ℕ, zero, suc, _+_, _-_, _≤_, _<_, suc-le-suc, zero-le}
-use native.Mathlib.Nat.{le-of-suc-le-suc, not-suc-le-zero, le-refl, le-trans}
+use Prim.Native.Nat.{ℕ, zero, suc, _-_, _≤_, _<_, suc-le-suc}
 use native.Mathlib.Omega.{arith}
 use mathlib.Core.Path.{_≡_, refl, sym, ap, ap₂, _∙_, subst}
-use mathlib.Core.Bool.{Bool, true, false, not, _&&_, _||_}
+use mathlib.Core.Bool.{Bool, true, false}
 use mathlib.Core.List.{List, [], _∷_, _++_}
-use lib.ListN.{take, drop, getD, length, set, length-set, replicate}
-use lib.Dec.{eqb, leb, ltb}
-use borrow.Author.Tests.{eqb-true, eqb-false, eq-eqb, ne-eqb, ltb-true, ltb-false, leb-true, leb-false, not-true, not-false}
-use Rattle.meaning.specs.Octets.{pick, place, count, any, same, put, cut, fourAt, _when_else_}
-use Rattle.meaning.specs.Wire.{Tlv, fecOf, labelOf, isLabel, isKind, mapping, withdraw, release, Message, messageIn, messageRefusal, elementRefusal, Sent}
-use Rattle.meaning.specs.Card.{Tree, Use, free, mapped, awaiting, Card, noRoute, withRoutes, withTrees, withLabels, withBranch, withLeaf, withLabel, treeLimit, named, bare, treePlace, treeOf, treeAt, stands, isEmpty, isFree, isAwaiting, mappedTo, useOf, heldFor, freeLabels, routeOf}
+use lib.ListN.{getD, length, length-set}
+use lib.Dec.{eqb, ltb}
+use borrow.Author.Tests.{eqb-true, eqb-false, eq-eqb, ne-eqb, ltb-true, ltb-false, leb-false, not-false}
+use Rattle.meaning.specs.Octets.{pick, place, same, put}
+use Rattle.meaning.specs.Wire.{isKind, mapping, withdraw, release, Message, messageIn, elementRefusal, Sent}
+use Rattle.meaning.specs.Card.{Tree, Use, free, mapped, awaiting, Card, noRoute, withRoutes, withTrees, withLabels, withBranch, withLeaf, treeLimit, named, bare, treePlace, treeOf, treeAt, stands, isEmpty, isFree, isAwaiting, mappedTo, useOf, heldFor, freeLabels, routeOf}
 use Rattle.meaning.specs.Events.{Outcome, refused, taken, unless, Moved, tell, setUse, relabel, need, labelsShort, upstream, upstreamOf, entered, swept, treesFull, treeRefusal, enter, become, branch, onMapping, lessBranch, onWithdraw, notAwaited, onRelease, onMessage, noNeighbour, onOctets, onJoin, onLeave, moveAll, needAll, routesWith, routeRefusal, reRoute, onRoute, Event, receive, join, leave, route, outcome}
 use Rattle.promise.specs.Promise.{Given, remove, noteSent, noteAll, noteTaken, NoneLive}
-use Rattle.meaning.specs.Lists.{by-test, picked, same-eq, same-refl, same-no, count-set, count-new, no-when}
-use Rattle.meaning.specs.WireLaws.{element-0}
-use Rattle.meaning.specs.RoundTrip.{Heard, heard, both, AllSendable, Sendable, Sayable, sendable-append}
-use Rattle.promise.specs.LiveLaws.{Linked, linked-eq, upd, free-linked, Books, books-eq, books-remove, books-removed}
-use Rattle.promise.specs.CardLaws.{use-after, in-block, shape, Proper, Tidy, tree-name, tree-sized, entered-is, entered-tidy, put-within, at-named, swept-is, swept-tidy, swept-use, swept-labels, swept-base, swept-routes}
+use Rattle.meaning.specs.Lists.{by-test, picked, same-eq, count-new, no-when}
+use Rattle.meaning.specs.RoundTrip.{Heard, heard, AllSendable, sendable-append}
+use Rattle.promise.specs.LiveLaws.{linked-eq, upd, free-linked, books-eq, books-remove, books-removed}
+use Rattle.promise.specs.CardLaws.{use-after, in-block, shape, Proper, tree-name, tree-sized, entered-is, entered-tidy, put-within, swept-is, swept-tidy, swept-use, swept-labels, swept-base, swept-routes}
 use Rattle.promise.specs.RuleLaws.{Ruled, shape-empty, upstream-same, route-ruled, put-in, put-more, cut-in, put-other-at, swept-at}
-use Rattle.promise.specs.LabelLaws.{at-other, held-other, relabel-own, Sound, Fine, relabel-fine, relabel-none, none-append, note-append, shape-name, Kept, all-kept, use-place}
+use Rattle.promise.specs.LabelLaws.{at-other, held-other, relabel-own, Sound, Fine, relabel-fine, relabel-none, none-append, note-append, Kept, all-kept, use-place}
 
 -- ---- what an event that is taken makes of the tree named a
 
@@ -175,11 +173,8 @@ module _ (c : Card) (gs : List Given) (S : Sound c gs) (a : List ℕ) (good : el
     bare-label : isEmpty (treeAt its-place (relabelled .card)) ≡ true → treeAt its-place (relabelled .card) .label ≡ 0
     unfolding upstreamOf relabelled
     bare-label e =
-        let empty : isEmpty its ≡ true = sym (same-empty _ _ (fine .at its-place ∙ ap shape its-at)) ∙ e in
+        let empty : isEmpty its ≡ true = sym (shape-empty _ _ (fine .at its-place ∙ ap shape its-at)) ∙ e in
         relabel-none (entered c its) gs entered-sound its-place its-within (upstreamOf c its) (with-near c its) entered-enough (rw empty refl)
-      where
-        same-empty : (t s : Tree) → shape t ≡ shape s → isEmpty t ≡ isEmpty s
-        same-empty t s e = unfold isEmpty shape withLabel in ap (λ (x : Tree). isEmpty x) e
 
     within-after : its-place < length (relabelled .card .trees)
     within-after = rw (fine .size) its-within

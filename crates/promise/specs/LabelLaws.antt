@@ -1,22 +1,22 @@
 -- THE RULE OF LABELS keeps the table sound, and the live labels with it.
 -- Assumes nothing.
-use Prim.Native.Nat.{ℕ, zero, suc, _+_, _-_, _≤_, _<_, suc-le-suc, zero-le}
-use native.Mathlib.Nat.{le-of-suc-le-suc, not-suc-le-zero, le-refl, le-trans, add-sub-cancel-left}
+use Prim.Native.Nat.{ℕ, zero, suc, _+_, _-_, _≤_, _<_}
+use native.Mathlib.Nat.{le-refl, add-sub-cancel-left}
 use native.Mathlib.Omega.{arith}
 use mathlib.Core.Path.{_≡_, refl, sym, ap, ap₂, _∙_, subst}
-use mathlib.Core.Bool.{Bool, true, false, not, _&&_, _||_, or-true}
+use mathlib.Core.Bool.{true, false}
 use mathlib.Core.List.{List, [], _∷_, _++_}
-use lib.ListN.{take, drop, getD, length, set, length-set, replicate}
-use lib.Dec.{eqb, leb, ltb}
-use borrow.Author.Tests.{eqb-true, eqb-false, eq-eqb, ne-eqb, ltb-true, ltb-false, le-leb, lt-leb}
-use Rattle.meaning.specs.Octets.{pick, place, count, any, same, put, cut}
-use Rattle.meaning.specs.Wire.{elementRefusal, isKind, mapping, withdraw, release, Message, Sent}
-use Rattle.meaning.specs.Card.{Tree, Use, free, mapped, awaiting, Card, noRoute, withTrees, withLabels, withLabel, named, bare, treePlace, treeOf, treeAt, isEmpty, isFree, mappedTo, useOf, heldFor, lowestFree, freeLabels}
-use Rattle.meaning.specs.Events.{Moved, still, followedBy, tell, setUse, setLabel, ended, giveUp, give, letGo, takeUp, moveLabel, relabel, needMove, need, ofRoot, moveOne, moveFrom, moveAll, needOne, sumFrom, needAll}
-use Rattle.promise.specs.Promise.{Given, ofLabel, mark, noteSent, noteAll, NoneLive}
-use Rattle.meaning.specs.Lists.{by-test, picked, same-eq, same-refl, same-no, count-set, count-set-place}
-use Rattle.meaning.specs.RoundTrip.{AllSendable, Sendable, Sayable, sendable-append}
-use Rattle.promise.specs.LiveLaws.{isMapped, stray, mapped-near, mapped-eq, mapped-not-free, stray-not, Linked, linked-eq, upd, carry, up-linked, give-linked, up-keeps, give-keeps, Books, books-eq, books-free, books-give, books-mark, mark-length}
+use lib.ListN.{getD, length, length-set}
+use lib.Dec.{eqb}
+use borrow.Author.Tests.{eqb-true, eqb-false, eq-eqb, le-leb, lt-leb}
+use Rattle.meaning.specs.Octets.{pick, place, same}
+use Rattle.meaning.specs.Wire.{elementRefusal, isKind, withdraw, Sent}
+use Rattle.meaning.specs.Card.{Tree, Use, free, mapped, awaiting, Card, noRoute, withTrees, withLabels, withLabel, treePlace, treeOf, treeAt, isFree, mappedTo, useOf, heldFor, lowestFree, freeLabels}
+use Rattle.meaning.specs.Events.{Moved, still, followedBy, setUse, setLabel, ended, giveUp, give, letGo, takeUp, moveLabel, relabel, needMove, need, ofRoot, moveOne, moveFrom, moveAll, needOne, sumFrom, needAll}
+use Rattle.promise.specs.Promise.{Given, noteSent, noteAll, NoneLive}
+use Rattle.meaning.specs.Lists.{by-test, picked, same-eq, count-set, count-set-place}
+use Rattle.meaning.specs.RoundTrip.{AllSendable, sendable-append}
+use Rattle.promise.specs.LiveLaws.{isMapped, mapped-near, mapped-eq, stray-not, Linked, linked-eq, upd, carry, up-linked, give-linked, up-keeps, give-keeps, Books, books-eq, books-free, books-give, books-mark, mark-length}
 use Rattle.promise.specs.CardLaws.{use-after, in-block, lowest-within, lowest-free, shape, Proper, Tidy, at-proper, at-place, at-named, labelled-is, labelled-tidy, labelled-at}
 
 -- the table is sound, and gs are the labels that are live

@@ -1,18 +1,18 @@
 -- The labels' uses against the live labels of `Promise`, and against the labels that trees carry: each by itself, with no table.
 -- Assumes nothing.
-use Prim.Native.Nat.{ℕ, zero, suc, _+_, _-_, _≤_, _<_, suc-le-suc, zero-le}
-use native.Mathlib.Nat.{le-of-suc-le-suc, not-suc-le-zero, le-refl, le-trans}
+use Prim.Native.Nat.{ℕ, suc, _+_, _≤_, _<_, zero-le}
+use native.Mathlib.Nat.{le-refl}
 use native.Mathlib.Omega.{arith}
-use mathlib.Core.Path.{_≡_, refl, sym, ap, ap₂, _∙_, subst}
-use mathlib.Core.Bool.{Bool, true, false, not, _&&_, _||_}
-use mathlib.Core.List.{List, [], _∷_, _++_}
-use lib.ListN.{getD, length}
-use lib.Dec.{eqb, leb, ltb}
+use mathlib.Core.Path.{_≡_, refl, sym, ap, _∙_, subst}
+use mathlib.Core.Bool.{Bool, true, false}
+use mathlib.Core.List.{List, [], _∷_}
+use lib.ListN.{length}
+use lib.Dec.{eqb, leb}
 use borrow.Author.Tests.{eqb-true, eqb-false, eq-eqb, ne-eqb, leb-false}
 use Rattle.meaning.specs.Octets.{pick, count, same}
-use Rattle.meaning.specs.Wire.{mapping, withdraw, release, Message, Sent}
+use Rattle.meaning.specs.Wire.{Message}
 use Rattle.meaning.specs.Card.{Use, free, mapped, awaiting, noRoute, isFree, isAwaiting, mappedTo}
-use Rattle.promise.specs.Promise.{Given, ofLabel, isAbout, mark, remove, noteSent, noteAll, Each, NoneLive}
+use Rattle.promise.specs.Promise.{Given, ofLabel, isAbout, mark, remove, Each}
 use Rattle.meaning.specs.Lists.{by-test, picked, same-eq, same-refl, same-no}
 
 -- ---- a label's use

@@ -1,16 +1,15 @@
 -- The words of `Promise` on the history of cases 1 to 7: what is live after it, and where the tree leads, from the messages and the accepted events.
 -- Assumes nothing.
-use Prim.Native.Nat.{ℕ, zero, suc, _+_}
-use mathlib.Core.Bool.{Bool, true, false, not, _&&_, _||_}
-use mathlib.Core.List.{List, [], _∷_, _++_}
-use lib.ListN.{take, drop, getD, length, replicate}
-use lib.Dec.{T, eqb, leb, ltb}
-use Rattle.meaning.specs.Octets.{pick, place, count, any, same, put, cut, two, four, twoAt, fourAt, _when_else_}
-use Rattle.meaning.specs.Wire.{addressLength, familyIn, rootLength, opaqueLength, rootIn, opaqueIn, isElement, isOpaque, elementRefusal, Tlv, absent, after, tlvsF, tlvs, isOverrun, found, mapping, withdraw, release, Message, bodyOf, fecOf, labelOf, must, isSized, isKind, isOrdered, isLabel, messageRefusal, messageIn, element, tlv, octetsOf, Sent, recordOf, nextId, records, idsAfter, recordsF, recordsIn}
-use Rattle.meaning.specs.Card.{Card, fresh, withNext, withRoutes, withTrees, withLabels, withBranch, withLeaf, withLabel, isFor, routePlace, routeOf, named, bare, treePlace, treeOf, treeAt, stands, isBranch, isEmpty, isFree, isAwaiting, mappedTo, useOf, heldFor, lowestFree, freeLabels, Branch, Feed, nothing, branchesFrom, feedOf, carries, carrier, feedOfUse, lookupLabel, lookupName}
-use Rattle.meaning.specs.Events.{Out, Outcome, unless, refuse, accept, roomShort, finish, Moved, still, followedBy, tell, setUse, setLabel, ended, giveUp, give, letGo, takeUp, moveLabel, relabel, needMove, need, labelsShort, upstream, upstreamOf, entered, swept, treesFull, treeRefusal, enter, become, branch, otherLabel, onMapping, lessBranch, onWithdraw, notAwaited, onRelease, onMessage, noNeighbour, onOctets, onJoin, notLeaf, onLeave, ofRoot, moveOne, moveFrom, moveAll, needOne, sumFrom, needAll, routesWith, notRoute, notRoot, routesFull, routeRefusal, reRoute, onRoute, Event, receive, join, leave, route, outcome, event, baseOutside, start}
+use Prim.Native.Nat.{ℕ}
+use mathlib.Core.Bool.{_&&_}
+use mathlib.Core.List.{List, [], _∷_}
+use lib.Dec.{T}
+use Rattle.meaning.specs.Octets.{pick, same}
+use Rattle.meaning.specs.Wire.{rootIn, mapping, withdraw, release}
+use Rattle.meaning.specs.Events.{Event, route}
+use Rattle.meaning.specs.Computing.{computing}
 use Rattle.meaning.specs.Examples.{A, heard, flat, feed}
-use Rattle.promise.specs.Promise.{Given, ofLabel, isAbout, mark, remove, noteSent, noteAll, noteTaken, branchSaid, branchBy, leafBy, branchesBy, feedBy, Step, Past, answerTo, sends, thenStep, thenSteps, history}
+use Rattle.promise.specs.Promise.{Given, isAbout, mark, remove, noteSent, noteAll, noteTaken, branchSaid, branchBy, leafBy, branchesBy, feedBy, Step, answerTo, sends, thenStep, thenSteps, history}
 
 abbrev pub withRoom : Event → Step
 withRoom e = record { room = 9984; does = e }
@@ -37,5 +36,5 @@ ledger (g ∷ gs) = g .to ∷ g .label ∷ pick (g .withdrawn) 1 0 ∷ ledger gs
 
 -- 16 is live at 3, 17 at 0 and withdrawn; A leads to neighbour 1 under 300
 pub seven-shown : T (same (ledger (history 16 seven .live)) (3 ∷ 16 ∷ 0 ∷ 0 ∷ 17 ∷ 1 ∷ []) && same (feed (feedBy A (history 16 seven .accepted))) (1 ∷ 300 ∷ []))
-unfolding ledger seven A heard thenSteps thenStep history answerTo sends noteAll noteSent noteTaken mark remove isAbout ofLabel branchSaid branchBy leafBy branchesBy feedBy flat feed recordsF recordsIn _when_else_ place count any put cut same two four twoAt fourAt addressLength familyIn rootLength opaqueLength rootIn opaqueIn isElement isOpaque isOrdered elementRefusal absent after tlvsF tlvs isOverrun found bodyOf fecOf labelOf must isSized isKind isLabel messageRefusal messageIn element tlv octetsOf recordOf nextId records idsAfter fresh withNext withRoutes withTrees withLabels withBranch withLeaf withLabel isFor routePlace routeOf named bare treePlace treeOf treeAt stands isBranch isEmpty isFree isAwaiting mappedTo useOf heldFor lowestFree freeLabels nothing branchesFrom feedOf carries carrier feedOfUse lookupLabel lookupName unless refuse accept roomShort finish still followedBy setUse setLabel ended giveUp give letGo takeUp moveLabel relabel needMove need labelsShort upstream upstreamOf entered swept treesFull treeRefusal enter become branch otherLabel onMapping lessBranch onWithdraw notAwaited onRelease onMessage noNeighbour onOctets onJoin notLeaf onLeave ofRoot moveOne moveFrom moveAll needOne sumFrom needAll routesWith notRoute notRoot routesFull routeRefusal reRoute onRoute outcome event baseOutside start
+unfolding computing ledger seven A heard flat feed thenSteps thenStep history answerTo sends noteAll noteSent noteTaken mark remove isAbout branchSaid branchBy leafBy branchesBy feedBy
 seven-shown = tt

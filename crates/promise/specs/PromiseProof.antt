@@ -1,27 +1,27 @@
 -- THE PROMISE IS KEPT: after any history of a card as the start hands it back.
 -- Assumes nothing.
-use Prim.Native.Nat.{ℕ, zero, suc, _+_, _-_, _≤_, _<_, suc-le-suc, zero-le}
-use native.Mathlib.Nat.{le-of-suc-le-suc, not-suc-le-zero, le-refl, le-trans}
+use Prim.Native.Nat.{ℕ, zero, suc, _+_, _-_, _≤_, _<_, zero-le}
+use native.Mathlib.Nat.{le-of-suc-le-suc, not-suc-le-zero, le-refl}
 use native.Mathlib.Omega.{arith}
 use mathlib.Core.Path.{_≡_, refl, sym, ap, ap₂, _∙_, subst}
-use mathlib.Core.Bool.{Bool, true, false, not, _&&_, _||_}
-use mathlib.Core.List.{List, [], _∷_, _++_}
-use lib.ListN.{take, drop, getD, length, set, length-set, replicate}
+use mathlib.Core.Bool.{true, false, _&&_}
+use mathlib.Core.List.{List, [], _∷_}
+use lib.ListN.{getD, length, set, length-set, replicate}
 use lib.Seq.{ext-getD, set-getD, getD-set-same, getD-set-other}
 use lib.Dec.{eqb, leb, ltb}
-use borrow.Author.Tests.{eqb-true, eqb-false, eq-eqb, ne-eqb, ltb-true, ltb-false, not-true, not-false, leb-true, lt-leb}
-use Rattle.meaning.specs.Octets.{pick, place, count, any, same, put, cut}
-use Rattle.meaning.specs.Wire.{mapping, withdraw, release, Message, messageIn, Sent, records, recordsF, recordsIn}
-use Rattle.meaning.specs.Card.{Tree, Use, free, mapped, awaiting, Card, fresh, withNext, withBranch, withLeaf, withLabel, named, bare, treePlace, treeOf, treeAt, isFree, isAwaiting, useOf, freeLabels, heldFor, routeOf, routePlace, Feed, nothing, branchesFrom, feedOf, carries, carrier, feedOfUse, lookupLabel}
+use borrow.Author.Tests.{eqb-true, eqb-false, eq-eqb, ne-eqb, ltb-true, ltb-false, leb-true}
+use Rattle.meaning.specs.Octets.{pick, place, count, same}
+use Rattle.meaning.specs.Wire.{mapping, withdraw, Message, messageIn, Sent, records, recordsF, recordsIn}
+use Rattle.meaning.specs.Card.{Tree, Use, free, mapped, awaiting, Card, fresh, withNext, withBranch, withLeaf, withLabel, bare, treePlace, treeOf, treeAt, isFree, isAwaiting, useOf, freeLabels, heldFor, routeOf, routePlace, branchesFrom, feedOf, carries, carrier, feedOfUse, lookupLabel}
 use Rattle.meaning.specs.Events.{Out, Outcome, refused, taken, refuse, accept, roomShort, finish, upstreamOf, branch, lessBranch, Event, receive, join, leave, route, outcome, event, baseOutside, start}
 use Rattle.promise.specs.Promise.{Given, ofLabel, isAbout, isWithdrawn, Demand3, noteAll, noteTaken, branchSaid, branchBy, leafBy, branchesBy, feedBy, Step, Past, answerTo, sends, thenStep, thenSteps, history, Each, NoneLive, Leads, Promise}
-use Rattle.meaning.specs.Lists.{getD-same, by-test, picked, place-finds, place-count, same-eq, same-refl, same-no, getD-out, count-some}
+use Rattle.meaning.specs.Lists.{getD-same, by-test, picked, place-finds, place-count, same-eq, same-refl, getD-out, count-some}
 use Rattle.meaning.specs.RoundTrip.{both, AllSendable, records-back}
 use Rattle.promise.specs.LiveLaws.{isMapped, stray, Linked, mapped-one, mapped-not-free, Books, only, givens, count-only, books-one, books-none, each-only}
-use Rattle.promise.specs.CardLaws.{shape, Tidy, AllProper, tree-name, at-named}
+use Rattle.promise.specs.CardLaws.{shape, Tidy, AllProper, at-named}
 use Rattle.promise.specs.LabelLaws.{Sound}
 use Rattle.promise.specs.RuleLaws.{Ruled}
-use Rattle.promise.specs.EventLaws.{Awaited, heard-awaited, awaiting-eq, byMessage, became, names, Follows, Keeps, event-keeps}
+use Rattle.promise.specs.EventLaws.{Awaited, heard-awaited, awaiting-eq, byMessage, became, names, Keeps, event-keeps}
 
 -- ---- the tree that the accepted events make
 

@@ -1,21 +1,21 @@
 -- The table's rules: a tree stands while it has a branch or a leaf, and holds a label exactly while its root's route is a neighbour; its sizes.
 -- Assumes nothing.
-use Prim.Native.Nat.{ℕ, zero, suc, _+_, _-_, _≤_, _<_, suc-le-suc, zero-le}
-use native.Mathlib.Nat.{le-of-suc-le-suc, not-suc-le-zero, le-refl, le-trans}
+use Prim.Native.Nat.{ℕ, zero, suc, _≤_, _<_, suc-le-suc, zero-le}
+use native.Mathlib.Nat.{le-of-suc-le-suc, not-suc-le-zero, le-trans}
 use native.Mathlib.Omega.{arith}
-use mathlib.Core.Path.{_≡_, refl, sym, ap, ap₂, _∙_, subst}
-use mathlib.Core.Bool.{Bool, true, false, not, _&&_, _||_, or-true}
-use mathlib.Core.List.{List, [], _∷_, _++_}
-use lib.ListN.{take, drop, getD, length, set, length-set, length-append, length-take, length-drop, replicate}
-use lib.Dec.{eqb, leb, ltb}
-use borrow.Author.Tests.{eqb-true, eqb-false, eq-eqb, ne-eqb, ltb-true, ltb-false, leb-false}
+use mathlib.Core.Path.{_≡_, refl, sym, ap, _∙_, subst}
+use mathlib.Core.Bool.{Bool, true, false}
+use mathlib.Core.List.{List, [], _∷_}
+use lib.ListN.{getD, length, length-append, length-take, length-drop}
+use lib.Dec.{eqb, ltb}
+use borrow.Author.Tests.{eqb-true, eqb-false, ltb-true, ltb-false, leb-false}
 use Rattle.meaning.specs.Octets.{pick, place, count, any, same, put, cut}
 use Rattle.meaning.specs.Wire.{rootIn}
-use Rattle.meaning.specs.Card.{Tree, Route, Use, free, Card, noRoute, withRoutes, withTrees, withLabel, treeLimit, routeLimit, isFor, routePlace, routeOf, named, bare, treePlace, treeOf, treeAt, isBranch, isEmpty, mappedTo, useOf, heldFor, freeLabels}
-use Rattle.meaning.specs.Events.{Moved, upstream, upstreamOf, swept, ofRoot, moveAll, needAll, routesWith, routesFull}
+use Rattle.meaning.specs.Card.{Tree, Route, free, Card, noRoute, withRoutes, withTrees, withLabel, treeLimit, routeLimit, isFor, routePlace, routeOf, bare, treePlace, treeOf, treeAt, isBranch, isEmpty, mappedTo, useOf, heldFor, freeLabels}
+use Rattle.meaning.specs.Events.{upstream, upstreamOf, swept, ofRoot, moveAll, needAll, routesWith, routesFull}
 use Rattle.promise.specs.Promise.{Given}
-use Rattle.meaning.specs.Lists.{getD-same, by-test, picked, same-eq, same-refl, same-no, same-flip, getD-out, found-put, found-cut, other-put, other-cut, count-put, count-cut, count-other-put}
-use Rattle.promise.specs.CardLaws.{shape, Tidy}
+use Rattle.meaning.specs.Lists.{getD-same, by-test, same-eq, same-refl, same-flip, getD-out, found-put, found-cut, other-put, other-cut, count-put, count-cut, count-other-put}
+use Rattle.promise.specs.CardLaws.{shape}
 use Rattle.promise.specs.LabelLaws.{Sound, Kept, all-kept, all-held, shape-name}
 
 pub record Ruled (c : Card) : Type 0 where

@@ -1,25 +1,25 @@
 -- The table's rules after any history, and what they say of a Withdraw and of a leave.
 -- Assumes nothing.
-use Prim.Native.Nat.{ℕ, zero, suc, _+_, _≤_, _<_, zero-le}
+use Prim.Native.Nat.{ℕ, zero, suc, _≤_, zero-le}
 use native.Mathlib.Omega.{arith}
 use mathlib.Core.Path.{_≡_, refl, sym, ap, ap₂, _∙_}
-use mathlib.Core.Bool.{Bool, true, false, not, _&&_, _||_}
+use mathlib.Core.Bool.{Bool, true, false, not}
 use mathlib.Core.List.{List, [], _∷_, _++_}
-use lib.ListN.{getD, length, set}
-use lib.Dec.{eqb, leb, ltb}
+use lib.ListN.{length, set}
+use lib.Dec.{eqb, ltb}
 use borrow.Author.Tests.{eq-eqb, ne-eqb, ltb-true, ltb-false, le-ltb}
 use Rattle.meaning.specs.Octets.{pick, count, any, _when_else_}
 use Rattle.meaning.specs.Wire.{rootIn, elementRefusal, mapping, withdraw, release, Message, messageIn, messageRefusal, Sent}
 use Rattle.meaning.specs.Card.{withTrees, named, treeAt, useOf, routeOf, Tree, Card, noRoute, withBranch, withLeaf, isFor, treePlace, treeOf, stands, bare, isBranch, isEmpty, heldFor, freeLabels}
-use Rattle.meaning.specs.Events.{Outcome, taken, unless, Moved, still, upstream, tell, relabel, entered, swept, needMove, need, labelsShort, upstreamOf, treesFull, treeRefusal, enter, become, branch, lessBranch, onWithdraw, onMessage, noNeighbour, onOctets, notLeaf, onLeave, Event, receive, leave, outcome}
-use Rattle.promise.specs.Promise.{Given, Step, Past, history}
+use Rattle.meaning.specs.Events.{taken, unless, Moved, still, upstream, tell, relabel, entered, swept, needMove, need, labelsShort, upstreamOf, treesFull, treeRefusal, enter, become, branch, lessBranch, onWithdraw, onMessage, noNeighbour, onOctets, notLeaf, onLeave, receive, leave, outcome}
+use Rattle.promise.specs.Promise.{Given, Step, history}
 use Rattle.meaning.specs.Lists.{by-test, picked}
 use Rattle.meaning.specs.RoundTrip.{both}
-use Rattle.promise.specs.CardLaws.{shape, tree-name}
+use Rattle.promise.specs.CardLaws.{tree-name}
 use Rattle.promise.specs.LabelLaws.{Sound}
 use Rattle.promise.specs.RuleLaws.{Ruled, held-named, standing-at, not-standing, bare-empty}
 use Rattle.promise.specs.EventLaws.{getD-put, less-name, less-label}
-use Rattle.promise.specs.PromiseProof.{Upheld, history-upheld}
+use Rattle.promise.specs.PromiseProof.{history-upheld}
 
 -- All of the table's rules.
 pub rules-kept : (base : ℕ) (steps : List Step) → Ruled (history base steps .card)

@@ -1,15 +1,15 @@
 -- The sizes of document 01, after any history: trees, routes, labels, and the octets that are written.
 -- Assumes nothing.
-use Prim.Native.Nat.{ℕ, zero, suc, _+_, _*_, _≤_, zero-le}
+use Prim.Native.Nat.{ℕ, zero, suc, _*_, _≤_, zero-le}
 use native.Mathlib.Omega.{arith}
 use mathlib.Core.Path.{_≡_}
-use mathlib.Core.List.{List, [], _∷_, _++_}
+use mathlib.Core.List.{List, [], _∷_}
 use lib.ListN.{length, length-append}
 use lib.Dec.{eqb}
 use Rattle.meaning.specs.Octets.{two}
 use Rattle.meaning.specs.Wire.{Sent, recordOf, nextId, records}
 use Rattle.meaning.specs.Card.{Card, noRoute, treeLimit, routeLimit, labelCount, treeAt, routeOf}
-use Rattle.meaning.specs.Events.{Outcome, refused, taken, unless, refuse, accept, roomShort, finish, Moved, still, followedBy, giveUp, give, letGo, takeUp, moveLabel, upstream, ofRoot, moveOne, moveFrom, moveAll, routeRefusal, reRoute, onRoute, Event, route, outcome, event}
+use Rattle.meaning.specs.Events.{Outcome, refused, taken, unless, refuse, accept, roomShort, finish, Moved, still, followedBy, giveUp, give, letGo, takeUp, moveLabel, upstream, ofRoot, moveOne, moveFrom, moveAll, reRoute, onRoute, Event, route, outcome, event}
 use Rattle.meaning.specs.Lists.{by-test, picked}
 use Rattle.meaning.specs.RoundTrip.{AllSendable, Sendable, message-length, name-fits}
 use Rattle.promise.specs.Promise.{Given, noteTaken, Step, sends, history}

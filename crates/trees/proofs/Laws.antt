@@ -11,7 +11,7 @@ use lib.Seq.{take-append-seam, getD-set-same}
 use lib.Dec.{eqb, leb, ltb}
 use borrow.Author.Tests.{eq-eqb, ne-eqb, eqb-true, eqb-false, le-leb, lt-leb, le-ltb, lt-ltb, ltb-true, ltb-false, leb-true, leb-false}
 use Rattle.meaning.specs.Octets.{pick, place, count, any, same, put, cut, two, four, _when_else_}
-use Rattle.meaning.specs.Lists.{by-test, picked, same-eq, same-refl, place-finds, place-count, getD-out, getD-same}
+use Rattle.meaning.specs.Lists.{append-nil, positive, by-test, picked, same-eq, same-refl, place-finds, place-count, getD-out, getD-same}
 use Rattle.meaning.specs.Wire.{tlv, octetsOf, Message, Sent, recordOf, nextId, records, idsAfter, mapping, withdraw, release, rootIn, messageIn, messageRefusal, elementRefusal}
 use Rattle.meaning.specs.Card.{Tree, Card, Use, free, mapped, awaiting, noRoute, withNext, withTrees, withLabels, withRoutes, withBranch, withLeaf, withLabel, named, bare, treePlace, treeOf, treeAt, stands, isBranch, isEmpty, isFree, isAwaiting, mappedTo, useOf, heldFor, freeLabels, lowestFree, treeLimit, routeOf}
 use Rattle.meaning.specs.Events.{Out, Outcome, refused, taken, unless, refuse, accept, roomShort, finish, Moved, still, followedBy, tell, setUse, setLabel, giveUp, give, letGo, takeUp, moveLabel, relabel, needMove, need, labelsShort, upstream, upstreamOf, entered, swept, treesFull, treeRefusal, enter, become, branch, otherLabel, onMapping, lessBranch, onWithdraw, notLeaf, onRelease, notAwaited}
@@ -173,10 +173,6 @@ module _ (c : Card) (first : List Sent) (t : Tree) (i u : ℕ) (ei : i ≡ treeP
       kept = unfold swept in rw (alike-empty _ _ (take-up-stays i (withTrees (c .trees ++ (t ∷ [])) c) (new-within c t i h) u .tree), new-at c t i h, e) refl
 
 -- a Withdraw for an unknown tree: nothing but what goes first
-append-nil : (l : List Sent) → l ++ [] ≡ l
-append-nil [] = refl
-append-nil (x ∷ l) = ap (λ (k : List Sent). x ∷ k) (append-nil l)
-
 bare-refusal : (c : Card) (a : List ℕ) → useOf 0 c ≡ free → treeRefusal c (bare a) ≡ 0
 bare-refusal c a z = unfold treeRefusal in rw (never-full, no-need) (unfold labelsShort _when_else_ in rw (le-ltb (freeLabels c) 0 zero-le) refl)
   where
@@ -539,10 +535,6 @@ module _ (t : Tree) (n l b : ℕ) (e : b ≡ getD (t .branches) n 0) where
 module _ (t : Tree) (n : ℕ) where
   pub branch-left : (l : ℕ) → n < length (t .branches) → (l ≡ 0 → ⊥) → false ≡ isEmpty (withBranch n l t)
   branch-left l h z = sym (branch-full t n l h (positive l z))
-    where
-      positive : (l : ℕ) → (l ≡ 0 → ⊥) → 0 < l
-      positive zero z = absurd (z refl)
-      positive (suc l) z = suc-le-suc zero-le
 
   pub leaf-left : t .leaf ≡ true → false ≡ isEmpty (withBranch n 0 t)
   unfolding isEmpty withBranch
@@ -653,10 +645,6 @@ module _ (c : Card) (u size room n : ℕ) (e : n ≡ length (c .trees)) where
     module _ (k : freeLabels c ≡ 0 → ⊥) where
       some-free : ltb (freeLabels c) (needMove u) ≡ false
       some-free = le-ltb (freeLabels c) (needMove u) (rw one-needed (positive (freeLabels c) k))
-        where
-          positive : (n : ℕ) → (n ≡ 0 → ⊥) → 1 ≤ n
-          positive zero z = absurd (z refl)
-          positive (suc n) z = suc-le-suc zero-le
 
       pub no-room : room < size → 16 ≡ newNumber
       no-room l = sym (when-3 11 12 16 _ _ _ few-trees some-free (lt-ltb room (needMove u * size) (rw one-needed (omega arith))))
