@@ -1,0 +1,52 @@
+use native.Mathlib.Omega.{arith}
+use mathlib.Core.Path.{refl, sym}
+use lib.Seq.{length-take-le}
+use Rattle.bench.proofs.Laws.{keeps-line, keeps-long}
+use Rattle.orders.specs.Line.{ascii}
+use borrow.Author.Needs.{needs}
+use Rattle.bench.proofs.reply.Statement.{statement}
+use Rattle.bench.proofs.reply.Tie as tie
+
+slice-aggregate-answer : tie.Need-slice-aggregate-answer
+slice-aggregate-answer c = sym (length-take-le (c .before .before .before .before .before .before .args .state .kept) (c .before .before .before .before .before .before .args .line .now) (omega arith))
+
+answer-requires : tie.Need-answer-requires
+answer-requires c κs = search needs
+
+same-length : tie.Need-same-length
+same-length c = search needs
+
+returns : tie.Need-returns
+returns c = (
+  c .before .before .answer .ensures .short,
+  λ o p e. rw (sym (keeps-line (c .before .before .before .before .before .before .before .before .before .before .args .line .now) (c .before .before .before .before .before .before .before .before .before .before .args .state .kept) o (c .before .before .before .before .before .before .before .if1 .taken) p)) (c .before .before .answer .ensures),
+)
+
+slice-aggregate-put-count : tie.Need-slice-aggregate-put-count
+slice-aggregate-put-count c = search needs
+
+put-count-requires : tie.Need-put-count-requires
+put-count-requires c κs = search needs
+
+same-length-2 : tie.Need-same-length-2
+same-length-2 c = search needs
+
+returns-2 : tie.Need-returns-2
+unfolding ascii
+returns-2 c = (
+  omega arith,
+  λ o p e. rw (keeps-long (c .before .before .before .before .before .before .before .before .args .line .now) (c .before .before .before .before .before .before .before .before .args .state .kept) o (c .before .before .before .before .before .if1 .left) p e) (record { short = omega arith; line = c .before .before .put-count .ensures .0 .text; next = refl }),
+)
+
+pub reply-spec : {M : Type 1} → statement M
+reply-spec =
+    tie.close
+    (tie.spec
+    slice-aggregate-answer
+    answer-requires
+    same-length
+    returns
+    slice-aggregate-put-count
+    put-count-requires
+    same-length-2
+    returns-2)

@@ -1,0 +1,56 @@
+use Prim.Native.Nat.{_-_, _≤_}
+use native.Mathlib.Omega.{arith}
+use mathlib.Core.Path.{_≡_, refl}
+use borrow.Author.Needs.{needs}
+use lib.ListN.{length}
+use Rattle.bench.proofs.take_chunk.Statement.{statement}
+use Rattle.bench.proofs.take_chunk.Tie as tie
+
+abbrev Inv-loop : tie.InvT-loop
+Inv-loop numbers₀ names₀ line₀ text₀ chunk state₀ i₀ numbers names line text state i = (i ≤ length chunk) × (length line ≡ length line₀) × (length text ≡ length text₀)
+
+abbrev μ-loop : tie.MeasureT-loop
+μ-loop numbers₀ names₀ line₀ text₀ chunk state₀ i₀ numbers names line text state i = length chunk - i
+
+loop-holds : tie.Need-loop-holds Inv-loop μ-loop
+loop-holds c = (omega arith, refl, refl)
+
+shared-slice-read-take-octet : tie.Need-shared-slice-read-take-octet Inv-loop μ-loop
+shared-slice-read-take-octet c = search needs
+
+take-octet-requires : tie.Need-take-octet-requires Inv-loop μ-loop
+take-octet-requires c κs = search needs
+
+add-i : tie.Need-add-i Inv-loop μ-loop
+add-i c = search needs
+
+loop-less : tie.Need-loop-less Inv-loop μ-loop
+loop-less c = search needs
+
+loop-again : tie.Need-loop-again Inv-loop μ-loop
+loop-again c = search needs
+
+same-length : tie.Need-same-length Inv-loop μ-loop
+same-length c = c .before .loop .inv .1
+
+same-length-2 : tie.Need-same-length-2 Inv-loop μ-loop
+same-length-2 c = c .before .loop .inv .2
+
+returns : tie.Need-returns Inv-loop μ-loop
+returns c = search needs
+
+pub take-chunk-spec : {M : Type 1} → statement M
+take-chunk-spec =
+    tie.close
+    (tie.spec
+    Inv-loop
+    μ-loop
+    loop-holds
+    shared-slice-read-take-octet
+    take-octet-requires
+    add-i
+    loop-less
+    loop-again
+    same-length
+    same-length-2
+    returns)

@@ -1,0 +1,101 @@
+-- The lines that the bench program writes. Assumes nothing.
+use Prim.Native.Nat.{ℕ, suc, _+_, _≤_, min}
+use mathlib.Core.Path.{_≡_}
+use mathlib.Core.Bool.{Bool, true, false, cond}
+use mathlib.Core.List.{List, [], _∷_, _++_}
+use lib.ListN.{length, take}
+use lib.Dec.{eqb}
+use Rattle.orders.specs.Line.{ascii, numeral, hexOf, Said}
+
+-- `WORD N`
+unfoldable pub countLine : List ℕ → ℕ → List ℕ
+countLine word n = word ++ (32 ∷ numeral n ++ (10 ∷ []))
+
+-- a space and the records' octets, where there are any
+unfoldable pub recordsText : List ℕ → List ℕ
+recordsText [] = []
+recordsText (o ∷ os) = 32 ∷ hexOf (o ∷ os)
+
+-- `WORD ANSWER RECORDS`
+unfoldable pub eventLine : List ℕ → ℕ → List ℕ → List ℕ
+eventLine word answer records = word ++ (32 ∷ numeral answer ++ (recordsText records ++ (10 ∷ [])))
+
+-- ` NEIGHBOUR:LABEL`, or nothing where there is no label
+unfoldable pub branchText : ℕ → ℕ → List ℕ
+branchText n label = cond (eqb label 0) [] (32 ∷ numeral n ++ (58 ∷ numeral label))
+
+unfoldable pub branchesFrom : ℕ → List ℕ → List ℕ
+branchesFrom n [] = []
+branchesFrom n (label ∷ labels) = branchText n label ++ branchesFrom (suc n) labels
+
+unfoldable pub leafText : Bool → List ℕ
+leafText leaf = cond leaf (ascii " leaf") []
+
+unfoldable pub orNothing : List ℕ → List ℕ
+orNothing [] = ascii " nothing"
+orNothing (c ∷ cs) = c ∷ cs
+
+-- `WORD nothing`, or `WORD`, ` leaf` and each branch
+unfoldable pub feedLine : List ℕ → Bool → List ℕ → List ℕ
+feedLine word leaf branches = word ++ (orNothing (leafText leaf ++ branchesFrom 0 branches) ++ (10 ∷ []))
+
+-- a text that stands up to `at` goes on by ys
+pub record Adds (ys before after : List ℕ) (at r : ℕ) : Type 0 where
+  pub count : r ≡ at + length ys
+  pub text : take r after ≡ take at before ++ ys
+
+-- ---- what is written for an order
+
+pub record IsCount (word text : List ℕ) : Type 0 where
+  pub count : ℕ
+  pub line : text ≡ countLine word count
+
+pub record IsEvent (word text : List ℕ) : Type 0 where
+  pub answer : ℕ
+  pub records : List ℕ
+  pub line : text ≡ eventLine word answer records
+
+pub record IsFeed (word text : List ℕ) : Type 0 where
+  pub leaf : Bool
+  pub branches : List ℕ
+  pub line : text ≡ feedLine word leaf branches
+
+-- the line for an order on the line of that number: of the form that the order has
+abbrev pub IsLine : Said → ℕ → List ℕ → Type 0
+IsLine Said.nothing number text = text ≡ []
+IsLine Said.bad number text = text ≡ countLine (ascii "?") number
+IsLine (Said.start base) number text = IsCount (ascii "start") text
+IsLine (Said.room n) number text = text ≡ countLine (ascii "room") n
+IsLine (Said.take n message) number text = IsEvent (ascii "take") text
+IsLine (Said.join element) number text = IsEvent (ascii "join") text
+IsLine (Said.leave element) number text = IsEvent (ascii "leave") text
+IsLine (Said.route root via) number text = IsEvent (ascii "route") text
+IsLine (Said.label n) number text = IsFeed (ascii "label") text
+IsLine (Said.tree element) number text = IsFeed (ascii "tree") text
+IsLine Said.free number text = IsCount (ascii "free") text
+
+-- the room from here on
+abbrev pub roomAfter : ℕ → Said → ℕ
+roomAfter room Said.nothing = room
+roomAfter room Said.bad = room
+roomAfter room (Said.start base) = room
+roomAfter room (Said.room n) = n
+roomAfter room (Said.take n message) = room
+roomAfter room (Said.join element) = room
+roomAfter room (Said.leave element) = room
+roomAfter room (Said.route root via) = room
+roomAfter room (Said.label n) = room
+roomAfter room (Said.tree element) = room
+roomAfter room Said.free = room
+
+pub record Answers (said : Said) (number before room r : ℕ) (text : List ℕ) : Type 0 where
+  pub short : r ≤ 20480
+  pub line : IsLine said number (take r text)
+  pub next : room ≡ roomAfter before said
+
+-- ---- a line that comes octet by octet
+
+-- of the octets so far, the buffer keeps all, or what it has room for, and then the count is one more than that
+pub record Keeps (buffer : List ℕ) (kept : ℕ) (octets : List ℕ) : Type 0 where
+  pub count : kept ≡ min (length octets) (length buffer + 1)
+  pub front : length octets ≤ length buffer → take (length octets) buffer ≡ octets

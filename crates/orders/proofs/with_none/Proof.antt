@@ -1,0 +1,18 @@
+use Rattle.orders.specs.Line.{does, meant}
+use Rattle.orders.proofs.Verbs.{none-bad}
+use borrow.Author.Needs.{needs}
+use Rattle.orders.proofs.with_none.Statement.{statement}
+use Rattle.orders.proofs.with_none.Tie as tie
+
+enum-told : tie.Need-enum-told
+enum-told c = search needs
+
+returns : tie.Need-returns
+unfolding does meant
+returns c = record { means = rw (c .enum-told .given .1); lies = tt }
+
+returns-2 : tie.Need-returns-2
+returns-2 c = none-bad _ (c .before .args .verb) (c .match .keys2)
+
+pub with-none-spec : {M : Type 1} → statement M
+with-none-spec = tie.close (tie.spec enum-told returns returns-2)

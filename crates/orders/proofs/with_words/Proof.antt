@@ -1,0 +1,50 @@
+use Rattle.orders.proofs.Laws.{word-none, word-some}
+use Rattle.orders.proofs.Verbs.{more-bad}
+use borrow.Author.Needs.{needs}
+use Rattle.orders.proofs.with_words.Statement.{statement}
+use Rattle.orders.proofs.with_words.Tie as tie
+
+next-word-requires : tie.Need-next-word-requires
+next-word-requires c κs = search needs
+
+with-none-requires : tie.Need-with-none-requires
+with-none-requires c κs = search needs
+
+returns : tie.Need-returns
+returns c = rw (word-none (c .before .before .before .next-word .ensures) (c .before .if1 .taken)) (c .with-none .ensures)
+
+next-word-requires-2 : tie.Need-next-word-requires-2
+next-word-requires-2 c κs = search needs
+
+with-one-requires : tie.Need-with-one-requires
+with-one-requires c κs = search needs
+
+returns-2 : tie.Need-returns-2
+returns-2 c = rw (word-some (c .before .before .before .before .before .before .next-word .ensures) (c .before .before .before .before .if1 .left), word-none (c .before .before .before .next-word2 .ensures) (c .before .if2 .taken)) (c .with-one .ensures)
+
+next-word-requires-3 : tie.Need-next-word-requires-3
+next-word-requires-3 c κs = search needs
+
+with-two-requires : tie.Need-with-two-requires
+with-two-requires c κs = search needs
+
+returns-3 : tie.Need-returns-3
+returns-3 c = rw (word-some (c .before .before .before .before .before .before .before .before .before .next-word .ensures) (c .before .before .before .before .before .before .before .if1 .left), word-some (c .before .before .before .before .before .before .next-word2 .ensures) (c .before .before .before .before .if2 .left), word-none (c .before .before .before .next-word3 .ensures) (c .before .if3 .taken)) (c .with-two .ensures)
+
+returns-4 : tie.Need-returns-4
+returns-4 c = rw (word-some (c .before .before .before .before .before .before .before .before .next-word .ensures) (c .before .before .before .before .before .before .if1 .left), word-some (c .before .before .before .before .before .next-word2 .ensures) (c .before .before .before .if2 .left), word-some (c .before .before .next-word3 .ensures) (c .if3 .left)) (more-bad _ _ _ _ _ _)
+
+pub with-words-spec : {M : Type 1} → statement M
+with-words-spec =
+    tie.close
+    (tie.spec
+    next-word-requires
+    with-none-requires
+    returns
+    next-word-requires-2
+    with-one-requires
+    returns-2
+    next-word-requires-3
+    with-two-requires
+    returns-3
+    returns-4)

@@ -1,0 +1,79 @@
+-- Lines and what they say, and numbers and octets spelt out, by computation. Assumes nothing.
+use Prim.Native.Nat.{ℕ}
+use Prim.Native.String.{String}
+use mathlib.Core.Path.{_≡_, refl}
+use mathlib.Core.List.{List, [], _∷_, _++_}
+use lib.ListN.{replicate}
+use Rattle.meaning.specs.Octets.{same}
+use Rattle.orders.specs.Line.{
+  ascii,
+  all,
+  uncommented,
+  lengthen,
+  pieces,
+  filled,
+  words,
+  valueFrom,
+  value,
+  isNumber,
+  digit,
+  isHex,
+  octetsOf,
+  Said,
+  verbOf,
+  withNumber,
+  withHex,
+  withNumberHex,
+  withHexNumber,
+  does,
+  saidBy,
+  orderOf,
+  spell,
+  numeral,
+  glyph,
+  hexOf,
+}
+
+unfoldable pub says : String → Said
+says s = orderOf (ascii s)
+
+pub examples-shown : (says "" ≡ Said.nothing)
+    × (says " \t# start 16" ≡ Said.nothing)
+    × (says "start 16" ≡ Said.start 16)
+    × (says "\t start  00016 # a card" ≡ Said.start 16)
+    × (says "start 16#" ≡ Said.start 16)
+    × (says "room 4294967295" ≡ Said.room 4294967295)
+    × (says "room 4294967296" ≡ Said.bad)
+    × (says "room -1" ≡ Said.bad)
+    × (says "take 1 0400Ff" ≡ Said.take 1 (4 ∷ 0 ∷ 255 ∷ []))
+    × (says "take 1 -" ≡ Said.take 1 [])
+    × (says "take 1 040" ≡ Said.bad)
+    × (says "take 1 0400 0" ≡ Said.bad)
+    × (says "take 1" ≡ Said.bad)
+    × (says "take 040g 1" ≡ Said.bad)
+    × (says "join --" ≡ Said.bad)
+    × (says "leave c0" ≡ Said.leave (192 ∷ []))
+    × (says "route c0000201 17" ≡ Said.route (192 ∷ 0 ∷ 2 ∷ 1 ∷ []) 17)
+    × (says "label 16" ≡ Said.label 16)
+    × (says "tree 06" ≡ Said.tree (6 ∷ []))
+    × (says "free" ≡ Said.free)
+    × (says "free 1" ≡ Said.bad)
+    × (says "Free" ≡ Said.bad)
+    × (says "fr\0ee" ≡ Said.bad)
+unfolding says ascii all uncommented lengthen pieces filled words valueFrom value isNumber digit isHex octetsOf verbOf withNumber withHex withNumberHex withHexNumber does saidBy orderOf same
+examples-shown = (refl, refl, refl, refl, refl, refl, refl, refl, refl, refl, refl, refl, refl, refl, refl, refl, refl, refl, refl, refl, refl, refl, refl)
+
+pub spelt-out : (numeral 0 ≡ ascii "0")
+    × (numeral 10 ≡ ascii "10")
+    × (numeral 4294967296 ≡ ascii "4294967296")
+    × (hexOf (0 ∷ 76 ∷ 255 ∷ []) ≡ ascii "004cff")
+unfolding ascii spell numeral glyph hexOf
+spelt-out = (refl, refl, refl, refl)
+
+-- the longest HEX and the longest line, and one more of each
+pub limits-shown : (orderOf (ascii "join " ++ replicate 8192 48) ≡ Said.join (replicate 4096 0))
+    × (orderOf (ascii "join " ++ replicate 8194 48) ≡ Said.bad)
+    × (orderOf (replicate 65536 32) ≡ Said.nothing)
+    × (orderOf (replicate 65537 32) ≡ Said.bad)
+unfolding ascii all uncommented lengthen pieces filled words valueFrom value isNumber digit isHex octetsOf verbOf withNumber withHex withNumberHex withHexNumber does saidBy orderOf same
+limits-shown = (refl, refl, refl, refl)
