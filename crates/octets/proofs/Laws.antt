@@ -6,12 +6,12 @@ use native.Mathlib.Omega.{arith}
 use mathlib.Core.Path.{_≡_, refl, sym, ap, _∙_, subst}
 use mathlib.Core.List.{List, [], _∷_, _++_, append-assoc}
 use lib.ListN.{length, take, drop, getD, set, length-set, length-append, length-take, length-drop, List·getD-append, List·getD-eq-default, drop-of-length-le}
-use lib.Seq.{sets, sets-eq, take-at, drop-at, drop-drop, length-take-le, take-all, getD-take, getD-drop, getD-append-add, drop-cons}
+use lib.Seq.{sets, sets-eq, take-at, drop-at, drop-drop, length-take-le, take-all, getD-take, getD-drop, getD-append-add, ext-getD}
 use mathlib.Core.Bool.{Bool, true, false}
 use lib.Dec.{eqb}
-use borrow.Author.Tests.{eq-eqb, ne-eqb}
+use borrow.Author.Tests.{eqb-true, eqb-false}
 use Rattle.meaning.specs.Octets.{pick, same}
-use Rattle.meaning.specs.Lists.{by-test, append-nil}
+use Rattle.meaning.specs.Lists.{by-test, append-nil, same-eq, same-refl}
 use Rattle.octets.specs.Part.{mid, shifted}
 
 module _ {ℓ} {A : Type ℓ} where
@@ -147,26 +147,23 @@ module _ {ℓ} {A : Type ℓ} where
   mid-none (suc a) [] = refl
   mid-none (suc a) (x ∷ xs) = ap (λ (l : List A). x ∷ l) (mid-none a xs)
 
--- ---- a comparison from the front
+-- ---- a comparison from the end
+
+not-same : (a b : List ℕ) → (a ≡ b → ⊥) → same a b ≡ false
+not-same a b ne = by-test (same a b) (λ e. absurd (ne (same-eq a b e))) (λ e. e)
 
 pub same-length : (a b : List ℕ) → (length a ≡ length b → ⊥) → same a b ≡ false
-unfolding same
-same-length [] [] ne = absurd (ne refl)
-same-length [] (y ∷ b) ne = refl
-same-length (x ∷ a) [] ne = refl
-same-length (x ∷ a) (y ∷ b) ne = rest (same a b) (same-length a b (λ e. ne (ap suc e)))
-  where
-    rest : (s : Bool) → s ≡ false → pick (eqb x y) s false ≡ false
-    rest s e = by-test (eqb x y) (λ t. rw t e) (λ t. rw t refl)
+same-length a b ne = not-same a b (λ e. ne (ap length e))
 
-pub same-more : (a b : List ℕ) (i : ℕ) → i < length a → length a ≡ length b → getD a i 0 ≡ getD b i 0 → same (drop i a) (drop i b) ≡ same (drop (i + 1) a) (drop (i + 1) b)
-unfolding same
-same-more a b i h e q = rw (drop-cons a i 0 h, drop-cons b i 0 (rw e at h), eq-eqb _ _ q, add-one i)
+pub same-differ : (a b : List ℕ) (i : ℕ) → (getD a i 0 ≡ getD b i 0 → ⊥) → same a b ≡ false
+same-differ a b i ne = not-same a b (λ e. ne (ap (λ (l : List ℕ). getD l i 0) e))
 
-pub same-differ : (a b : List ℕ) (i : ℕ) → i < length a → length a ≡ length b → (getD a i 0 ≡ getD b i 0 → ⊥) → same (drop i a) (drop i b) ≡ false
-unfolding same
-same-differ a b i h e q = rw (drop-cons a i 0 h, drop-cons b i 0 (rw e at h), ne-eqb _ _ q)
+pub same-all : (a b : List ℕ) → length a ≡ length b → ((k : ℕ) → k < length a → getD a k 0 ≡ getD b k 0) → same a b ≡ true
+same-all a b e h = rw (ext-getD 0 a b e h) (same-refl b)
 
-pub same-end : (a b : List ℕ) (i : ℕ) → length a ≤ i → length a ≡ length b → same (drop i a) (drop i b) ≡ true
-unfolding same
-same-end a b i h e = rw (drop-of-length-le a {i = i} h, drop-of-length-le b {i = i} (rw e at h))
+-- one place more, from the end
+pub from-here : (a b : List ℕ) (i : ℕ) → 0 < i → ((k : ℕ) → i ≤ k → k < length a → getD a k 0 ≡ getD b k 0) → getD a (i - 1) 0 ≡ getD b (i - 1) 0 → (k : ℕ) → i - 1 ≤ k → k < length a → getD a k 0 ≡ getD b k 0
+from-here a b i p h e k l m =
+    by-test (eqb (i - 1) k)
+    (λ t. subst (λ (j : ℕ). getD a j 0 ≡ getD b j 0) (eqb-true (i - 1) k t) e)
+    (λ t. h k (omega (arith, eqb-false (i - 1) k t)) m)

@@ -33,19 +33,20 @@ pub fn four_at(s: &[u8], i: usize) -> u64
     two_at(s, i) * 65536 + two_at(s, i + 2)
 }
 
-// Whether two slices hold the same octets.
+// Whether two slices hold the same octets. Names of one root differ towards their ends, so the last octets are looked at first.
 pub fn equal(a: &[u8], b: &[u8]) -> bool
     ensures { λ r. ⌜ r ≡ same (now (a .entry)) (now (b .entry)) ⌝ }
 {
     if a.len() != b.len() {
         return false;
     }
-    let mut i = 0;
-    while i < a.len() {
-        if a[i] != b[i] {
+    let mut i = a.len();
+    while 0 < i {
+        let j = i - 1;
+        if a[j] != b[j] {
             return false;
         }
-        i += 1;
+        i = j;
     }
     true
 }

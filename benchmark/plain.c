@@ -1,0 +1,588 @@
+/*
+ * A plain C card, written for speed. A tree stays in its slot while it stands; `order` has the slots, oldest first.
+ * Free labels are bits, and a mapped label knows its tree's slot.
+ */
+#include "plain.h"
+
+#include <string.h>
+
+enum { NO_LABEL = CARD_LABELS, NAME_SLOT = 55, ROOT_SLOT = 17, RECORD_HEAD = 24 };
+
+enum { MAPPING = 0x0400, WITHDRAW = 0x0402, RELEASE = 0x0403 };
+
+/* A label's mark: 0 free, 1 to 16 mapped to a neighbour, 17 to 32 awaiting release from one; its tree's slot above. */
+enum { MAPPED = 1, AWAITING = 17, MARK = 0xff, SLOT_SHIFT = 8 };
+
+struct table {
+    uint64_t base, next_id, route_count, tree_count;
+    uint64_t used_slots, leaves;
+    uint64_t free_labels[CARD_LABELS / 64];
+    uint64_t via[CARD_ROOTS];
+    uint64_t order[CARD_TREES / 8];
+    uint64_t own_label[CARD_TREES];
+    uint64_t branches[CARD_TREES][CARD_NEIGHBOURS];
+    uint64_t mark[CARD_LABELS];
+};
+
+/* A name or a root: its length, and then its octets. */
+struct texts {
+    uint8_t tree[CARD_TREES][NAME_SLOT];
+    uint8_t label[CARD_LABELS][NAME_SLOT];
+    uint8_t root[CARD_ROOTS][ROOT_SLOT];
+};
+
+_Static_assert(sizeof(struct table) <= CARD_NUMBERS * sizeof(uint64_t), "the table fits the lent numbers");
+_Static_assert(sizeof(struct texts) <= CARD_NAMES, "the texts fit the lent names");
+
+struct card {
+    struct table *table;
+    struct texts *texts;
+};
+
+struct text {
+    const uint8_t *octets;
+    size_t length;
+};
+
+struct message {
+    uint32_t kind, label;
+    struct text name;
+};
+
+struct output {
+    uint8_t *octets;
+    size_t room, written;
+};
+
+static struct card card_in(uint64_t *numbers, uint8_t *names)
+{
+    return (struct card){(struct table *)numbers, (struct texts *)names};
+}
+
+static uint8_t *order_of(struct table *t)
+{
+    return (uint8_t *)t->order;
+}
+
+/* ---- octets */
+
+static uint32_t two_at(const uint8_t *s)
+{
+    uint16_t x;
+    memcpy(&x, s, 2);
+    return __builtin_bswap16(x);
+}
+
+static uint32_t four_at(const uint8_t *s)
+{
+    uint32_t x;
+    memcpy(&x, s, 4);
+    return __builtin_bswap32(x);
+}
+
+static void put_two(uint8_t *s, uint32_t x)
+{
+    uint16_t swapped = __builtin_bswap16((uint16_t)x);
+    memcpy(s, &swapped, 2);
+}
+
+static void put_four(uint8_t *s, uint32_t x)
+{
+    uint32_t swapped = __builtin_bswap32(x);
+    memcpy(s, &swapped, 4);
+}
+
+static bool holds(const uint8_t *slot, struct text t)
+{
+    return slot[0] == t.length && memcmp(slot + 1, t.octets, t.length) == 0;
+}
+
+static void keep(uint8_t *slot, struct text t)
+{
+    slot[0] = (uint8_t)t.length;
+    memcpy(slot + 1, t.octets, t.length);
+}
+
+static struct text kept(const uint8_t *slot)
+{
+    return (struct text){slot + 1, slot[0]};
+}
+
+/* ---- a message in */
+
+static uint32_t element_refusal(struct text e)
+{
+    if (e.length < 4 || e.octets[0] != 6)
+        return CARD_BAD_ELEMENT;
+    uint32_t family = two_at(e.octets + 1);
+    size_t n = family == 1 ? 4 : family == 2 ? 16 : 0;
+    if (n == 0 || e.octets[3] != n || e.length < 6 + n)
+        return CARD_BAD_ELEMENT;
+    size_t k = two_at(e.octets + 4 + n);
+    if (e.length != 6 + n + k)
+        return CARD_BAD_ELEMENT;
+    return k == 0 || k > CARD_OPAQUE_MOST ? CARD_BAD_OPAQUE : CARD_ACCEPTED;
+}
+
+/* The places of the first two TLVs, how many there are, and whether a further one has its U bit clear. */
+struct framing {
+    size_t at[2];
+    size_t count;
+    bool unknown;
+};
+
+static bool read_framing(const uint8_t *m, size_t n, struct framing *f)
+{
+    *f = (struct framing){{0, 0}, 0, false};
+    for (size_t at = 8; at < n; at += 4 + two_at(m + at + 2)) {
+        if (n - at < 4 || n - at - 4 < two_at(m + at + 2))
+            return false;
+        if (f->count < 2)
+            f->at[f->count] = at;
+        else if (m[at] < 0x80)
+            f->unknown = true;
+        f->count++;
+    }
+    return true;
+}
+
+static uint32_t read_message(const uint8_t *m, size_t n, struct message *read)
+{
+    struct framing f;
+    if (n < 8 || 4 + (size_t)two_at(m + 2) != n)
+        return CARD_BAD_LENGTH;
+    read->kind = two_at(m);
+    if (read->kind != MAPPING && read->kind != WITHDRAW && read->kind != RELEASE)
+        return CARD_BAD_TYPE;
+    if (!read_framing(m, n, &f))
+        return CARD_TLV_OVERRUN;
+    if (f.count < 2 || two_at(m + f.at[0]) != 0x0100 || two_at(m + f.at[1]) != 0x0200)
+        return CARD_BAD_TLV_ORDER;
+    read->name = (struct text){m + f.at[0] + 4, two_at(m + f.at[0] + 2)};
+    uint32_t refusal = element_refusal(read->name);
+    if (refusal != CARD_ACCEPTED)
+        return refusal;
+    if (two_at(m + f.at[1] + 2) != 4)
+        return CARD_BAD_LABEL;
+    read->label = four_at(m + f.at[1] + 4);
+    if (read->label < CARD_LABEL_LEAST || read->label > CARD_LABEL_MOST)
+        return CARD_BAD_LABEL;
+    return f.unknown ? CARD_UNKNOWN_TLV : CARD_ACCEPTED;
+}
+
+/* ---- records out */
+
+static void send(struct card c, struct output *o, uint32_t to, uint32_t kind, struct text name, uint32_t label)
+{
+    uint8_t *s = o->octets + o->written;
+    s[0] = 0x4C;
+    s[1] = 0x44;
+    put_two(s + 2, to);
+    put_two(s + 4, kind);
+    put_two(s + 6, 16 + (uint32_t)name.length);
+    put_four(s + 8, (uint32_t)c.table->next_id++);
+    put_two(s + 12, 0x0100);
+    put_two(s + 14, (uint32_t)name.length);
+    memcpy(s + 16, name.octets, name.length);
+    s += 16 + name.length;
+    put_two(s, 0x0200);
+    put_two(s + 2, 4);
+    put_four(s + 4, label);
+    o->written += RECORD_HEAD + name.length;
+}
+
+/* ---- the table */
+
+/* Names of one root differ behind, so the last eight octets are compared first. */
+static size_t find_tree(const struct table *t, const struct texts *x, struct text name)
+{
+    const uint8_t *behind = name.octets + name.length - 8;
+    for (uint64_t left = t->used_slots; left != 0; left &= left - 1) {
+        size_t slot = (size_t)__builtin_ctzll(left);
+        const uint8_t *s = x->tree[slot];
+        if (s[0] == name.length && memcmp(s + 1 + name.length - 8, behind, 8) == 0 &&
+            memcmp(s + 1, name.octets, name.length - 8) == 0)
+            return slot;
+    }
+    return CARD_TREES;
+}
+
+static bool same_root(const uint8_t *octets, size_t length, struct text root)
+{
+    return length == root.length && memcmp(octets, root.octets, 4) == 0 &&
+           (length == 4 || memcmp(octets + 4, root.octets + 4, 12) == 0);
+}
+
+static size_t find_route(struct card c, struct text root)
+{
+    size_t i = 0;
+    while (i < c.table->route_count && !same_root(c.texts->root[i] + 1, c.texts->root[i][0], root))
+        i++;
+    return i;
+}
+
+static uint32_t route_of(struct card c, struct text root)
+{
+    size_t i = find_route(c, root);
+    return i < c.table->route_count ? (uint32_t)c.table->via[i] : CARD_NO_ROUTE;
+}
+
+static struct text root_of(struct text name)
+{
+    return (struct text){name.octets + 4, name.octets[3]};
+}
+
+static size_t count_free(const struct table *t)
+{
+    size_t found = 0;
+    for (int w = 0; w < CARD_LABELS / 64; w++)
+        found += (size_t)__builtin_popcountll(t->free_labels[w]);
+    return found;
+}
+
+static bool any_free(const struct table *t)
+{
+    return (t->free_labels[0] | t->free_labels[1] | t->free_labels[2] | t->free_labels[3]) != 0;
+}
+
+static size_t take_lowest_free(struct table *t)
+{
+    int w = 0;
+    while (t->free_labels[w] == 0)
+        w++;
+    size_t p = (size_t)w * 64 + (size_t)__builtin_ctzll(t->free_labels[w]);
+    t->free_labels[w] &= t->free_labels[w] - 1;
+    return p;
+}
+
+static bool is_bare(const struct table *t, size_t slot)
+{
+    uint64_t all = 0;
+    for (int n = 0; n < CARD_NEIGHBOURS; n++)
+        all |= t->branches[slot][n];
+    return all == 0 && (t->leaves >> slot & 1) == 0;
+}
+
+/* The tree is given the lowest free label, and the neighbour is told. */
+static void give_label(struct card c, struct output *o, size_t slot, uint32_t to)
+{
+    struct table *t = c.table;
+    size_t p = take_lowest_free(t);
+    t->mark[p] = (MAPPED + to) | slot << SLOT_SHIFT;
+    t->own_label[slot] = p;
+    memcpy(c.texts->label[p], c.texts->tree[slot], NAME_SLOT);
+    send(c, o, to, MAPPING, kept(c.texts->tree[slot]), (uint32_t)(t->base + p));
+}
+
+static void give_up_label(struct card c, struct output *o, size_t slot)
+{
+    struct table *t = c.table;
+    size_t p = t->own_label[slot];
+    uint32_t to = (uint32_t)(t->mark[p] & MARK) - MAPPED;
+    send(c, o, to, WITHDRAW, kept(c.texts->tree[slot]), (uint32_t)(t->base + p));
+    t->mark[p] = AWAITING + to;
+    t->own_label[slot] = NO_LABEL;
+}
+
+static size_t enter_tree(struct card c, struct text name)
+{
+    struct table *t = c.table;
+    size_t slot = (size_t)__builtin_ctzll(~t->used_slots);
+    t->used_slots |= 1ull << slot;
+    order_of(t)[t->tree_count++] = (uint8_t)slot;
+    t->own_label[slot] = NO_LABEL;
+    memset(t->branches[slot], 0, sizeof t->branches[slot]);
+    keep(c.texts->tree[slot], name);
+    return slot;
+}
+
+static void remove_tree(struct card c, size_t slot)
+{
+    struct table *t = c.table;
+    uint8_t *order = order_of(t);
+    uint8_t *at = memchr(order, (int)slot, t->tree_count);
+    memmove(at, at + 1, (size_t)(order + t->tree_count - (at + 1)));
+    t->tree_count--;
+    t->used_slots &= ~(1ull << slot);
+}
+
+/* ---- events of one tree */
+
+/* A new tree with its label: its slot, or CARD_TREES and a refusal. */
+static size_t new_tree(struct card c, struct text name, struct output *o, uint32_t *answer)
+{
+    uint32_t via = route_of(c, root_of(name));
+    bool labelled = via < CARD_NEIGHBOURS;
+    if (c.table->tree_count == CARD_TREES)
+        *answer = CARD_TREES_FULL;
+    else if (labelled && !any_free(c.table))
+        *answer = CARD_LABELS_SHORT;
+    else if (labelled && o->room < RECORD_HEAD + name.length)
+        *answer = CARD_NO_ROOM;
+    else {
+        size_t slot = enter_tree(c, name);
+        if (labelled)
+            give_label(c, o, slot, via);
+        *answer = CARD_ACCEPTED;
+        return slot;
+    }
+    return CARD_TREES;
+}
+
+static void on_mapping(struct card c, uint32_t from, const struct message *m, struct output *o, uint32_t *answer)
+{
+    size_t slot = find_tree(c.table, c.texts, m->name);
+    if (slot == CARD_TREES) {
+        slot = new_tree(c, m->name, o, answer);
+        if (slot == CARD_TREES)
+            return;
+    }
+    uint64_t *branch = &c.table->branches[slot][from];
+    if (*branch != 0 && *branch != m->label) {
+        *answer = CARD_OTHER_LABEL;
+        return;
+    }
+    *branch = m->label;
+    *answer = CARD_ACCEPTED;
+}
+
+/* The tree has neither branch nor leaf: it goes, and its label is withdrawn. */
+static void drop_tree(struct card c, size_t slot, struct output *o)
+{
+    if (c.table->own_label[slot] != NO_LABEL)
+        give_up_label(c, o, slot);
+    remove_tree(c, slot);
+}
+
+static void on_withdraw(struct card c, uint32_t from, const struct message *m, struct output *o, uint32_t *answer)
+{
+    struct table *t = c.table;
+    size_t slot = find_tree(t, c.texts, m->name);
+    size_t size = RECORD_HEAD + m->name.length;
+    bool goes = false;
+    bool branch = slot != CARD_TREES && t->branches[slot][from] == m->label;
+    if (branch) {
+        t->branches[slot][from] = 0;
+        goes = is_bare(t, slot);
+    }
+    if (o->room < (goes && t->own_label[slot] != NO_LABEL ? 2 * size : size)) {
+        if (branch)
+            t->branches[slot][from] = m->label;
+        *answer = CARD_NO_ROOM;
+        return;
+    }
+    send(c, o, from, RELEASE, m->name, m->label);
+    if (goes)
+        drop_tree(c, slot, o);
+    *answer = CARD_ACCEPTED;
+}
+
+static void on_release(struct card c, uint32_t from, const struct message *m, uint32_t *answer)
+{
+    struct table *t = c.table;
+    uint64_t p = m->label - t->base;
+    if (p >= CARD_LABELS || t->mark[p] != AWAITING + from || !holds(c.texts->label[p], m->name)) {
+        *answer = CARD_NOT_AWAITED;
+        return;
+    }
+    t->mark[p] = 0;
+    t->free_labels[p / 64] |= 1ull << p % 64;
+    *answer = CARD_ACCEPTED;
+}
+
+size_t plain_receive(uint64_t *numbers, uint8_t *names, uint32_t neighbour, const uint8_t *message,
+                     size_t message_length, uint8_t *out, size_t out_length, uint32_t *answer)
+{
+    struct card c = card_in(numbers, names);
+    struct output o = {out, out_length, 0};
+    struct message m;
+    if (neighbour >= CARD_NEIGHBOURS) {
+        *answer = CARD_NO_SUCH_NEIGHBOUR;
+        return 0;
+    }
+    *answer = read_message(message, message_length, &m);
+    if (*answer != CARD_ACCEPTED)
+        return 0;
+    if (m.kind == MAPPING)
+        on_mapping(c, neighbour, &m, &o, answer);
+    else if (m.kind == WITHDRAW)
+        on_withdraw(c, neighbour, &m, &o, answer);
+    else
+        on_release(c, neighbour, &m, answer);
+    return o.written;
+}
+
+size_t plain_join(uint64_t *numbers, uint8_t *names, const uint8_t *element, size_t element_length, uint8_t *out,
+                  size_t out_length, uint32_t *answer)
+{
+    struct card c = card_in(numbers, names);
+    struct output o = {out, out_length, 0};
+    struct text name = {element, element_length};
+    *answer = element_refusal(name);
+    if (*answer != CARD_ACCEPTED)
+        return 0;
+    size_t slot = find_tree(c.table, c.texts, name);
+    if (slot == CARD_TREES)
+        slot = new_tree(c, name, &o, answer);
+    if (slot != CARD_TREES)
+        c.table->leaves |= 1ull << slot;
+    return o.written;
+}
+
+size_t plain_leave(uint64_t *numbers, uint8_t *names, const uint8_t *element, size_t element_length, uint8_t *out,
+                   size_t out_length, uint32_t *answer)
+{
+    struct card c = card_in(numbers, names);
+    struct table *t = c.table;
+    struct output o = {out, out_length, 0};
+    struct text name = {element, element_length};
+    *answer = element_refusal(name);
+    if (*answer != CARD_ACCEPTED)
+        return 0;
+    size_t slot = find_tree(t, c.texts, name);
+    if (slot == CARD_TREES || (t->leaves >> slot & 1) == 0) {
+        *answer = CARD_NOT_A_LEAF;
+        return 0;
+    }
+    t->leaves ^= 1ull << slot;
+    bool goes = is_bare(t, slot);
+    if (goes && t->own_label[slot] != NO_LABEL && out_length < RECORD_HEAD + name.length) {
+        t->leaves ^= 1ull << slot;
+        *answer = CARD_NO_ROOM;
+        return 0;
+    }
+    if (goes)
+        drop_tree(c, slot, &o);
+    return o.written;
+}
+
+/* ---- route orders */
+
+/* The slots of a root's trees, oldest first, and how many octets the records of their move have. */
+struct move {
+    uint8_t slots[CARD_TREES];
+    size_t count, size;
+};
+
+static void plan_move(struct card c, struct text root, bool labelled, struct move *m)
+{
+    const uint8_t *order = order_of(c.table);
+    m->count = m->size = 0;
+    for (size_t i = 0; i < c.table->tree_count; i++) {
+        struct text name = kept(c.texts->tree[order[i]]);
+        if (!same_root(name.octets + 4, name.octets[3], root))
+            continue;
+        size_t records = (c.table->own_label[order[i]] != NO_LABEL) + (size_t)labelled;
+        m->size += records * (RECORD_HEAD + name.length);
+        m->slots[m->count++] = order[i];
+    }
+}
+
+static void set_route(struct card c, size_t i, struct text root, uint32_t route)
+{
+    struct table *t = c.table;
+    if (route == CARD_NO_ROUTE) {
+        t->route_count--;
+        memmove(t->via + i, t->via + i + 1, (t->route_count - i) * sizeof t->via[0]);
+        memmove(c.texts->root[i], c.texts->root[i + 1], (t->route_count - i) * ROOT_SLOT);
+        return;
+    }
+    if (i == t->route_count) {
+        keep(c.texts->root[i], root);
+        t->route_count++;
+    }
+    t->via[i] = route;
+}
+
+static uint32_t change_route(struct card c, struct text root, uint32_t route, struct output *o)
+{
+    struct table *t = c.table;
+    struct move m;
+    bool labelled = route < CARD_NEIGHBOURS;
+    size_t i = find_route(c, root);
+    uint32_t before = i < t->route_count ? (uint32_t)t->via[i] : CARD_NO_ROUTE;
+    if (before == route)
+        return CARD_ACCEPTED;
+    if (i == CARD_ROOTS)
+        return CARD_ROOTS_FULL;
+    plan_move(c, root, labelled, &m);
+    if (labelled && count_free(t) < m.count)
+        return CARD_LABELS_SHORT;
+    if (o->room < m.size)
+        return CARD_NO_ROOM;
+    for (size_t k = 0; k < m.count; k++) {
+        if (t->own_label[m.slots[k]] != NO_LABEL)
+            give_up_label(c, o, m.slots[k]);
+        if (labelled)
+            give_label(c, o, m.slots[k], route);
+    }
+    set_route(c, i, root, route);
+    return CARD_ACCEPTED;
+}
+
+size_t plain_route(uint64_t *numbers, uint8_t *names, const uint8_t *root, size_t root_length, uint32_t route,
+                   uint8_t *out, size_t out_length, uint32_t *answer)
+{
+    struct output o = {out, out_length, 0};
+    if (route > CARD_NO_ROUTE)
+        *answer = CARD_NO_SUCH_NEIGHBOUR;
+    else if (root_length != 4 && root_length != 16)
+        *answer = CARD_BAD_ELEMENT;
+    else
+        *answer = change_route(card_in(numbers, names), (struct text){root, root_length}, route, &o);
+    return o.written;
+}
+
+/* ---- start and lookups */
+
+uint32_t plain_start(uint64_t *numbers, uint32_t base)
+{
+    struct table *t = (struct table *)numbers;
+    bool taken = base >= CARD_BASE_LEAST && base <= CARD_BASE_MOST;
+    t->base = taken ? base : CARD_BASE_LEAST;
+    t->next_id = 1;
+    t->route_count = t->tree_count = t->used_slots = t->leaves = 0;
+    memset(t->free_labels, 0xff, sizeof t->free_labels);
+    memset(t->mark, 0, sizeof t->mark);
+    return taken ? CARD_ACCEPTED : CARD_BAD_BASE;
+}
+
+static bool found(const struct table *t, size_t slot, uint64_t *branches)
+{
+    memcpy(branches, t->branches[slot], sizeof t->branches[slot]);
+    return t->leaves >> slot & 1;
+}
+
+static bool nothing(uint64_t *branches)
+{
+    memset(branches, 0, CARD_NEIGHBOURS * sizeof branches[0]);
+    return false;
+}
+
+bool plain_lookup_label(const uint64_t *numbers, uint32_t label, uint64_t *branches)
+{
+    const struct table *t = (const struct table *)numbers;
+    uint64_t p = label - t->base;
+    if (p >= CARD_LABELS)
+        return nothing(branches);
+    uint64_t mark = t->mark[p];
+    if (mark == 0 || (mark & MARK) >= AWAITING)
+        return nothing(branches);
+    return found(t, mark >> SLOT_SHIFT, branches);
+}
+
+bool plain_lookup_name(const uint64_t *numbers, const uint8_t *names, const uint8_t *element, size_t element_length,
+                       uint64_t *branches)
+{
+    const struct table *t = (const struct table *)numbers;
+    struct text name = {element, element_length};
+    if (element_refusal(name) != CARD_ACCEPTED)
+        return nothing(branches);
+    size_t slot = find_tree(t, (const struct texts *)names, name);
+    return slot == CARD_TREES ? nothing(branches) : found(t, slot, branches);
+}
+
+uint32_t plain_free_labels(const uint64_t *numbers)
+{
+    return (uint32_t)count_free((const struct table *)numbers);
+}

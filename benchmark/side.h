@@ -1,0 +1,38 @@
+/* The two cards that are compared, under one set of calls. */
+#ifndef SIDE_H
+#define SIDE_H
+
+#include "day.h"
+#include "plain.h"
+
+struct side {
+    const char *name;
+    uint32_t (*start)(uint64_t *, uint32_t);
+    size_t (*receive)(uint64_t *, uint8_t *, uint32_t, const uint8_t *, size_t, uint8_t *, size_t, uint32_t *);
+    size_t (*join)(uint64_t *, uint8_t *, const uint8_t *, size_t, uint8_t *, size_t, uint32_t *);
+    size_t (*leave)(uint64_t *, uint8_t *, const uint8_t *, size_t, uint8_t *, size_t, uint32_t *);
+    size_t (*route)(uint64_t *, uint8_t *, const uint8_t *, size_t, uint32_t, uint8_t *, size_t, uint32_t *);
+    bool (*lookup_label)(const uint64_t *, uint32_t, uint64_t *);
+    bool (*lookup_name)(const uint64_t *, const uint8_t *, const uint8_t *, size_t, uint64_t *);
+    uint32_t (*free_labels)(const uint64_t *);
+};
+
+extern const struct side proved, plain;
+
+/* A card with what its calls are lent, and what they came back with. */
+struct bench {
+    const struct side *side;
+    uint64_t numbers[CARD_NUMBERS];
+    uint8_t names[CARD_NAMES];
+    uint8_t out[CARD_OUT_MOST];
+    size_t room;
+    uint32_t answer;
+    size_t written;
+    bool leaf;
+    uint64_t branches[CARD_NEIGHBOURS];
+};
+
+void open_bench(struct bench *b, const struct side *side);
+void obey(struct bench *b, const struct order *o);
+
+#endif

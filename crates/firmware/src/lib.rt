@@ -1,0 +1,116 @@
+// The card's calls for C: include/card.h declares them. Each is the call of `card`, with its contract. An array that is lent
+// passes as one pointer, a slice as a pointer and a length, so nothing of the card is copied.
+ghost use mathlib.Core.Path.{_≡_};
+ghost use mathlib.Core.List.{List};
+ghost use Prim.Native.Nat.{ℕ};
+ghost use lib.ListN.{length};
+ghost use Rattle.meaning.specs.Card.{freeLabels, lookupLabel, lookupName};
+ghost use Rattle.meaning.specs.Events.{start, event, receive, join, leave, route};
+ghost use Rattle.meaning.specs.Calls.{Does};
+ghost use Rattle.table.specs.Memory.{cardOf};
+ghost use Rattle.card.specs.Calls.{feedIn};
+
+#[no_mangle]
+pub extern "C" fn card_start(numbers: &mut [u64; 1444], base: u32) -> u32
+    ensures { λ r. ⌜ (r ≡ start base .answer) × ((os : List ℕ) → cardOf (now (numbers .exit)) os ≡ start base .card) ⌝ }
+{
+    card::start(numbers, base)
+}
+
+// ---- events: how many octets of the output were written
+
+#[no_mangle]
+pub extern "C" fn card_receive(
+    numbers: &mut [u64; 1444],
+    names: &mut [u8; 18144],
+    neighbour: u32,
+    message: &[u8],
+    out: &mut [u8],
+    answer: &mut u32,
+) -> usize
+    ensures { λ r. ⌜ Does (event (length (now (out .entry))) (cardOf (now (numbers .entry)) (now (names .entry))) (receive neighbour (now (message .entry))))
+        (now (answer .exit)) r (now (out .entry)) (now (out .exit)) (cardOf (now (numbers .exit)) (now (names .exit))) ⌝ }
+{
+    card::receive_core(numbers, names, neighbour, message, out, answer)
+}
+
+#[no_mangle]
+pub extern "C" fn card_join(
+    numbers: &mut [u64; 1444],
+    names: &mut [u8; 18144],
+    element: &[u8],
+    out: &mut [u8],
+    answer: &mut u32,
+) -> usize
+    ensures { λ r. ⌜ Does (event (length (now (out .entry))) (cardOf (now (numbers .entry)) (now (names .entry))) (join (now (element .entry))))
+        (now (answer .exit)) r (now (out .entry)) (now (out .exit)) (cardOf (now (numbers .exit)) (now (names .exit))) ⌝ }
+{
+    card::join_core(numbers, names, element, out, answer)
+}
+
+#[no_mangle]
+pub extern "C" fn card_leave(
+    numbers: &mut [u64; 1444],
+    names: &mut [u8; 18144],
+    element: &[u8],
+    out: &mut [u8],
+    answer: &mut u32,
+) -> usize
+    ensures { λ r. ⌜ Does (event (length (now (out .entry))) (cardOf (now (numbers .entry)) (now (names .entry))) (leave (now (element .entry))))
+        (now (answer .exit)) r (now (out .entry)) (now (out .exit)) (cardOf (now (numbers .exit)) (now (names .exit))) ⌝ }
+{
+    card::leave_core(numbers, names, element, out, answer)
+}
+
+#[no_mangle]
+pub extern "C" fn card_route(
+    numbers: &mut [u64; 1444],
+    names: &mut [u8; 18144],
+    root: &[u8],
+    via: u32,
+    out: &mut [u8],
+    answer: &mut u32,
+) -> usize
+    ensures { λ r. ⌜ Does (event (length (now (out .entry))) (cardOf (now (numbers .entry)) (now (names .entry))) (route (now (root .entry)) via))
+        (now (answer .exit)) r (now (out .entry)) (now (out .exit)) (cardOf (now (numbers .exit)) (now (names .exit))) ⌝ }
+{
+    card::route_core(numbers, names, root, via, out, answer)
+}
+
+// ---- lookups: the branches go into a lent array, and the leaf mark is handed back
+
+#[no_mangle]
+pub extern "C" fn card_lookup_label(
+    numbers: &[u64; 1444],
+    label: u32,
+    branches: &mut [u64; 16],
+) -> bool
+    ensures { λ r. ⌜ ((os : List ℕ) → feedIn (now (branches .exit)) r ≡ lookupLabel label (cardOf (now (numbers .entry)) os)) ⌝ }
+{
+    let feed = card::lookup_label(numbers, label);
+    let found = feed.branches;
+    *branches = found;
+    feed.leaf
+}
+
+#[no_mangle]
+pub extern "C" fn card_lookup_name(
+    numbers: &[u64; 1444],
+    names: &[u8; 18144],
+    element: &[u8],
+    branches: &mut [u64; 16],
+) -> bool
+    ensures { λ r. ⌜ feedIn (now (branches .exit)) r ≡ lookupName (now (element .entry)) (cardOf (now (numbers .entry)) (now (names .entry))) ⌝ }
+{
+    let feed = card::lookup_name(numbers, names, element);
+    let found = feed.branches;
+    *branches = found;
+    feed.leaf
+}
+
+#[no_mangle]
+pub extern "C" fn card_free_labels(numbers: &[u64; 1444]) -> u32
+    ensures { λ r. ⌜ ((os : List ℕ) → r ≡ freeLabels (cardOf (now (numbers .entry)) os)) ⌝ }
+{
+    card::free_labels(numbers)
+}
