@@ -5,7 +5,6 @@ use mathlib.Core.Path.{_≡_, refl, sym, ap, ap₂, _∙_, subst}
 use mathlib.Core.Bool.{Bool, true, false, not, _&&_, _||_, and-false}
 use mathlib.Core.List.{List, [], _∷_, _++_}
 use lib.ListN.{take, drop, getD, length, replicate}
-use lib.Seq.{take-append-seam}
 use lib.Dec.{eqb, leb, ltb}
 use borrow.Author.Tests.{eq-eqb, ne-eqb, eqb-true, le-leb, lt-leb, leb-true, leb-false, le-ltb, lt-ltb, ltb-true, ltb-false}
 use Rattle.meaning.specs.Octets.{pick, place, _when_else_}
@@ -14,7 +13,7 @@ use Rattle.meaning.specs.Wire.{Message, mapping, withdraw, release, messageIn, 
 use Rattle.meaning.specs.RoundTrip.{Heard, heard, name-fits}
 use Rattle.meaning.specs.Card.{Card, Tree, Use, free, mapped, awaiting, Feed, noRoute, fresh, withNext, bare, treePlace, treeAt, isBranch, mappedTo, useOf, nothing, branchesFrom, feedOf, carries, carrier, feedOfUse, lookupLabel, lookupName}
 use Rattle.meaning.specs.Events.{Out, Outcome, refused, unless, refuse, accept, finish, onMapping, onWithdraw, onRelease, onMessage, noNeighbour, onOctets, onJoin, onLeave, notRoute, notRoot, onRoute, Event, receive, join, leave, route, outcome, event, baseOutside, start}
-use Rattle.meaning.specs.Calls.{over, Does, Hands}
+use Rattle.meaning.specs.Calls.{Does}
 use Rattle.octets.specs.Part.{tab}
 use Rattle.octets.proofs.Tab.{tab-length, tab-get}
 use Rattle.table.specs.Memory.{cardOf, baseIn, treeCount, useIn, labelIn, labelName}
@@ -125,18 +124,6 @@ module _ (c : Card) (e : List ℕ) where
   pub leave-is : elementRefusal e ≡ 0 → (room : ℕ) → finish room c (leaveOf c e) ≡ event room c (leave e)
   unfolding event outcome onLeave leaveOf
   leave-is z room = ap (finish room c) (sym (unless-none (elementRefusal e) _ z))
-
--- ---- from the core to the part that is handed back
-
-module _ (o : Out) (a n : ℕ) (s s' : List ℕ) (c : Card) (d : Does o a n s s' c) where
-  pub handed : Hands o a (take n s') c
-  handed = record { answers = d .answers; hands = front; leaves = d .leaves }
-    where
-      front : take n s' ≡ o .octets
-      front = rw (d .counts, d .writes) (unfold over in take-append-seam (o .octets) (drop (length (o .octets)) s))
-
-  pub handed-count : n ≡ length (take n s')
-  handed-count = d .counts ∙ ap length (sym (handed .hands))
 
 -- the same outcome by another name
 pub does-same : (room : ℕ) (c : Card) (o o' : Outcome) (a n : ℕ) (s s' : List ℕ) (d : Card) → o ≡ o' → Does (finish room c o) a n s s' d → Does (finish room c o') a n s s' d

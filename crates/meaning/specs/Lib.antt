@@ -10,3 +10,7 @@ pub mod WireLaws
 pub mod RoundTrip
 pub mod Calls
 pub mod Refusals
+pub mod Handed
+pub mod Notice
+pub mod NoticeExamples
+pub mod NoticeLaws
