@@ -8,9 +8,12 @@ use mathlib.Core.List.{List, [], _∷_, _++_, append-assoc}
 use lib.ListN.{length, take, drop, getD, set, length-append, length-drop, length-set}
 use lib.Seq.{length-take-le, take-append-add, take-at, take-suc, take-suc-set}
 use borrow.Author.Tests.{lt-leb}
-use Rattle.orders.specs.Line.{ascii, Puts, hexOf, Said, orderOf, meant, Lies, InLine, Tells}
+use Rattle.orders.specs.Line.{ascii, Puts, hexOf, Said, orderOf, meant, Lies, InLine}
 use Rattle.orders.specs.declared.Order.{Order}
-use Rattle.bench.specs.Text.{countLine, recordsText, eventLine, branchText, branchesFrom, orNothing, feedLine, Adds, IsCount, IsEvent, IsFeed, Keeps}
+use Rattle.orders.proofs.Order.{the-type}
+use denote.Enum.Declared.{tagOf}
+use types.Run.{OneOf, miss}
+use Rattle.bench.specs.Text.{countLine, recordsText, eventLine, branchText, branchesFrom, orNothing, feedLine, Adds, IsCount, IsEvent, IsFeed, IsEventLine, IsLine, roomAfter, Keeps}
 
 append-nil : (l : List ℕ) → l ++ [] ≡ l
 append-nil [] = refl
@@ -99,12 +102,52 @@ is-event word before after n rs r a = record { answer = n; records = rs; line = 
 pub is-feed : (word before after : List ℕ) (leaf : Bool) (bs : List ℕ) (r : ℕ) → Adds (feedLine word leaf bs) before after 0 r → IsFeed word (take r after)
 is-feed word before after leaf bs r a = record { leaf = leaf; branches = bs; line = a .text }
 
--- what the order that was read says
-pub told : (l : List ℕ) (s : Said) (r o : Order) → Tells l s r → r ≡ o → s ≡ meant l o
-told l s r o t e = sym (t .means) ∙ ap (meant l) e
+-- ---- an order, by its variant
 
-pub lies : (l : List ℕ) (s : Said) (r o : Order) → Tells l s r → r ≡ o → InLine l o
-lies l s r o t e = rw e at (t .lies)
+pub lies : (l : List ℕ) (r o : Order) → InLine l r → r ≡ o → InLine l o
+lies l r o h e = rw e at h
+
+pub event-other : (l : List ℕ) (o : Order) (text : List ℕ) → OneOf (0 ∷ 1 ∷ 2 ∷ 3 ∷ 8 ∷ 9 ∷ 10 ∷ []) (tagOf the-type o) → IsEventLine (meant l o) text
+unfolding meant
+event-other l Order.Blank text h = tt
+event-other l Order.Bad text h = tt
+event-other l (Order.Start n) text h = tt
+event-other l (Order.Room n) text h = tt
+event-other l (Order.Take n s e) text h = absurd (miss (0 ∷ 1 ∷ 2 ∷ 3 ∷ 8 ∷ 9 ∷ 10 ∷ []) 4 tt h)
+event-other l (Order.Join s e) text h = absurd (miss (0 ∷ 1 ∷ 2 ∷ 3 ∷ 8 ∷ 9 ∷ 10 ∷ []) 5 tt h)
+event-other l (Order.Leave s e) text h = absurd (miss (0 ∷ 1 ∷ 2 ∷ 3 ∷ 8 ∷ 9 ∷ 10 ∷ []) 6 tt h)
+event-other l (Order.Route s e n) text h = absurd (miss (0 ∷ 1 ∷ 2 ∷ 3 ∷ 8 ∷ 9 ∷ 10 ∷ []) 7 tt h)
+event-other l (Order.Label n) text h = tt
+event-other l (Order.Tree s e) text h = tt
+event-other l Order.Free text h = tt
+
+pub event-line : (l : List ℕ) (o : Order) (number : ℕ) (text : List ℕ) → OneOf (4 ∷ 5 ∷ 6 ∷ 7 ∷ []) (tagOf the-type o) → IsEventLine (meant l o) text → IsLine (meant l o) number text
+unfolding meant
+event-line l Order.Blank number text h e = absurd (miss (4 ∷ 5 ∷ 6 ∷ 7 ∷ []) 0 tt h)
+event-line l Order.Bad number text h e = absurd (miss (4 ∷ 5 ∷ 6 ∷ 7 ∷ []) 1 tt h)
+event-line l (Order.Start n) number text h e = absurd (miss (4 ∷ 5 ∷ 6 ∷ 7 ∷ []) 2 tt h)
+event-line l (Order.Room n) number text h e = absurd (miss (4 ∷ 5 ∷ 6 ∷ 7 ∷ []) 3 tt h)
+event-line l (Order.Take n s f) number text h e = e
+event-line l (Order.Join s f) number text h e = e
+event-line l (Order.Leave s f) number text h e = e
+event-line l (Order.Route s f n) number text h e = e
+event-line l (Order.Label n) number text h e = absurd (miss (4 ∷ 5 ∷ 6 ∷ 7 ∷ []) 8 tt h)
+event-line l (Order.Tree s f) number text h e = absurd (miss (4 ∷ 5 ∷ 6 ∷ 7 ∷ []) 9 tt h)
+event-line l Order.Free number text h e = absurd (miss (4 ∷ 5 ∷ 6 ∷ 7 ∷ []) 10 tt h)
+
+pub room-other : (l : List ℕ) (o : Order) (room : ℕ) → OneOf (0 ∷ 1 ∷ 2 ∷ 4 ∷ 5 ∷ 6 ∷ 7 ∷ 8 ∷ 9 ∷ 10 ∷ []) (tagOf the-type o) → room ≡ roomAfter room (meant l o)
+unfolding meant
+room-other l Order.Blank room h = refl
+room-other l Order.Bad room h = refl
+room-other l (Order.Start n) room h = refl
+room-other l (Order.Room n) room h = absurd (miss (0 ∷ 1 ∷ 2 ∷ 4 ∷ 5 ∷ 6 ∷ 7 ∷ 8 ∷ 9 ∷ 10 ∷ []) 3 tt h)
+room-other l (Order.Take n s e) room h = refl
+room-other l (Order.Join s e) room h = refl
+room-other l (Order.Leave s e) room h = refl
+room-other l (Order.Route s e n) room h = refl
+room-other l (Order.Label n) room h = refl
+room-other l (Order.Tree s e) room h = refl
+room-other l Order.Free room h = refl
 
 pub short : (l : List ℕ) (s e : ℕ) → Lies l s e → length (take (e - s) (drop s l)) ≤ 8192
 short l s e h = let n = length-take-le (e - s) (drop s l) (simp length-drop (omega arith)) in omega arith

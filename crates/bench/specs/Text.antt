@@ -60,7 +60,21 @@ pub record IsFeed (word text : List ℕ) : Type 0 where
   pub branches : List ℕ
   pub line : text ≡ feedLine word leaf branches
 
--- the line for an order on the line of that number: of the form that the order has
+-- the line for an event, of the form that it has
+abbrev pub IsEventLine : Said → List ℕ → Type 0
+IsEventLine Said.nothing text = Unit
+IsEventLine Said.bad text = Unit
+IsEventLine (Said.start base) text = Unit
+IsEventLine (Said.room n) text = Unit
+IsEventLine (Said.take n message) text = IsEvent (ascii "take") text
+IsEventLine (Said.join element) text = IsEvent (ascii "join") text
+IsEventLine (Said.leave element) text = IsEvent (ascii "leave") text
+IsEventLine (Said.route root via) text = IsEvent (ascii "route") text
+IsEventLine (Said.label n) text = Unit
+IsEventLine (Said.tree element) text = Unit
+IsEventLine Said.free text = Unit
+
+-- the line for any order, on the line of that number
 abbrev pub IsLine : Said → ℕ → List ℕ → Type 0
 IsLine Said.nothing number text = text ≡ []
 IsLine Said.bad number text = text ≡ countLine (ascii "?") number

@@ -3,9 +3,9 @@ ghost use mathlib.Core.Path.{_≡_};
 ghost use mathlib.Core.List.{List, [], _∷_, _++_};
 ghost use Prim.Native.Nat.{ℕ, _+_, _*_, _≤_};
 ghost use lib.ListN.{length, take};
-ghost use Rattle.orders.specs.Line.{ascii, orderOf, numeral, hexOf};
+ghost use Rattle.orders.specs.Line.{ascii, orderOf, meant, InLine, numeral, hexOf};
 ghost use Rattle.bench.specs.Text.{countLine, recordsText, eventLine, branchText, branchesFrom, leafText, feedLine, Adds};
-ghost use Rattle.bench.specs.Text.{IsEvent, IsFeed, Answers, Keeps};
+ghost use Rattle.bench.specs.Text.{IsEvent, IsFeed, IsLine, IsEventLine, roomAfter, Answers, Keeps};
 use card::Feed;
 use orders::Order;
 
@@ -134,7 +134,6 @@ fn put_feed(text: &mut [u8], word: &[u8], feed: Feed) -> usize
     ensures { λ r. ⌜ Adds (feedLine (now (word .entry)) (feed .leaf) (feed .branches)) (now (text .entry)) (now (text .exit)) 0 r ⌝ }
     ensures { λ r. ⌜ r ≤ 20480 ⌝ }
 {
-    let zz: u8 = 0;
     let branches = feed.branches;
     let start = put(text, 0, word);
     let at = put_leaf(text, start, feed.leaf);
@@ -148,10 +147,10 @@ fn put_feed(text: &mut [u8], word: &[u8], feed: Feed) -> usize
 
 // ---- orders
 
-// What a line is answered with: a text's length, and the room from here on.
-struct Answered {
-    length: usize,
-    room: u32,
+fn output() -> [u8; 9984]
+    ensures { λ r. ⌜ 9984 ≡ length r ⌝ }
+{
+    [0; 9984]
 }
 
 // The octets of output that an event is lent: as many as the room says, or all.
@@ -176,9 +175,9 @@ fn on_take(
     requires { ⌜ (length (now hex) ≤ 8192) × (20480 ≤ length (now text)) ⌝ }
     ensures { λ r. ⌜ (r ≤ 20480) × IsEvent (ascii "take") (take r (now (text .exit))) ⌝ }
 {
-    let mut message = [0u8; 4096];
+    let mut message = io::buffer();
     let n = orders::decode_hex(hex, &mut message);
-    let mut out = [0u8; 9984];
+    let mut out = output();
     let mut answer: u32 = 0;
     let records = card::receive(
         numbers,
@@ -201,9 +200,9 @@ fn on_join(
     requires { ⌜ (length (now hex) ≤ 8192) × (20480 ≤ length (now text)) ⌝ }
     ensures { λ r. ⌜ (r ≤ 20480) × IsEvent (ascii "join") (take r (now (text .exit))) ⌝ }
 {
-    let mut element = [0u8; 4096];
+    let mut element = io::buffer();
     let n = orders::decode_hex(hex, &mut element);
-    let mut out = [0u8; 9984];
+    let mut out = output();
     let mut answer: u32 = 0;
     let records = card::join(
         numbers,
@@ -225,9 +224,9 @@ fn on_leave(
     requires { ⌜ (length (now hex) ≤ 8192) × (20480 ≤ length (now text)) ⌝ }
     ensures { λ r. ⌜ (r ≤ 20480) × IsEvent (ascii "leave") (take r (now (text .exit))) ⌝ }
 {
-    let mut element = [0u8; 4096];
+    let mut element = io::buffer();
     let n = orders::decode_hex(hex, &mut element);
-    let mut out = [0u8; 9984];
+    let mut out = output();
     let mut answer: u32 = 0;
     let records = card::leave(
         numbers,
@@ -250,9 +249,9 @@ fn on_route(
     requires { ⌜ (length (now hex) ≤ 8192) × (20480 ≤ length (now text)) ⌝ }
     ensures { λ r. ⌜ (r ≤ 20480) × IsEvent (ascii "route") (take r (now (text .exit))) ⌝ }
 {
-    let mut root = [0u8; 4096];
+    let mut root = io::buffer();
     let n = orders::decode_hex(hex, &mut root);
-    let mut out = [0u8; 9984];
+    let mut out = output();
     let mut answer: u32 = 0;
     let records = card::route(
         numbers,
@@ -269,7 +268,7 @@ fn on_tree(numbers: &[u64; 1444], names: &[u8; 18144], hex: &[u8], text: &mut [u
     requires { ⌜ (length (now hex) ≤ 8192) × (20480 ≤ length (now text)) ⌝ }
     ensures { λ r. ⌜ (r ≤ 20480) × IsFeed (ascii "tree") (take r (now (text .exit))) ⌝ }
 {
-    let mut element = [0u8; 4096];
+    let mut element = io::buffer();
     let n = orders::decode_hex(hex, &mut element);
     put_feed(
         text,
@@ -278,7 +277,72 @@ fn on_tree(numbers: &[u64; 1444], names: &[u8; 18144], hex: &[u8], text: &mut [u
     )
 }
 
-// Does what a line orders, and writes the answer to the front of `text`.
+fn on_event(
+    numbers: &mut [u64; 1444],
+    names: &mut [u8; 18144],
+    line: &[u8],
+    order: Order,
+    room: u32,
+    text: &mut [u8],
+) -> usize
+    requires { ⌜ InLine (now line) order × (20480 ≤ length (now text)) ⌝ }
+    ensures { λ r. ⌜ (r ≤ 20480) × IsEventLine (meant (now (line .entry)) order) (take r (now (text .exit))) ⌝ }
+{
+    match order {
+        Order::Take {
+            neighbour,
+            start,
+            end,
+        } => on_take(numbers, names, neighbour, &line[start..end], room, text),
+        Order::Join { start, end } => on_join(numbers, names, &line[start..end], room, text),
+        Order::Leave { start, end } => on_leave(numbers, names, &line[start..end], room, text),
+        Order::Route { start, end, route } => {
+            on_route(numbers, names, &line[start..end], route, room, text)
+        }
+        _ => 0,
+    }
+}
+
+// Does what is ordered, and writes the answer to the front of `text`.
+fn obey(
+    numbers: &mut [u64; 1444],
+    names: &mut [u8; 18144],
+    line: &[u8],
+    order: Order,
+    number: u64,
+    room: u32,
+    text: &mut [u8],
+) -> usize
+    requires { ⌜ InLine (now line) order × (20480 ≤ length (now text)) ⌝ }
+    ensures { λ r. ⌜ (r ≤ 20480) × IsLine (meant (now (line .entry)) order) number (take r (now (text .exit))) ⌝ }
+{
+    match order {
+        Order::Blank => 0,
+        Order::Bad => put_count(text, b"?", number),
+        Order::Start(base) => put_count(text, b"start", card::start(numbers, base) as u64),
+        Order::Room(n) => put_count(text, b"room", n as u64),
+        Order::Label(label) => put_feed(text, b"label", card::lookup_label(numbers, label)),
+        Order::Tree { start, end } => on_tree(numbers, names, &line[start..end], text),
+        Order::Free => put_count(text, b"free", card::free_labels(numbers) as u64),
+        _ => on_event(numbers, names, line, order, room, text),
+    }
+}
+
+// What a line is answered with: a text's length, and the room from here on.
+struct Answered {
+    length: usize,
+    room: u32,
+}
+
+fn next_room(room: u32, order: Order) -> u32
+    ensures { λ r. ⌜ ((l : List ℕ) → r ≡ roomAfter room (meant l order)) ⌝ }
+{
+    match order {
+        Order::Room(n) => n,
+        _ => room,
+    }
+}
+
 fn answer(
     numbers: &mut [u64; 1444],
     names: &mut [u8; 18144],
@@ -290,52 +354,10 @@ fn answer(
     requires { ⌜ 20480 ≤ length (now text) ⌝ }
     ensures { λ r. ⌜ Answers (orderOf (now (line .entry))) number room (r .room) (r .length) (now (text .exit)) ⌝ }
 {
-    match orders::read_order(line) {
-        Order::Blank => Answered { length: 0, room },
-        Order::Bad => Answered {
-            length: put_count(text, b"?", number),
-            room,
-        },
-        Order::Start(base) => Answered {
-            length: put_count(text, b"start", card::start(numbers, base) as u64),
-            room,
-        },
-        Order::Room(n) => Answered {
-            length: put_count(text, b"room", n as u64),
-            room: n,
-        },
-        Order::Take {
-            neighbour,
-            start,
-            end,
-        } => Answered {
-            length: on_take(numbers, names, neighbour, &line[start..end], room, text),
-            room,
-        },
-        Order::Join { start, end } => Answered {
-            length: on_join(numbers, names, &line[start..end], room, text),
-            room,
-        },
-        Order::Leave { start, end } => Answered {
-            length: on_leave(numbers, names, &line[start..end], room, text),
-            room,
-        },
-        Order::Route { start, end, route } => Answered {
-            length: on_route(numbers, names, &line[start..end], route, room, text),
-            room,
-        },
-        Order::Label(label) => Answered {
-            length: put_feed(text, b"label", card::lookup_label(numbers, label)),
-            room,
-        },
-        Order::Tree { start, end } => Answered {
-            length: on_tree(numbers, names, &line[start..end], text),
-            room,
-        },
-        Order::Free => Answered {
-            length: put_count(text, b"free", card::free_labels(numbers) as u64),
-            room,
-        },
+    let order = orders::read_order(line);
+    Answered {
+        length: obey(numbers, names, line, order, number, room, text),
+        room: next_room(room, order),
     }
 }
 

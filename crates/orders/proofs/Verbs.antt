@@ -13,7 +13,7 @@ use types.Run.{OneOf, miss}
 use Rattle.meaning.specs.Octets.{pick, same}
 use Rattle.meaning.specs.Lists.{by-test, same-eq}
 use Rattle.orders.specs.Line.{part, ascii, all, isHexDigit, isHex, value, isNumber, octetsOf, Said, meant, withNumber, withHex, withNumberHex, withHexNumber, does, Lies, Tells}
-use Rattle.orders.specs.Scan.{numberIn}
+use Rattle.orders.specs.Scan.{numberIn, numbered, asNumber, withOctets, asHex}
 use Rattle.orders.specs.declared.Number.{Number}
 use Rattle.orders.specs.declared.Verb.{Verb}
 use Rattle.orders.specs.declared.Order.{Order}
@@ -105,18 +105,77 @@ either : (b : Bool) (s : Said) → s ≡ Said.bad → pick b s Said.bad ≡ Said
 either true s e = e
 either false s e = refl
 
-pub one-bad : (l : List ℕ) (v : Verb) (w : List ℕ) → OneOf (2 ∷ 5 ∷ 8 ∷ 9 ∷ []) (tagOf the-type v) → Tells l (does v (w ∷ [])) Order.Bad
-unfolding does withNumber withHex withNumberHex withHexNumber
-one-bad l Verb.Start w h = absurd (miss (2 ∷ 5 ∷ 8 ∷ 9 ∷ []) 0 tt h)
-one-bad l Verb.Room w h = absurd (miss (2 ∷ 5 ∷ 8 ∷ 9 ∷ []) 1 tt h)
-one-bad l Verb.Take w h = tells-bad l _ (either (isNumber w) Said.bad refl)
-one-bad l Verb.Join w h = absurd (miss (2 ∷ 5 ∷ 8 ∷ 9 ∷ []) 3 tt h)
-one-bad l Verb.Leave w h = absurd (miss (2 ∷ 5 ∷ 8 ∷ 9 ∷ []) 4 tt h)
-one-bad l Verb.Route w h = tells-bad l _ (either (isHex w) Said.bad refl)
-one-bad l Verb.Label w h = absurd (miss (2 ∷ 5 ∷ 8 ∷ 9 ∷ []) 6 tt h)
-one-bad l Verb.Tree w h = absurd (miss (2 ∷ 5 ∷ 8 ∷ 9 ∷ []) 7 tt h)
-one-bad l Verb.Free w h = tells-bad l _ refl
-one-bad l Verb.Other w h = tells-bad l _ refl
+-- ---- one further word
+
+pub as-number : (v : Verb) (w : List ℕ) (n : ℕ) (k : Number) → k ≡ numberIn w → k ≡ Number.Is n → numbered v n ≡ asNumber v w
+unfolding asNumber
+as-number v w n k e g = let t = number-value w n (sym e ∙ g) in rw (t .0, t .1)
+
+pub no-as-number : (v : Verb) (w : List ℕ) (k : Number) → k ≡ numberIn w → k ≡ Number.None → asNumber v w ≡ Said.bad
+unfolding asNumber
+no-as-number v w k e g = rw (number-none w (sym e ∙ g))
+
+pub as-hex : (v : Verb) (w : List ℕ) (b : Bool) → b ≡ isHex w → b ≡ true → withOctets v (octetsOf w) ≡ asHex v w
+unfolding asHex
+as-hex v w b e g = rw (sym e ∙ g)
+
+pub no-as-hex : (v : Verb) (w : List ℕ) (b : Bool) → b ≡ isHex w → b ≡ false → asHex v w ≡ Said.bad
+unfolding asHex
+no-as-hex v w b e g = rw (sym e ∙ g)
+
+pub numbered-other : (v : Verb) (n : ℕ) → OneOf (2 ∷ 3 ∷ 4 ∷ 5 ∷ 7 ∷ 8 ∷ 9 ∷ []) (tagOf the-type v) → numbered v n ≡ Said.bad
+unfolding numbered
+numbered-other Verb.Start n h = absurd (miss (2 ∷ 3 ∷ 4 ∷ 5 ∷ 7 ∷ 8 ∷ 9 ∷ []) 0 tt h)
+numbered-other Verb.Room n h = absurd (miss (2 ∷ 3 ∷ 4 ∷ 5 ∷ 7 ∷ 8 ∷ 9 ∷ []) 1 tt h)
+numbered-other Verb.Take n h = refl
+numbered-other Verb.Join n h = refl
+numbered-other Verb.Leave n h = refl
+numbered-other Verb.Route n h = refl
+numbered-other Verb.Label n h = absurd (miss (2 ∷ 3 ∷ 4 ∷ 5 ∷ 7 ∷ 8 ∷ 9 ∷ []) 6 tt h)
+numbered-other Verb.Tree n h = refl
+numbered-other Verb.Free n h = refl
+numbered-other Verb.Other n h = refl
+
+pub octets-other : (v : Verb) (o : List ℕ) → OneOf (0 ∷ 1 ∷ 2 ∷ 5 ∷ 6 ∷ 8 ∷ 9 ∷ []) (tagOf the-type v) → withOctets v o ≡ Said.bad
+unfolding withOctets
+octets-other Verb.Start o h = refl
+octets-other Verb.Room o h = refl
+octets-other Verb.Take o h = refl
+octets-other Verb.Join o h = absurd (miss (0 ∷ 1 ∷ 2 ∷ 5 ∷ 6 ∷ 8 ∷ 9 ∷ []) 3 tt h)
+octets-other Verb.Leave o h = absurd (miss (0 ∷ 1 ∷ 2 ∷ 5 ∷ 6 ∷ 8 ∷ 9 ∷ []) 4 tt h)
+octets-other Verb.Route o h = refl
+octets-other Verb.Label o h = refl
+octets-other Verb.Tree o h = absurd (miss (0 ∷ 1 ∷ 2 ∷ 5 ∷ 6 ∷ 8 ∷ 9 ∷ []) 7 tt h)
+octets-other Verb.Free o h = refl
+octets-other Verb.Other o h = refl
+
+pub one-number-does : (v : Verb) (w : List ℕ) → OneOf (0 ∷ 1 ∷ 6 ∷ []) (tagOf the-type v) → does v (w ∷ []) ≡ asNumber v w
+unfolding does withNumber asNumber numbered
+one-number-does Verb.Start w h = refl
+one-number-does Verb.Room w h = refl
+one-number-does Verb.Take w h = absurd (miss (0 ∷ 1 ∷ 6 ∷ []) 2 tt h)
+one-number-does Verb.Join w h = absurd (miss (0 ∷ 1 ∷ 6 ∷ []) 3 tt h)
+one-number-does Verb.Leave w h = absurd (miss (0 ∷ 1 ∷ 6 ∷ []) 4 tt h)
+one-number-does Verb.Route w h = absurd (miss (0 ∷ 1 ∷ 6 ∷ []) 5 tt h)
+one-number-does Verb.Label w h = refl
+one-number-does Verb.Tree w h = absurd (miss (0 ∷ 1 ∷ 6 ∷ []) 7 tt h)
+one-number-does Verb.Free w h = absurd (miss (0 ∷ 1 ∷ 6 ∷ []) 8 tt h)
+one-number-does Verb.Other w h = absurd (miss (0 ∷ 1 ∷ 6 ∷ []) 9 tt h)
+
+pub one-hex-does : (v : Verb) (w : List ℕ) → OneOf (2 ∷ 3 ∷ 4 ∷ 5 ∷ 7 ∷ 8 ∷ 9 ∷ []) (tagOf the-type v) → does v (w ∷ []) ≡ asHex v w
+unfolding does withNumber withHex withNumberHex withHexNumber asHex withOctets
+one-hex-does Verb.Start w h = absurd (miss (2 ∷ 3 ∷ 4 ∷ 5 ∷ 7 ∷ 8 ∷ 9 ∷ []) 0 tt h)
+one-hex-does Verb.Room w h = absurd (miss (2 ∷ 3 ∷ 4 ∷ 5 ∷ 7 ∷ 8 ∷ 9 ∷ []) 1 tt h)
+one-hex-does Verb.Take w h = either (isNumber w) Said.bad refl ∙ sym (either (isHex w) Said.bad refl)
+one-hex-does Verb.Join w h = refl
+one-hex-does Verb.Leave w h = refl
+one-hex-does Verb.Route w h = refl
+one-hex-does Verb.Label w h = absurd (miss (2 ∷ 3 ∷ 4 ∷ 5 ∷ 7 ∷ 8 ∷ 9 ∷ []) 6 tt h)
+one-hex-does Verb.Tree w h = refl
+one-hex-does Verb.Free w h = sym (either (isHex w) Said.bad refl)
+one-hex-does Verb.Other w h = sym (either (isHex w) Said.bad refl)
+
+-- ---- two further words, and more
 
 pub two-bad : (l : List ℕ) (v : Verb) (w x : List ℕ) → OneOf (0 ∷ 1 ∷ 3 ∷ 4 ∷ 6 ∷ 7 ∷ 8 ∷ 9 ∷ []) (tagOf the-type v) → Tells l (does v (w ∷ x ∷ [])) Order.Bad
 unfolding does withNumber withHex withNumberHex withHexNumber

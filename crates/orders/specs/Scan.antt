@@ -4,8 +4,9 @@ use mathlib.Core.Bool.{Bool, not, _||_}
 use mathlib.Core.List.{List, [], _∷_}
 use lib.Dec.{eqb}
 use Rattle.meaning.specs.Octets.{pick}
-use Rattle.orders.specs.Line.{isGap, value, isNumber}
+use Rattle.orders.specs.Line.{isGap, value, isNumber, isHex, octetsOf, Said}
 use Rattle.orders.specs.declared.Number.{Number}
+use Rattle.orders.specs.declared.Verb.{Verb}
 
 -- an octet of a word
 abbrev pub isLetter : ℕ → Bool
@@ -18,3 +19,34 @@ letters (c ∷ cs) = let more = suc (letters cs) in pick (isLetter c) more 0
 
 unfoldable pub numberIn : List ℕ → Number
 numberIn w = pick (isNumber w) (Number.Is (value w)) Number.None
+
+-- a verb with a number alone, and with HEX alone
+unfoldable pub numbered : Verb → ℕ → Said
+numbered Verb.Start n = Said.start n
+numbered Verb.Room n = Said.room n
+numbered Verb.Take n = Said.bad
+numbered Verb.Join n = Said.bad
+numbered Verb.Leave n = Said.bad
+numbered Verb.Route n = Said.bad
+numbered Verb.Label n = Said.label n
+numbered Verb.Tree n = Said.bad
+numbered Verb.Free n = Said.bad
+numbered Verb.Other n = Said.bad
+
+unfoldable pub asNumber : Verb → List ℕ → Said
+asNumber v w = pick (isNumber w) (numbered v (value w)) Said.bad
+
+unfoldable pub withOctets : Verb → List ℕ → Said
+withOctets Verb.Start o = Said.bad
+withOctets Verb.Room o = Said.bad
+withOctets Verb.Take o = Said.bad
+withOctets Verb.Join o = Said.join o
+withOctets Verb.Leave o = Said.leave o
+withOctets Verb.Route o = Said.bad
+withOctets Verb.Label o = Said.bad
+withOctets Verb.Tree o = Said.tree o
+withOctets Verb.Free o = Said.bad
+withOctets Verb.Other o = Said.bad
+
+unfoldable pub asHex : Verb → List ℕ → Said
+asHex v w = pick (isHex w) (withOctets v (octetsOf w)) Said.bad

@@ -6,7 +6,7 @@ ghost use Prim.Native.Nat.{_+_, _-_, _*_, _/_, _≤_, _<_};
 ghost use lib.ListN.{length, take, drop, getD};
 ghost use Rattle.orders.specs.Line.{part, all, isGap, words, isDigit, isUpper, isLower, isHexDigit, digit, isHex, octetsOf};
 ghost use Rattle.orders.specs.Line.{verbOf, does, orderOf, Tells, NextWord, numeral, glyph as glyphOf, hexOf, Puts};
-ghost use Rattle.orders.specs.Scan.{isLetter, letters, numberIn};
+ghost use Rattle.orders.specs.Scan.{isLetter, letters, numberIn, asNumber, asHex};
 
 // ---- words
 
@@ -319,45 +319,46 @@ fn with_none(line: &[u8], verb: Verb) -> Order
     }
 }
 
+// A number alone, as `start`, `room` and `label` take it.
+fn with_number(line: &[u8], verb: Verb, start: usize, end: usize) -> Order
+    requires { ⌜ (start ≤ end) × (end ≤ length (now line)) ⌝ }
+    ensures { λ r. ⌜ Tells (now (line .entry)) (asNumber verb (part start end (now (line .entry)))) r ⌝ }
+{
+    let Number::Is(n) = read_number(&line[start..end]) else {
+        return Order::Bad;
+    };
+    match verb {
+        Verb::Start => Order::Start(n),
+        Verb::Room => Order::Room(n),
+        Verb::Label => Order::Label(n),
+        _ => Order::Bad,
+    }
+}
+
+// HEX alone, as `join`, `leave` and `tree` take it.
+fn with_hex(line: &[u8], verb: Verb, start: usize, end: usize) -> Order
+    requires { ⌜ (start ≤ end) × (end ≤ length (now line)) ⌝ }
+    ensures { λ r. ⌜ Tells (now (line .entry)) (asHex verb (part start end (now (line .entry)))) r ⌝ }
+{
+    if is_hex(&line[start..end]) {
+        return match verb {
+            Verb::Join => Order::Join { start, end },
+            Verb::Leave => Order::Leave { start, end },
+            Verb::Tree => Order::Tree { start, end },
+            _ => Order::Bad,
+        };
+    }
+    Order::Bad
+}
+
 // An order with one further word, at `start..end`.
 fn with_one(line: &[u8], verb: Verb, start: usize, end: usize) -> Order
     requires { ⌜ (start ≤ end) × (end ≤ length (now line)) ⌝ }
     ensures { λ r. ⌜ Tells (now (line .entry)) (does verb (part start end (now (line .entry)) ∷ [])) r ⌝ }
 {
-    let number = read_number(&line[start..end]);
-    let hex = is_hex(&line[start..end]);
     match verb {
-        Verb::Start => match number {
-            Number::Is(n) => Order::Start(n),
-            Number::None => Order::Bad,
-        },
-        Verb::Room => match number {
-            Number::Is(n) => Order::Room(n),
-            Number::None => Order::Bad,
-        },
-        Verb::Label => match number {
-            Number::Is(n) => Order::Label(n),
-            Number::None => Order::Bad,
-        },
-        Verb::Join => {
-            if hex {
-                return Order::Join { start, end };
-            }
-            Order::Bad
-        }
-        Verb::Leave => {
-            if hex {
-                return Order::Leave { start, end };
-            }
-            Order::Bad
-        }
-        Verb::Tree => {
-            if hex {
-                return Order::Tree { start, end };
-            }
-            Order::Bad
-        }
-        _ => Order::Bad,
+        Verb::Start | Verb::Room | Verb::Label => with_number(line, verb, start, end),
+        _ => with_hex(line, verb, start, end),
     }
 }
 

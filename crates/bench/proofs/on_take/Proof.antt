@@ -4,11 +4,17 @@ use borrow.Author.Needs.{needs}
 use Rattle.bench.proofs.on_take.Statement.{statement}
 use Rattle.bench.proofs.on_take.Tie as tie
 
+buffer-requires : tie.Need-buffer-requires
+buffer-requires c κs = search needs
+
 slice-aggregate-decode-hex : tie.Need-slice-aggregate-decode-hex
 slice-aggregate-decode-hex c = search needs
 
 decode-hex-requires : tie.Need-decode-hex-requires
 decode-hex-requires c κs = search needs
+
+output-requires : tie.Need-output-requires
+output-requires c κs = search needs
 
 array-share-prefix-message : tie.Need-array-share-prefix-message
 array-share-prefix-message c = search needs
@@ -42,8 +48,10 @@ pub on-take-spec : {M : Type 1} → statement M
 on-take-spec =
     tie.close
     (tie.spec
+    buffer-requires
     slice-aggregate-decode-hex
     decode-hex-requires
+    output-requires
     array-share-prefix-message
     slice-aggregate-receive
     slice-aggregate-lent

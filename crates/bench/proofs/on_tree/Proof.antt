@@ -4,6 +4,9 @@ use borrow.Author.Needs.{needs}
 use Rattle.bench.proofs.on_tree.Statement.{statement}
 use Rattle.bench.proofs.on_tree.Tie as tie
 
+buffer-requires : tie.Need-buffer-requires
+buffer-requires c κs = search needs
+
 slice-aggregate-decode-hex : tie.Need-slice-aggregate-decode-hex
 slice-aggregate-decode-hex c = search needs
 
@@ -36,6 +39,7 @@ pub on-tree-spec : {M : Type 1} → statement M
 on-tree-spec =
     tie.close
     (tie.spec
+    buffer-requires
     slice-aggregate-decode-hex
     decode-hex-requires
     slice-aggregate-put-feed

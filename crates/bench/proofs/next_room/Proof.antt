@@ -1,0 +1,18 @@
+use Rattle.bench.proofs.Laws.{room-other}
+use Rattle.orders.specs.Line.{meant}
+use borrow.Author.Needs.{needs}
+use Rattle.bench.proofs.next_room.Statement.{statement}
+use Rattle.bench.proofs.next_room.Tie as tie
+
+enum-known-order : tie.Need-enum-known-order
+enum-known-order c = search needs
+
+returns : tie.Need-returns
+unfolding meant
+returns c = λ l. rw (c .before .order .given .1)
+
+returns-2 : tie.Need-returns-2
+returns-2 c = λ l. room-other l (c .before .args .order) _ (c .match .keys2)
+
+pub next-room-spec : {M : Type 1} → statement M
+next-room-spec = tie.close (tie.spec enum-known-order returns returns-2)
