@@ -5,10 +5,10 @@ use mathlib.Core.Path.{_≡_, refl, sym, ap, _∙_}
 use mathlib.Core.Bool.{false}
 use mathlib.Core.List.{List}
 use lib.ListN.{getD, length}
-use lib.Dec.{eqb, ltb}
-use borrow.Author.Tests.{eqb-true, eqb-false, eq-eqb, ne-eqb, le-leb, lt-ltb, le-ltb}
+use lib.Dec.{ltb}
+use borrow.Author.Tests.{eq-eqb, ne-eqb, le-leb, lt-ltb, le-ltb}
 use Rattle.meaning.specs.Octets.{place}
-use Rattle.meaning.specs.Lists.{positive, by-test, place-count}
+use Rattle.meaning.specs.Lists.{by-test, place-count}
 use Rattle.meaning.specs.Wire.{recordOf, nextId, records, idsAfter}
 use Rattle.meaning.specs.Card.{Tree, Card, Use, free, mapped, treeAt, withLabels, isFree, useOf, heldFor, freeLabels, lowestFree}
 use Rattle.meaning.specs.Events.{still, tell, setUse, setLabel, ended, giveUp, give, letGo, takeUp, moveLabel, relabel, needMove, need, labelsShort, upstream}
@@ -201,13 +201,6 @@ module _ (c : Card) (t : Tree) (u : ℕ) where
 pub short-none : (c : Card) (n : ℕ) → n ≡ 0 → false ≡ labelsShort c n
 unfolding labelsShort
 short-none c n e = rw (le-ltb (freeLabels c) n (omega arith)) refl
-
-pub short-one : (c : Card) (n f : ℕ) → n ≡ 1 → f ≡ freeLabels c → eqb f 0 ≡ labelsShort c n
-unfolding labelsShort
-short-one c n f e k =
-    by-test (eqb f 0)
-    (λ t. rw (t, lt-ltb (freeLabels c) n (omega (arith, eqb-true f 0 t))) refl)
-    (λ t. rw (t, le-ltb (freeLabels c) n (omega (arith, positive f (eqb-false f 0 t)))) refl)
 
 -- ---- upstream
 

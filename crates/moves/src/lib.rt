@@ -187,7 +187,7 @@ pub fn labels_short(numbers: &[u64], i: usize, u: u64) -> bool
     if u == 17 {
         return false;
     }
-    table::free_labels(numbers) == 0
+    table::labels_short(numbers, 1)
 }
 
 // The neighbour that a tree of this name, if it is not empty, holds a label for; 17 for none.

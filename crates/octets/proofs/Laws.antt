@@ -3,15 +3,14 @@ use Prim.Native.Nat.{ℕ, zero, suc, _+_, _-_, _≤_, _<_}
 use native.Mathlib.Nat.{le-of-suc-le-suc, not-suc-le-zero, zero-add, suc-add}
 use native.Mathlib.Numerals.{add-one}
 use native.Mathlib.Omega.{arith}
-use mathlib.Core.Path.{_≡_, refl, sym, ap, _∙_, subst}
+use mathlib.Core.Path.{_≡_, refl, sym, ap, ap₂, _∙_}
 use mathlib.Core.List.{List, [], _∷_, _++_, append-assoc}
-use lib.ListN.{length, take, drop, getD, set, length-set, length-append, length-take, length-drop, List·getD-append, List·getD-eq-default, drop-of-length-le}
-use lib.Seq.{sets, sets-eq, take-at, drop-at, drop-drop, length-take-le, take-all, getD-take, getD-drop, getD-append-add, ext-getD}
-use mathlib.Core.Bool.{Bool, true, false}
+use lib.ListN.{length, take, drop, getD, set, length-set, length-append, length-take, length-drop, List·getD-append, List·getD-eq-default, drop-of-length-le, take-append-drop}
+use lib.Seq.{sets, sets-eq, take-at, drop-at, drop-drop, length-take-le, take-all, getD-take, getD-drop, getD-append-add, drop-cons, take-add, ext-getD}
+use mathlib.Core.Bool.{true, false, _&&_}
 use lib.Dec.{eqb}
-use borrow.Author.Tests.{eqb-true, eqb-false}
-use Rattle.meaning.specs.Octets.{pick, same}
-use Rattle.meaning.specs.Lists.{by-test, append-nil, same-eq, same-refl}
+use Rattle.meaning.specs.Octets.{same}
+use Rattle.meaning.specs.Lists.{by-test, append-nil, same-eq, same-no}
 use Rattle.octets.specs.Part.{mid, shifted}
 
 module _ {ℓ} {A : Type ℓ} where
@@ -147,6 +146,47 @@ module _ {ℓ} {A : Type ℓ} where
   mid-none (suc a) [] = refl
   mid-none (suc a) (x ∷ xs) = ap (λ (l : List A). x ∷ l) (mid-none a xs)
 
+-- ---- a part copied to another place
+
+copy-more : (s e : List ℕ) (from to i : ℕ) → from + 8 ≤ length s → to + 8 ≤ length s → i < 8 → e ≡ mid to i s (take i (drop from s)) → set e (to + i) (getD s (from + i) 0) ≡ mid to (i + 1) s (take (i + 1) (drop from s))
+copy-more s e from to i h k l p =
+    mid-more (drop from s) s e 0 (getD s (from + i) 0) to i (simp length-drop (omega arith)) (omega arith) p (sym (getD-drop from s i 0))
+
+-- eight stores, one after the other
+pub copy-eight : (s : List ℕ) (from to : ℕ) → from + 8 ≤ length s → to + 8 ≤ length s → set (set (set (set (set (set (set (set s to (getD s from 0)) (to + 1) (getD s (from + 1) 0)) (to + 2) (getD s (from + 2) 0)) (to + 3) (getD s (from + 3) 0)) (to + 4) (getD s (from + 4) 0)) (to + 5) (getD s (from + 5) 0)) (to + 6) (getD s (from + 6) 0)) (to + 7) (getD s (from + 7) 0) ≡ mid to 8 s (take 8 (drop from s))
+copy-eight s from to h k =
+    let p : to ≡ to + 0 = omega arith in
+    let q : from ≡ from + 0 = omega arith in
+    let e1 : set s to (getD s from 0) ≡ mid to 1 s (take 1 (drop from s)) = ap₂ (λ (a b : ℕ). set s a (getD s b 0)) p q ∙ copy-more s s from to 0 h k (omega arith) (mid-none to s) in
+    let e2 = copy-more s _ from to 1 h k (omega arith) e1 in
+    let e3 = copy-more s _ from to 2 h k (omega arith) e2 in
+    let e4 = copy-more s _ from to 3 h k (omega arith) e3 in
+    let e5 = copy-more s _ from to 4 h k (omega arith) e4 in
+    let e6 = copy-more s _ from to 5 h k (omega arith) e5 in
+    let e7 = copy-more s _ from to 6 h k (omega arith) e6 in
+    copy-more s _ from to 7 h k (omega arith) e7
+
+-- a part behind one that was copied: what it is copied from stands as it was
+unmoved : (s ys : List ℕ) (to i from k : ℕ) → from + k ≤ to → to + i ≤ length s → length ys ≡ i → take k (drop from (mid to i s ys)) ≡ take k (drop from s)
+unmoved s ys to i from k h l e =
+    let n = mid-length to i s ys l e in
+    ext-getD 0 (take k (drop from (mid to i s ys))) (take k (drop from s)) (length-take-le k (drop from (mid to i s ys)) (simp length-drop (omega (arith, n))) ∙ sym (length-take-le k (drop from s) (simp length-drop (omega arith)))) (λ j m. at j (rw (length-take-le k (drop from (mid to i s ys)) (simp length-drop (omega (arith, n)))) at m))
+  where
+    at : (j : ℕ) → j < k → getD (take k (drop from (mid to i s ys))) j 0 ≡ getD (take k (drop from s)) j 0
+    at j m =
+        getD-take k (drop from (mid to i s ys)) j 0 m ∙ getD-drop from (mid to i s ys) j 0 ∙ mid-before to i s ys 0 (from + j) (omega arith) (omega arith)
+        ∙ sym (getD-take k (drop from s) j 0 m ∙ getD-drop from s j 0)
+
+pub copied-more : (s e : List ℕ) (from to i k : ℕ) → from + i + k ≤ to → to + i + k ≤ length s → e ≡ mid to i s (take i (drop from s)) → mid (to + i) k e (take k (drop (from + i) e)) ≡ mid to (i + k) s (take (i + k) (drop from s))
+copied-more s e from to i k h l p =
+    let ys = take i (drop from s) in
+    let y : length ys ≡ i = length-take-le i (drop from s) (simp length-drop (omega arith)) in
+    let z : take k (drop (from + i) (mid to i s ys)) ≡ take k (drop i (drop from s)) =
+    unmoved s ys to i (from + i) k (omega arith) (omega arith) y ∙ ap (take k) (sym (drop-drop i from s)) in
+    ap (λ (x : List ℕ). mid (to + i) k x (take k (drop (from + i) x))) p
+    ∙ mid-mid to i k (to + i) (i + k) s ys (take k (drop (from + i) (mid to i s ys))) (omega arith) y refl refl
+    ∙ ap (mid to (i + k) s) (ap (λ (x : List ℕ). ys ++ x) z ∙ sym (take-add i k (drop from s)))
+
 -- ---- a comparison from the end
 
 not-same : (a b : List ℕ) → (a ≡ b → ⊥) → same a b ≡ false
@@ -158,12 +198,35 @@ same-length a b ne = not-same a b (λ e. ne (ap length e))
 pub same-differ : (a b : List ℕ) (i : ℕ) → (getD a i 0 ≡ getD b i 0 → ⊥) → same a b ≡ false
 same-differ a b i ne = not-same a b (λ e. ne (ap (λ (l : List ℕ). getD l i 0) e))
 
-pub same-all : (a b : List ℕ) → length a ≡ length b → ((k : ℕ) → k < length a → getD a k 0 ≡ getD b k 0) → same a b ≡ true
-same-all a b e h = rw (ext-getD 0 a b e h) (same-refl b)
+-- two octets
+pub same-two : (a b : List ℕ) (i : ℕ) → i + 2 ≤ length a → i + 2 ≤ length b → (eqb (getD a i 0) (getD b i 0) && eqb (getD a (i + 1) 0) (getD b (i + 1) 0)) ≡ same (take 2 (drop i a)) (take 2 (drop i b))
+unfolding same
+same-two a b i h k =
+    rw (drop-cons a i 0 (omega arith), drop-cons b i 0 (omega arith), drop-cons a (suc i) 0 (omega arith), drop-cons b (suc i) 0 (omega arith), add-one i)
+    (by-test (eqb (getD a i 0) (getD b i 0)) (λ t. rw t (by-test (eqb (getD a (suc i) 0) (getD b (suc i) 0)) (λ u. rw u refl) (λ u. rw u refl))) (λ t. rw t refl))
 
--- one place more, from the end
-pub from-here : (a b : List ℕ) (i : ℕ) → 0 < i → ((k : ℕ) → i ≤ k → k < length a → getD a k 0 ≡ getD b k 0) → getD a (i - 1) 0 ≡ getD b (i - 1) 0 → (k : ℕ) → i - 1 ≤ k → k < length a → getD a k 0 ≡ getD b k 0
-from-here a b i p h e k l m =
-    by-test (eqb (i - 1) k)
-    (λ t. subst (λ (j : ℕ). getD a j 0 ≡ getD b j 0) (eqb-true (i - 1) k t) e)
-    (λ t. h k (omega (arith, eqb-false (i - 1) k t)) m)
+-- a part and the part behind it are one part
+same-split : (k m : ℕ) (xs ys : List ℕ) → k ≤ length xs → k ≤ length ys → (same (take k xs) (take k ys) && same (take m (drop k xs)) (take m (drop k ys))) ≡ same (take (k + m) xs) (take (k + m) ys)
+unfolding same
+same-split zero m xs ys h l = rw (zero-add m) refl
+same-split (suc k) m [] ys h l = absurd (not-suc-le-zero h)
+same-split (suc k) m (x ∷ xs) [] h l = absurd (not-suc-le-zero l)
+same-split (suc k) m (x ∷ xs) (y ∷ ys) h l =
+    rw (suc-add k m) (by-test (eqb x y) (λ t. rw t (same-split k m xs ys (le-of-suc-le-suc h) (le-of-suc-le-suc l))) (λ t. rw t refl))
+
+pub same-join : (k m n i j : ℕ) (a b : List ℕ) → n ≡ k + m → j ≡ i + k → j ≤ length a → j ≤ length b → (same (take k (drop i a)) (take k (drop i b)) && same (take m (drop j a)) (take m (drop j b))) ≡ same (take n (drop i a)) (take n (drop i b))
+same-join k m n i j a b e f h l =
+    rw (e, f, sym (drop-drop k i a), sym (drop-drop k i b)) (same-split k m (drop i a) (drop i b) (simp length-drop (omega arith)) (simp length-drop (omega arith)))
+
+-- parts that differ
+pub same-part : (k i : ℕ) (a b : List ℕ) → same (take k (drop i a)) (take k (drop i b)) ≡ false → same a b ≡ false
+same-part k i a b n = not-same a b (λ e. same-no (take k (drop i a)) (take k (drop i b)) n (ap (λ (l : List ℕ). take k (drop i l)) e))
+
+-- a part before what is the same already
+pub same-before : (k i j : ℕ) (a b : List ℕ) → j ≡ i + k → same (take k (drop i a)) (take k (drop i b)) ≡ true → drop j a ≡ drop j b → drop i a ≡ drop i b
+same-before k i j a b e t p =
+    let q : drop k (drop i a) ≡ drop k (drop i b) = drop-drop k i a ∙ ap (λ (n : ℕ). drop n a) (sym e) ∙ p ∙ ap (λ (n : ℕ). drop n b) e ∙ sym (drop-drop k i b) in
+    sym (take-append-drop k (drop i a)) ∙ ap₂ _++_ (same-eq (take k (drop i a)) (take k (drop i b)) t) q ∙ take-append-drop k (drop i b)
+
+pub same-before-at : (i : ℕ) (a b : List ℕ) → i < length a → i < length b → getD a i 0 ≡ getD b i 0 → drop (i + 1) a ≡ drop (i + 1) b → drop i a ≡ drop i b
+same-before-at i a b h l e p = rw (drop-cons a i 0 h, drop-cons b i 0 l, e, sym (add-one i), p) refl

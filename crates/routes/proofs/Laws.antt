@@ -174,15 +174,10 @@ pub via-none : (via : ℕ) → 16 ≤ via → 17 ≡ upstream via
 unfolding upstream
 via-none via h = rw (le-ltb via 16 h) refl
 
+pub labels-short : (c : Card) (r : List ℕ) (via u k : ℕ) → u ≡ upstream via → k ≡ needAll r u c → labelsShort c k ≡ labelsShort c (needAll r (upstream via) c)
+labels-short c r via u k eu ek = ap (labelsShort c) (ek ∙ ap (λ (v : ℕ). needAll r v c) eu)
+
 module _ (c : Card) (r : List ℕ) (via u n k : ℕ) (eu : u ≡ upstream via) where
-  pub labels-short : n ≡ freeLabels c → k ≡ needAll r u c → n < k → labelsShort c (needAll r (upstream via) c) ≡ true
-  unfolding labelsShort
-  labels-short en ek h = lt-ltb (freeLabels c) (needAll r (upstream via) c) (rw (← en, ← eu, ← ek) h)
-
-  pub labels-enough : n ≡ freeLabels c → k ≡ needAll r u c → k ≤ n → labelsShort c (needAll r (upstream via) c) ≡ false
-  unfolding labelsShort
-  labels-enough en ek h = le-ltb (freeLabels c) (needAll r (upstream via) c) (rw (← en, ← eu, ← ek) h)
-
   pub room-short : k ≡ sizeAll r u c → n < k → ltb n (sizeAll r (upstream via) c) ≡ true
   room-short ek h = lt-ltb n (sizeAll r (upstream via) c) (rw (← eu, ← ek) h)
 

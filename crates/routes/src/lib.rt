@@ -40,7 +40,7 @@ fn route_refusal(numbers: &[u64], names: &[u8], root: &[u8], via: u64, u: u64, r
     if routes_full(numbers, names, root) {
         return 15;
     }
-    if table::free_labels(numbers) < roots::need_all(numbers, names, root, u) {
+    if table::labels_short(numbers, roots::need_all(numbers, names, root, u)) {
         return 12;
     }
     if room < roots::size_all(numbers, names, root, u) {

@@ -354,6 +354,10 @@ module _ (ns os : List ℕ) (label b i : ℕ) (e : b ≡ baseIn ns) (low : b ≤
       (λ t. rw t (ne-eqb (baseIn ns + ownPlace ns i) label (λ q. ne (omega arith))))
       (λ t. rw t (ne-eqb 0 label (λ q. omega (arith, base-range ns))))
 
+pub carriers-from : (ns os : List ℕ) (label n i : ℕ) → n ≡ treeCount ns → i + place (carries label) (drop i (cardOf ns os .trees)) ≡ i + place (carries label) (drop i (tab n (treeIn ns os)))
+unfolding cardOf
+carriers-from ns os label n i e = rw e refl
+
 pub carriers-start : (ns os : List ℕ) (label n : ℕ) → n ≡ treeCount ns → place (carries label) (cardOf ns os .trees) ≡ 0 + place (carries label) (drop 0 (tab n (treeIn ns os)))
 unfolding cardOf
 carriers-start ns os label n e = rw e (omega arith)

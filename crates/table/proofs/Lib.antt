@@ -1,2 +1,3 @@
-pub mod Memory
 pub mod Laws
+pub mod Memory
+pub mod Search

@@ -4,11 +4,12 @@ ghost use mathlib.Core.Path.{_≡_};
 ghost use mathlib.Core.Bool.{true};
 ghost use mathlib.Core.List.{List};
 ghost use Prim.Native.Nat.{ℕ, _+_, _-_, _≤_, _<_};
-ghost use lib.ListN.{length, getD, set};
+ghost use lib.ListN.{length, drop, getD, set};
 ghost use Rattle.meaning.specs.Octets.{place, any};
 ghost use Rattle.meaning.specs.Card.{withNext, withTrees, withBranch, withLeaf, treePlace, treeAt, isBranch, isFree, isAwaiting, mappedTo, useOf, heldFor, freeLabels, routePlace, routeOf, carries, free};
-ghost use Rattle.meaning.specs.Events.{setUse, setLabel, ended};
+ghost use Rattle.meaning.specs.Events.{setUse, setLabel, ended, labelsShort};
 ghost use Rattle.table.specs.Memory.{cardOf, baseIn, treeCount, routeCount, textAt, treeName, labelName, rootName, useIn, labelIn};
+ghost use Rattle.table.specs.Search.{Without};
 
 // ---- the head
 
@@ -258,6 +259,25 @@ pub fn free_labels(numbers: &[u64]) -> usize
     found
 }
 
+// 12: fewer free labels than are needed. The search ends where enough are seen.
+pub fn labels_short(numbers: &[u64], needed: usize) -> bool
+    requires { ⌜ length (now numbers) ≡ 1444 ⌝ }
+    ensures { λ r. ⌜ ((os : List ℕ) → r ≡ labelsShort (cardOf (now (numbers .entry)) os) needed) ⌝ }
+{
+    let mut seen = 0;
+    let mut p = 0;
+    while seen < needed {
+        if p == 256 {
+            return true;
+        }
+        if is_free(numbers, p) {
+            seen += 1;
+        }
+        p += 1;
+    }
+    false
+}
+
 // The place of the lowest free label; 256 where none is free.
 pub fn lowest_free(numbers: &[u64]) -> usize
     requires { ⌜ length (now numbers) ≡ 1444 ⌝ }
@@ -273,14 +293,36 @@ pub fn lowest_free(numbers: &[u64]) -> usize
     256
 }
 
-// The place of the tree that carries a label of the block; the number of trees where none does.
-pub fn carrier_place(numbers: &[u64], label: u64) -> usize
-    requires { ⌜ (length (now numbers) ≡ 1444) × (baseIn (now numbers) ≤ label) × (label < baseIn (now numbers) + 256) ⌝ }
-    ensures { λ r. ⌜ ((os : List ℕ) → r ≡ place (carries label) (cardOf (now (numbers .entry)) os .trees)) × (r ≤ treeCount (now (numbers .entry))) × (r ≤ 64) ⌝ }
+// Whether a number is none of those from place a on: of two, of four, of eight.
+fn none_of_two(numbers: &[u64], a: usize, p: u64) -> bool
+    requires { ⌜ a + 2 ≤ length (now numbers) ⌝ }
+    ensures { λ r. ⌜ (r ≡ true → Without (now (numbers .entry)) a 2 p) ⌝ }
+{
+    (numbers[a] != p) & (numbers[a + 1] != p)
+}
+
+fn none_of_four(numbers: &[u64], a: usize, p: u64) -> bool
+    requires { ⌜ a + 4 ≤ length (now numbers) ⌝ }
+    ensures { λ r. ⌜ (r ≡ true → Without (now (numbers .entry)) a 4 p) ⌝ }
+{
+    none_of_two(numbers, a, p) & none_of_two(numbers, a + 2, p)
+}
+
+fn none_of_eight(numbers: &[u64], a: usize, p: u64) -> bool
+    requires { ⌜ a + 8 ≤ length (now numbers) ⌝ }
+    ensures { λ r. ⌜ (r ≡ true → Without (now (numbers .entry)) a 8 p) ⌝ }
+{
+    none_of_four(numbers, a, p) & none_of_four(numbers, a + 4, p)
+}
+
+// The same from place `from` on, one tree after the other.
+fn carrier_from(numbers: &[u64], label: u64, from: usize) -> usize
+    requires { ⌜ (length (now numbers) ≡ 1444) × (baseIn (now numbers) ≤ label) × (label < baseIn (now numbers) + 256) × (from ≤ treeCount (now numbers)) × (from ≤ 64) ⌝ }
+    ensures { λ r. ⌜ ((os : List ℕ) → r ≡ from + place (carries label) (drop from (cardOf (now (numbers .entry)) os .trees))) × (r ≤ treeCount (now (numbers .entry))) × (r ≤ 64) ⌝ }
 {
     let p = label - base(numbers);
     let n = tree_count(numbers);
-    let mut i = 0;
+    let mut i = from;
     while i < n {
         if numbers[36 + i] == p {
             return i;
@@ -288,6 +330,24 @@ pub fn carrier_place(numbers: &[u64], label: u64) -> usize
         i += 1;
     }
     n
+}
+
+// The place of the tree that carries a label of the block; the number of trees where none does. Trees that do not carry it
+// are passed over by eights.
+pub fn carrier_place(numbers: &[u64], label: u64) -> usize
+    requires { ⌜ (length (now numbers) ≡ 1444) × (baseIn (now numbers) ≤ label) × (label < baseIn (now numbers) + 256) ⌝ }
+    ensures { λ r. ⌜ ((os : List ℕ) → r ≡ place (carries label) (cardOf (now (numbers .entry)) os .trees)) × (r ≤ treeCount (now (numbers .entry))) × (r ≤ 64) ⌝ }
+{
+    let p = label - base(numbers);
+    let n = tree_count(numbers);
+    let mut i = 0;
+    while 8 <= n - i {
+        if !none_of_eight(numbers, 36 + i, p) {
+            return carrier_from(numbers, label, i);
+        }
+        i += 8;
+    }
+    carrier_from(numbers, label, i)
 }
 
 // The label that the tree carries was mapped, and awaits release from now on.

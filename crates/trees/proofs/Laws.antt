@@ -639,12 +639,14 @@ module _ (c : Card) (u size room n : ℕ) (e : n ≡ length (c .trees)) where
     few-trees : leb 64 (length (c .trees)) ≡ false
     few-trees = lt-leb 64 (length (c .trees)) (rw (← e) h)
 
-    pub none-free : freeLabels c ≡ 0 → 12 ≡ newNumber
-    none-free k = sym (when-2 11 12 16 _ _ (ltb room (needMove u * size)) few-trees (lt-ltb (freeLabels c) (needMove u) (rw (k, one-needed) (omega arith))))
+    pub none-free : labelsShort c 1 ≡ true → 12 ≡ newNumber
+    unfolding labelsShort
+    none-free k = sym (when-2 11 12 16 _ _ (ltb room (needMove u * size)) few-trees (rw one-needed k))
 
-    module _ (k : freeLabels c ≡ 0 → ⊥) where
+    module _ (k : labelsShort c 1 ≡ false) where
       some-free : ltb (freeLabels c) (needMove u) ≡ false
-      some-free = le-ltb (freeLabels c) (needMove u) (rw one-needed (positive (freeLabels c) k))
+      unfolding labelsShort
+      some-free = rw one-needed k
 
       pub no-room : room < size → 16 ≡ newNumber
       no-room l = sym (when-3 11 12 16 _ _ _ few-trees some-free (lt-ltb room (needMove u * size) (rw one-needed (omega arith))))

@@ -255,7 +255,7 @@ fn new_refusal(numbers: &[u64], u: u64, size: usize, room: usize) -> u32
     if u == 17 {
         return 0;
     }
-    if table::free_labels(numbers) == 0 {
+    if table::labels_short(numbers, 1) {
         return 12;
     }
     if room < size { 16 } else { 0 }

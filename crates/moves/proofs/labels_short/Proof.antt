@@ -1,5 +1,6 @@
-use mathlib.Core.Path.{sym, _∙_}
-use Rattle.moves.proofs.Steps.{short-none, short-one, need-same, need-other, need-none, need-one}
+use mathlib.Core.Path.{sym, ap, _∙_}
+use Rattle.meaning.specs.Events.{labelsShort}
+use Rattle.moves.proofs.Steps.{short-none, need-same, need-other, need-none, need-one}
 use borrow.Author.Needs.{needs}
 use Rattle.moves.proofs.labels_short.Statement.{statement}
 use Rattle.moves.proofs.labels_short.Tie as tie
@@ -14,13 +15,13 @@ returns-2 : tie.Need-returns-2
 returns-2 c =
     λ os. short-none _ _ (need-other _ _ _ (λ z. c .before .if1 .left (c .before .before .held-for .ensures .0 os ∙ z)) ∙ need-none _ (c .if2 .taken))
 
-free-labels-requires : tie.Need-free-labels-requires
-free-labels-requires c κs = search needs
+labels-short-requires : tie.Need-labels-short-requires
+labels-short-requires c κs = search needs
 
 returns-3 : tie.Need-returns-3
 returns-3 c =
-    λ os. short-one _ _ _ (need-other _ _ _ (λ z. c .before .before .if1 .left (c .before .before .before .held-for .ensures .0 os ∙ z)) ∙ need-one _ (c .before .if2 .left)) (c .free-labels .ensures .0 os)
+    λ os. c .labels-short .ensures os ∙ ap (labelsShort _) (sym (need-other _ _ _ (λ z. c .before .before .if1 .left (c .before .before .before .held-for .ensures .0 os ∙ z)) ∙ need-one _ (c .before .if2 .left)))
 
 pub labels-short-spec : {M : Type 1} → statement M
 labels-short-spec =
-    tie.close (tie.spec held-for-requires returns returns-2 free-labels-requires returns-3)
+    tie.close (tie.spec held-for-requires returns returns-2 labels-short-requires returns-3)

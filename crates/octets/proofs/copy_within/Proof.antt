@@ -1,16 +1,12 @@
-use Prim.Native.Nat.{ℕ, _≤_, _<_, _-_, _+_}
+use Prim.Native.Nat.{ℕ, _≤_, _-_, _+_}
 use native.Mathlib.Omega.{arith}
-use mathlib.Core.Path.{_≡_, refl, sym, ap, _∙_}
-use mathlib.Core.List.{List}
-use lib.ListN.{length, take, drop, getD, length-set, length-drop}
-use lib.Seq.{getD-drop}
+use mathlib.Core.Path.{_≡_, refl, ap, _∙_}
+use lib.ListN.{length, take, drop}
 use borrow.Author.Needs.{needs}
 use Rattle.octets.specs.Part.{mid}
-use Rattle.octets.proofs.Laws.{mid-more, mid-none, mid-before}
+use Rattle.octets.proofs.Laws.{mid-none, copied-more}
 use Rattle.octets.proofs.copy_within.Statement.{statement}
 use Rattle.octets.proofs.copy_within.Tie as tie
-use Rattle.octets.proofs.copy_within.Reads as reads
-use Rattle.octets.proofs.copy_within.Lts as lts
 
 abbrev Inv-loop : tie.InvT-loop
 Inv-loop s₀ from to n i₀ s i = (i ≤ n) × (length s ≡ length s₀) × (s ≡ mid to i s₀ (take i (drop from s₀)))
@@ -18,59 +14,56 @@ Inv-loop s₀ from to n i₀ s i = (i ≤ n) × (length s ≡ length s₀) × (s
 abbrev μ-loop : tie.MeasureT-loop
 μ-loop s₀ from to n i₀ s i = n - i
 
--- src/lib.rt:70:5
 loop-holds : tie.Need-loop-holds Inv-loop μ-loop
-loop-holds c = (omega arith, refl, mid-none (c .args .to) (c .args .s .now))
+loop-holds c = (omega arith, refl, mid-none (c .before .args .to) (c .before .args .s .now))
 
--- src/lib.rt:71:23
-add-s : tie.Need-add-s Inv-loop μ-loop
-add-s c = search needs
+sub-loop : tie.Need-sub-loop Inv-loop μ-loop
+sub-loop c = search needs
 
--- src/lib.rt:71:21
-slice-read-s : tie.Need-slice-read-s Inv-loop μ-loop
-slice-read-s c = search needs
+add-copy-eight : tie.Need-add-copy-eight Inv-loop μ-loop
+add-copy-eight c = search needs
 
--- src/lib.rt:71:11
-add-s-2 : tie.Need-add-s-2 Inv-loop μ-loop
-add-s-2 c = search needs
+add-copy-eight-2 : tie.Need-add-copy-eight-2 Inv-loop μ-loop
+add-copy-eight-2 c = search needs
 
--- src/lib.rt:71:9
-slice-write-s : tie.Need-slice-write-s Inv-loop μ-loop
-slice-write-s c = search needs
+copy-eight-requires : tie.Need-copy-eight-requires Inv-loop μ-loop
+copy-eight-requires c κs = search needs
 
--- src/lib.rt:72:9
 add-i : tie.Need-add-i Inv-loop μ-loop
 add-i c = search needs
 
--- src/lib.rt:70:5
 loop-less : tie.Need-loop-less Inv-loop μ-loop
 loop-less c = search needs
 
--- src/lib.rt:70:5
 loop-again : tie.Need-loop-again Inv-loop μ-loop
 loop-again c =
-    let l = c .before .before in
-    let a = l .before .args in
-    let i = l .loop .i in
-    let h : i < length (drop (a .from) (a .s .now)) = simp length-drop (omega arith) in
-    let unmoved : getD (l .loop .s) (a .from + i) 0 ≡ getD (a .s .now) (a .from + i) 0 =
-    ap (λ (s : List ℕ). getD s (a .from + i) 0) (l .loop .inv .2)
-    ∙ mid-before (a .to) i (a .s .now) (take i (drop (a .from) (a .s .now))) 0 (a .from + i) (omega arith) (omega arith) in (
-      omega arith,
-      simp length-set (l .loop .inv .1),
-      mid-more (drop (a .from) (a .s .now)) (a .s .now) (l .loop .s) 0 _ (a .to) i h (omega arith) (l .loop .inv .2) (unmoved ∙ sym (getD-drop (a .from) (a .s .now) i 0)),
-    )
+    let l = c .before .before .before .before .before in
+    let a = l .before .before .args in
+    (omega arith, c .before .s .given ∙ l .loop .inv .1, c .before .before .copy-eight .ensures ∙ copied-more (a .s .now) (l .loop .s) (a .from) (a .to) (l .loop .i) 8 (omega arith) (omega arith) (l .loop .inv .2))
 
--- src/lib.rt:65:1
+add-copy-few : tie.Need-add-copy-few Inv-loop μ-loop
+add-copy-few c = search needs
+
+add-copy-few-2 : tie.Need-add-copy-few-2 Inv-loop μ-loop
+add-copy-few-2 c = search needs
+
+sub-copy-few : tie.Need-sub-copy-few Inv-loop μ-loop
+sub-copy-few c = search needs
+
+copy-few-requires : tie.Need-copy-few-requires Inv-loop μ-loop
+copy-few-requires c κs = search needs
+
 same-length : tie.Need-same-length Inv-loop μ-loop
-same-length c = c .before .loop .inv .1
+same-length c = c .before .s2 .given ∙ c .before .before .before .before .before .loop .inv .1
 
--- src/lib.rt:65:1
 returns : tie.Need-returns Inv-loop μ-loop
 returns c =
-    let l = c .before in
-    let e : l .loop .i ≡ l .before .args .n = omega arith in
-    rw (← e) (l .loop .inv .2)
+    let l = c .before .before .before .before .before in
+    let a = l .before .before .args in
+    let e : l .loop .i + (a .n - l .loop .i) ≡ a .n = omega arith in
+    c .before .before .copy-few .ensures
+    ∙ copied-more (a .s .now) (l .loop .s) (a .from) (a .to) (l .loop .i) (a .n - l .loop .i) (omega arith) (omega arith) (l .loop .inv .2)
+    ∙ ap (λ (k : ℕ). mid (a .to) k (a .s .now) (take k (drop (a .from) (a .s .now)))) e
 
 pub copy-within-spec : {M : Type 1} → statement M
 copy-within-spec =
@@ -79,12 +72,16 @@ copy-within-spec =
     Inv-loop
     μ-loop
     loop-holds
-    add-s
-    slice-read-s
-    add-s-2
-    slice-write-s
+    sub-loop
+    add-copy-eight
+    add-copy-eight-2
+    copy-eight-requires
     add-i
     loop-less
     loop-again
+    add-copy-few
+    add-copy-few-2
+    sub-copy-few
+    copy-few-requires
     same-length
     returns)

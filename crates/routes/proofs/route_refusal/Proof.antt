@@ -6,7 +6,7 @@ use Rattle.table.specs.Memory.{cardOf}
 use Rattle.meaning.specs.Events.{labelsShort, needAll, upstream}
 use Rattle.moves.specs.Move.{sizeAll}
 use Rattle.trees.proofs.Laws.{when-1, when-2, when-3, when-0}
-use Rattle.routes.proofs.Laws.{full-is, labels-short, labels-enough, room-short, room-enough}
+use Rattle.routes.proofs.Laws.{full-is, labels-short, room-short, room-enough}
 use borrow.Author.Needs.{needs}
 use Rattle.routes.proofs.route_refusal.Statement.{statement}
 use Rattle.routes.proofs.route_refusal.Tie as tie
@@ -19,19 +19,19 @@ returns c =
     let start = c .before .before .before .before .before in
     sym (when-1 15 12 16 _ _ _ (sym (full-is (cardOf (start .args .numbers .now) (start .args .names .now)) _ _ (start .pre .3)) ∙ sym (c .before .routes-full .ensures) ∙ c .if1 .taken))
 
-free-labels-requires : tie.Need-free-labels-requires
-free-labels-requires c κs = search needs
-
 need-all-requires : tie.Need-need-all-requires
 need-all-requires c κs = search needs
+
+labels-short-requires : tie.Need-labels-short-requires
+labels-short-requires c κs = search needs
 
 returns-2 : tie.Need-returns-2
 returns-2 c =
     let start = c .before .before .before .before .before .before .before .before in
     let the-routes-full = c .before .before .before .before .routes-full in
     let the-if1 = c .before .before .before .if1 in
-    let the-free-labels = c .before .before .free-labels in
-    sym (when-2 15 12 16 _ _ _ (sym (full-is (cardOf (start .args .numbers .now) (start .args .names .now)) _ _ (start .pre .3)) ∙ sym (the-routes-full .ensures) ∙ the-if1 .left) (labels-short (cardOf (start .args .numbers .now) (start .args .names .now)) _ _ _ _ _ (start .pre .2) (the-free-labels .ensures .0 _) (c .before .need-all .ensures .0) (c .if2 .taken)))
+    let the-need-all = c .before .before .need-all in
+    sym (when-2 15 12 16 _ _ _ (sym (full-is (cardOf (start .args .numbers .now) (start .args .names .now)) _ _ (start .pre .3)) ∙ sym (the-routes-full .ensures) ∙ the-if1 .left) (sym (labels-short (cardOf (start .args .numbers .now) (start .args .names .now)) _ _ _ _ (start .pre .2) (the-need-all .ensures .0)) ∙ sym (c .before .labels-short .ensures _) ∙ c .if2 .taken))
 
 size-all-requires : tie.Need-size-all-requires
 size-all-requires c κs = search needs
@@ -41,20 +41,20 @@ returns-3 c =
     let start = c .before .before .before .before .before .before .before .before .before .before in
     let the-routes-full = c .before .before .before .before .before .before .routes-full in
     let the-if1 = c .before .before .before .before .before .if1 in
-    let the-free-labels = c .before .before .before .before .free-labels in
-    let the-need-all = c .before .before .before .need-all in
+    let the-need-all = c .before .before .before .before .need-all in
+    let the-labels-short = c .before .before .before .labels-short in
     let the-if2 = c .before .before .if2 in
-    sym (when-3 15 12 16 _ _ _ (sym (full-is (cardOf (start .args .numbers .now) (start .args .names .now)) _ _ (start .pre .3)) ∙ sym (the-routes-full .ensures) ∙ the-if1 .left) (labels-enough (cardOf (start .args .numbers .now) (start .args .names .now)) _ _ _ _ _ (start .pre .2) (the-free-labels .ensures .0 _) (the-need-all .ensures .0) (the-if2 .left)) (room-short (cardOf (start .args .numbers .now) (start .args .names .now)) _ _ _ _ _ (start .pre .2) (c .before .size-all .ensures .0) (c .if3 .taken)))
+    sym (when-3 15 12 16 _ _ _ (sym (full-is (cardOf (start .args .numbers .now) (start .args .names .now)) _ _ (start .pre .3)) ∙ sym (the-routes-full .ensures) ∙ the-if1 .left) (sym (labels-short (cardOf (start .args .numbers .now) (start .args .names .now)) _ _ _ _ (start .pre .2) (the-need-all .ensures .0)) ∙ sym (the-labels-short .ensures _) ∙ the-if2 .left) (room-short (cardOf (start .args .numbers .now) (start .args .names .now)) _ _ _ _ _ (start .pre .2) (c .before .size-all .ensures .0) (c .if3 .taken)))
 
 returns-4 : tie.Need-returns-4
 returns-4 c =
     let start = c .before .before .before .before .before .before .before .before .before .before in
     let the-routes-full = c .before .before .before .before .before .before .routes-full in
     let the-if1 = c .before .before .before .before .before .if1 in
-    let the-free-labels = c .before .before .before .before .free-labels in
-    let the-need-all = c .before .before .before .need-all in
+    let the-need-all = c .before .before .before .before .need-all in
+    let the-labels-short = c .before .before .before .labels-short in
     let the-if2 = c .before .before .if2 in
-    sym (when-0 15 12 16 _ _ _ (sym (full-is (cardOf (start .args .numbers .now) (start .args .names .now)) _ _ (start .pre .3)) ∙ sym (the-routes-full .ensures) ∙ the-if1 .left) (labels-enough (cardOf (start .args .numbers .now) (start .args .names .now)) _ _ _ _ _ (start .pre .2) (the-free-labels .ensures .0 _) (the-need-all .ensures .0) (the-if2 .left)) (room-enough (cardOf (start .args .numbers .now) (start .args .names .now)) _ _ _ _ _ (start .pre .2) (c .before .size-all .ensures .0) (c .if3 .left)))
+    sym (when-0 15 12 16 _ _ _ (sym (full-is (cardOf (start .args .numbers .now) (start .args .names .now)) _ _ (start .pre .3)) ∙ sym (the-routes-full .ensures) ∙ the-if1 .left) (sym (labels-short (cardOf (start .args .numbers .now) (start .args .names .now)) _ _ _ _ (start .pre .2) (the-need-all .ensures .0)) ∙ sym (the-labels-short .ensures _) ∙ the-if2 .left) (room-enough (cardOf (start .args .numbers .now) (start .args .names .now)) _ _ _ _ _ (start .pre .2) (c .before .size-all .ensures .0) (c .if3 .left)))
 
 pub route-refusal-spec : {M : Type 1} → statement M
 route-refusal-spec =
@@ -62,8 +62,8 @@ route-refusal-spec =
     (tie.spec
     routes-full-requires
     returns
-    free-labels-requires
     need-all-requires
+    labels-short-requires
     returns-2
     size-all-requires
     returns-3

@@ -15,17 +15,17 @@ returns c = λ os. many-trees (cardOf (c .before .before .before .args .numbers 
 returns-2 : tie.Need-returns-2
 returns-2 c = λ os. none-needed (cardOf (c .before .before .before .before .args .numbers .now) os) (c .before .before .before .before .args .u) (c .before .before .before .before .args .size) (c .before .before .before .before .args .room) _ (c .before .before .tree-count .ensures .0 ∙ sym (trees-length _ os)) (c .before .if1 .left) (c .if2 .taken)
 
-free-labels-requires : tie.Need-free-labels-requires
-free-labels-requires c κs = search needs
+labels-short-requires : tie.Need-labels-short-requires
+labels-short-requires c κs = search needs
 
 returns-3 : tie.Need-returns-3
-returns-3 c = λ os. none-free (cardOf (c .before .before .before .before .before .before .args .numbers .now) os) (c .before .before .before .before .before .before .args .u) (c .before .before .before .before .before .before .args .size) (c .before .before .before .before .before .before .args .room) _ (c .before .before .before .before .tree-count .ensures .0 ∙ sym (trees-length _ os)) (c .before .before .before .if1 .left) (c .before .before .if2 .left) (sym (c .before .free-labels .ensures .0 os) ∙ c .if3 .taken)
+returns-3 c = λ os. none-free (cardOf (c .before .before .before .before .before .before .args .numbers .now) os) (c .before .before .before .before .before .before .args .u) (c .before .before .before .before .before .before .args .size) (c .before .before .before .before .before .before .args .room) _ (c .before .before .before .before .tree-count .ensures .0 ∙ sym (trees-length _ os)) (c .before .before .before .if1 .left) (c .before .before .if2 .left) (sym (c .before .labels-short .ensures os) ∙ c .if3 .taken)
 
 returns-4 : tie.Need-returns-4
-returns-4 c = λ os. no-room (cardOf (c .before .before .before .before .before .before .before .args .numbers .now) os) (c .before .before .before .before .before .before .before .args .u) (c .before .before .before .before .before .before .before .args .size) (c .before .before .before .before .before .before .before .args .room) _ (c .before .before .before .before .before .tree-count .ensures .0 ∙ sym (trees-length _ os)) (c .before .before .before .before .if1 .left) (c .before .before .before .if2 .left) (λ z. c .before .if3 .left (c .before .before .free-labels .ensures .0 os ∙ z)) (c .if4 .taken)
+returns-4 c = λ os. no-room (cardOf (c .before .before .before .before .before .before .before .args .numbers .now) os) (c .before .before .before .before .before .before .before .args .u) (c .before .before .before .before .before .before .before .args .size) (c .before .before .before .before .before .before .before .args .room) _ (c .before .before .before .before .before .tree-count .ensures .0 ∙ sym (trees-length _ os)) (c .before .before .before .before .if1 .left) (c .before .before .before .if2 .left) (sym (c .before .before .labels-short .ensures os) ∙ c .before .if3 .left) (c .if4 .taken)
 
 returns-5 : tie.Need-returns-5
-returns-5 c = λ os. all-fits (cardOf (c .before .before .before .before .before .before .before .args .numbers .now) os) (c .before .before .before .before .before .before .before .args .u) (c .before .before .before .before .before .before .before .args .size) (c .before .before .before .before .before .before .before .args .room) _ (c .before .before .before .before .before .tree-count .ensures .0 ∙ sym (trees-length _ os)) (c .before .before .before .before .if1 .left) (c .before .before .before .if2 .left) (λ z. c .before .if3 .left (c .before .before .free-labels .ensures .0 os ∙ z)) (c .if4 .left)
+returns-5 c = λ os. all-fits (cardOf (c .before .before .before .before .before .before .before .args .numbers .now) os) (c .before .before .before .before .before .before .before .args .u) (c .before .before .before .before .before .before .before .args .size) (c .before .before .before .before .before .before .before .args .room) _ (c .before .before .before .before .before .tree-count .ensures .0 ∙ sym (trees-length _ os)) (c .before .before .before .before .if1 .left) (c .before .before .before .if2 .left) (sym (c .before .before .labels-short .ensures os) ∙ c .before .if3 .left) (c .if4 .left)
 
 pub new-refusal-spec : {M : Type 1} → statement M
 new-refusal-spec =
@@ -34,7 +34,7 @@ new-refusal-spec =
     tree-count-requires
     returns
     returns-2
-    free-labels-requires
+    labels-short-requires
     returns-3
     returns-4
     returns-5)
