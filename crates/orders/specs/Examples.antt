@@ -25,6 +25,7 @@ use Rattle.orders.specs.Line.{
   withHex,
   withNumberHex,
   withHexNumber,
+  withNumbersHex,
   does,
   saidBy,
   orderOf,
@@ -60,8 +61,20 @@ pub examples-shown : (says "" ≡ Said.nothing)
     × (says "free 1" ≡ Said.bad)
     × (says "Free" ≡ Said.bad)
     × (says "fr\0ee" ≡ Said.bad)
-unfolding says ascii all uncommented lengthen pieces filled words valueFrom value isNumber digit isHex octetsOf verbOf withNumber withHex withNumberHex withHexNumber does saidBy orderOf same
-examples-shown = (refl, refl, refl, refl, refl, refl, refl, refl, refl, refl, refl, refl, refl, refl, refl, refl, refl, refl, refl, refl, refl, refl, refl)
+    × (says "notice 1 3 0400Ff" ≡ Said.notice 1 3 (4 ∷ 0 ∷ 255 ∷ []))
+    × (says "notice 4294967295 4294967295 -" ≡ Said.notice 4294967295 4294967295 [])
+    × (says "notice" ≡ Said.bad)
+    × (says "notice 1" ≡ Said.bad)
+    × (says "notice 1 3" ≡ Said.bad)
+    × (says "notice 1 3 0400 0" ≡ Said.bad)
+    × (says "notice 4294967296 3 0400" ≡ Said.bad)
+    × (says "notice 1 4294967296 0400" ≡ Said.bad)
+    × (says "notice 1 - 0400" ≡ Said.bad)
+    × (says "notice 1 3 040" ≡ Said.bad)
+    × (says "notice 1 0400 g3" ≡ Said.bad)
+    × (says "Notice 1 3 0400" ≡ Said.bad)
+unfolding says ascii all uncommented lengthen pieces filled words valueFrom value isNumber digit isHex octetsOf verbOf withNumber withHex withNumberHex withHexNumber withNumbersHex does saidBy orderOf same
+examples-shown = (refl, refl, refl, refl, refl, refl, refl, refl, refl, refl, refl, refl, refl, refl, refl, refl, refl, refl, refl, refl, refl, refl, refl, refl, refl, refl, refl, refl, refl, refl, refl, refl, refl, refl, refl)
 
 pub spelt-out : (numeral 0 ≡ ascii "0")
     × (numeral 10 ≡ ascii "10")
@@ -75,5 +88,5 @@ pub limits-shown : (orderOf (ascii "join " ++ replicate 8192 48) ≡ Said.join (
     × (orderOf (ascii "join " ++ replicate 8194 48) ≡ Said.bad)
     × (orderOf (replicate 65536 32) ≡ Said.nothing)
     × (orderOf (replicate 65537 32) ≡ Said.bad)
-unfolding ascii all uncommented lengthen pieces filled words valueFrom value isNumber digit isHex octetsOf verbOf withNumber withHex withNumberHex withHexNumber does saidBy orderOf same
+unfolding ascii all uncommented lengthen pieces filled words valueFrom value isNumber digit isHex octetsOf verbOf withNumber withHex withNumberHex withHexNumber withNumbersHex does saidBy orderOf same
 limits-shown = (refl, refl, refl, refl)

@@ -100,6 +100,7 @@ pub data Said : Type 0 where
   take : ℕ → List ℕ → Said
   join leave tree : List ℕ → Said
   route : List ℕ → ℕ → Said
+  notice : ℕ → ℕ → List ℕ → Said
 
 unfoldable pub verbOf : List ℕ → Verb
 verbOf w =
@@ -112,7 +113,8 @@ verbOf w =
     (pick (same w (ascii "label")) Verb.Label
     (pick (same w (ascii "tree")) Verb.Tree
     (pick (same w (ascii "free")) Verb.Free
-    Verb.Other))))))))
+    (pick (same w (ascii "notice")) Verb.Notice
+    Verb.Other)))))))))
 
 unfoldable pub withNumber : (ℕ → Said) → List (List ℕ) → Said
 withNumber f [] = bad
@@ -132,6 +134,10 @@ unfoldable pub withHexNumber : (List ℕ → ℕ → Said) → List (List ℕ) �
 withHexNumber f [] = bad
 withHexNumber f (h ∷ ws) = pick (isHex h) (withNumber (f (octetsOf h)) ws) bad
 
+unfoldable pub withNumbersHex : (ℕ → ℕ → List ℕ → Said) → List (List ℕ) → Said
+withNumbersHex f [] = bad
+withNumbersHex f (n ∷ ws) = pick (isNumber n) (withNumberHex (f (value n)) ws) bad
+
 unfoldable pub does : Verb → List (List ℕ) → Said
 does Verb.Start ws = withNumber start ws
 does Verb.Room ws = withNumber room ws
@@ -143,6 +149,7 @@ does Verb.Label ws = withNumber label ws
 does Verb.Tree ws = withHex tree ws
 does Verb.Free [] = free
 does Verb.Free (w ∷ ws) = bad
+does Verb.Notice ws = withNumbersHex notice ws
 does Verb.Other ws = bad
 
 unfoldable pub saidBy : List (List ℕ) → Said
@@ -168,6 +175,7 @@ meant l (Order.Route s e n) = route (octetsOf (part s e l)) n
 meant l (Order.Label n) = label n
 meant l (Order.Tree s e) = tree (octetsOf (part s e l))
 meant l Order.Free = free
+meant l (Order.Notice n k s e) = notice n k (octetsOf (part s e l))
 
 -- the word of HEX lies in the line
 abbrev pub Lies : List ℕ → ℕ → ℕ → Type 0
@@ -185,6 +193,7 @@ InLine l (Order.Route s e n) = Lies l s e
 InLine l (Order.Label n) = Unit
 InLine l (Order.Tree s e) = Lies l s e
 InLine l Order.Free = Unit
+InLine l (Order.Notice n k s e) = Lies l s e
 
 -- what is said is what the order means
 pub record Tells (l : List ℕ) (said : Said) (r : Order) : Type 0 where

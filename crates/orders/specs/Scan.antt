@@ -31,6 +31,7 @@ numbered Verb.Route n = Said.bad
 numbered Verb.Label n = Said.label n
 numbered Verb.Tree n = Said.bad
 numbered Verb.Free n = Said.bad
+numbered Verb.Notice n = Said.bad
 numbered Verb.Other n = Said.bad
 
 unfoldable pub asNumber : Verb → List ℕ → Said
@@ -46,6 +47,7 @@ withOctets Verb.Route o = Said.bad
 withOctets Verb.Label o = Said.bad
 withOctets Verb.Tree o = Said.tree o
 withOctets Verb.Free o = Said.bad
+withOctets Verb.Notice o = Said.bad
 withOctets Verb.Other o = Said.bad
 
 unfoldable pub asHex : Verb → List ℕ → Said

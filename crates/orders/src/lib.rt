@@ -21,6 +21,7 @@ enum Verb {
     Label,
     Tree,
     Free,
+    Notice,
     Other,
 }
 
@@ -274,6 +275,12 @@ pub enum Order {
         end: usize,
     },
     Free,
+    Notice {
+        neighbour: u32,
+        number: u32,
+        start: usize,
+        end: usize,
+    },
 }
 
 fn verb_of(word: &[u8]) -> Verb
@@ -305,6 +312,9 @@ fn verb_of(word: &[u8]) -> Verb
     }
     if octets::equal(word, b"free") {
         return Verb::Free;
+    }
+    if octets::equal(word, b"notice") {
+        return Verb::Notice;
     }
     Verb::Other
 }
@@ -394,6 +404,46 @@ fn with_two(line: &[u8], verb: Verb, start: usize, end: usize, from: usize, to: 
     }
 }
 
+fn number_at(line: &[u8], word: Word) -> Number
+    requires { ⌜ (word .start ≤ word .end) × (word .end ≤ length (now line)) ⌝ }
+    ensures { λ r. ⌜ r ≡ numberIn (part (word .start) (word .end) (now (line .entry))) ⌝ }
+{
+    let start = word.start;
+    let end = word.end;
+    read_number(&line[start..end])
+}
+
+// An order with three further words: two numbers and HEX, as `notice` takes them.
+fn with_three(line: &[u8], verb: Verb, first: Word, second: Word, third: Word) -> Order
+    requires { ⌜ (first .start ≤ first .end) × (first .end ≤ length (now line)) × (second .start ≤ second .end) × (second .end ≤ length (now line)) ⌝ }
+    requires { ⌜ (third .start ≤ third .end) × (third .end ≤ length (now line)) ⌝ }
+    ensures { λ r. ⌜ Tells (now (line .entry)) (does verb (part (first .start) (first .end) (now (line .entry)) ∷ part (second .start) (second .end) (now (line .entry))
+        ∷ part (third .start) (third .end) (now (line .entry)) ∷ [])) r ⌝ }
+{
+    match verb {
+        Verb::Notice => {
+            let Number::Is(neighbour) = number_at(line, first) else {
+                return Order::Bad;
+            };
+            let Number::Is(number) = number_at(line, second) else {
+                return Order::Bad;
+            };
+            let start = third.start;
+            let end = third.end;
+            if is_hex(&line[start..end]) {
+                return Order::Notice {
+                    neighbour,
+                    number,
+                    start,
+                    end,
+                };
+            }
+            Order::Bad
+        }
+        _ => Order::Bad,
+    }
+}
+
 // The words from a place on, behind an order's verb.
 fn with_words(line: &[u8], verb: Verb, at: usize) -> Order
     requires { ⌜ at ≤ length (now line) ⌝ }
@@ -410,6 +460,10 @@ fn with_words(line: &[u8], verb: Verb, at: usize) -> Order
     let third = next_word(line, second.end);
     if third.start == third.end {
         return with_two(line, verb, first.start, first.end, second.start, second.end);
+    }
+    let fourth = next_word(line, third.end);
+    if fourth.start == fourth.end {
+        return with_three(line, verb, first, second, third);
     }
     Order::Bad
 }

@@ -31,8 +31,17 @@ with-two-requires c κs = search needs
 returns-3 : tie.Need-returns-3
 returns-3 c = rw (word-some (c .before .before .before .before .before .before .before .before .before .next-word .ensures) (c .before .before .before .before .before .before .before .if1 .left), word-some (c .before .before .before .before .before .before .next-word2 .ensures) (c .before .before .before .before .if2 .left), word-none (c .before .before .before .next-word3 .ensures) (c .before .if3 .taken)) (c .with-two .ensures)
 
+next-word-requires-4 : tie.Need-next-word-requires-4
+next-word-requires-4 c κs = search needs
+
+with-three-requires : tie.Need-with-three-requires
+with-three-requires c κs = search needs
+
 returns-4 : tie.Need-returns-4
-returns-4 c = rw (word-some (c .before .before .before .before .before .before .before .before .next-word .ensures) (c .before .before .before .before .before .before .if1 .left), word-some (c .before .before .before .before .before .next-word2 .ensures) (c .before .before .before .if2 .left), word-some (c .before .before .next-word3 .ensures) (c .if3 .left)) (more-bad _ _ _ _ _ _)
+returns-4 c = rw (word-some (c .before .before .before .before .before .before .before .before .before .before .before .before .next-word .ensures) (c .before .before .before .before .before .before .before .before .before .before .if1 .left), word-some (c .before .before .before .before .before .before .before .before .before .next-word2 .ensures) (c .before .before .before .before .before .before .before .if2 .left), word-some (c .before .before .before .before .before .before .next-word3 .ensures) (c .before .before .before .before .if3 .left), word-none (c .before .before .before .next-word4 .ensures) (c .before .if4 .taken)) (c .with-three .ensures)
+
+returns-5 : tie.Need-returns-5
+returns-5 c = rw (word-some (c .before .before .before .before .before .before .before .before .before .before .before .next-word .ensures) (c .before .before .before .before .before .before .before .before .before .if1 .left), word-some (c .before .before .before .before .before .before .before .before .next-word2 .ensures) (c .before .before .before .before .before .before .if2 .left), word-some (c .before .before .before .before .before .next-word3 .ensures) (c .before .before .before .if3 .left), word-some (c .before .before .next-word4 .ensures) (c .if4 .left)) (more-bad _ _ _ _ _ _ _)
 
 pub with-words-spec : {M : Type 1} → statement M
 with-words-spec =
@@ -47,4 +56,7 @@ with-words-spec =
     next-word-requires-3
     with-two-requires
     returns-3
-    returns-4)
+    next-word-requires-4
+    with-three-requires
+    returns-4
+    returns-5)
