@@ -120,27 +120,29 @@ event-other l (Order.Route s e n) text h = absurd (miss (0 ∷ 1 ∷ 2 ∷ 3 ∷
 event-other l (Order.Label n) text h = tt
 event-other l (Order.Tree s e) text h = tt
 event-other l Order.Free text h = tt
+event-other l (Order.Notice n k s e) text h = absurd (miss (0 ∷ 1 ∷ 2 ∷ 3 ∷ 8 ∷ 9 ∷ 10 ∷ []) 11 tt h)
 
-pub event-line : (l : List ℕ) (o : Order) (number : ℕ) (text : List ℕ) → OneOf (4 ∷ 5 ∷ 6 ∷ 7 ∷ []) (tagOf the-type o) → IsEventLine (meant l o) text → IsLine (meant l o) number text
+pub event-line : (l : List ℕ) (o : Order) (number : ℕ) (text : List ℕ) → OneOf (4 ∷ 5 ∷ 6 ∷ 7 ∷ 11 ∷ []) (tagOf the-type o) → IsEventLine (meant l o) text → IsLine (meant l o) number text
 unfolding meant
-event-line l Order.Blank number text h e = absurd (miss (4 ∷ 5 ∷ 6 ∷ 7 ∷ []) 0 tt h)
-event-line l Order.Bad number text h e = absurd (miss (4 ∷ 5 ∷ 6 ∷ 7 ∷ []) 1 tt h)
-event-line l (Order.Start n) number text h e = absurd (miss (4 ∷ 5 ∷ 6 ∷ 7 ∷ []) 2 tt h)
-event-line l (Order.Room n) number text h e = absurd (miss (4 ∷ 5 ∷ 6 ∷ 7 ∷ []) 3 tt h)
+event-line l Order.Blank number text h e = absurd (miss (4 ∷ 5 ∷ 6 ∷ 7 ∷ 11 ∷ []) 0 tt h)
+event-line l Order.Bad number text h e = absurd (miss (4 ∷ 5 ∷ 6 ∷ 7 ∷ 11 ∷ []) 1 tt h)
+event-line l (Order.Start n) number text h e = absurd (miss (4 ∷ 5 ∷ 6 ∷ 7 ∷ 11 ∷ []) 2 tt h)
+event-line l (Order.Room n) number text h e = absurd (miss (4 ∷ 5 ∷ 6 ∷ 7 ∷ 11 ∷ []) 3 tt h)
 event-line l (Order.Take n s f) number text h e = e
 event-line l (Order.Join s f) number text h e = e
 event-line l (Order.Leave s f) number text h e = e
 event-line l (Order.Route s f n) number text h e = e
-event-line l (Order.Label n) number text h e = absurd (miss (4 ∷ 5 ∷ 6 ∷ 7 ∷ []) 8 tt h)
-event-line l (Order.Tree s f) number text h e = absurd (miss (4 ∷ 5 ∷ 6 ∷ 7 ∷ []) 9 tt h)
-event-line l Order.Free number text h e = absurd (miss (4 ∷ 5 ∷ 6 ∷ 7 ∷ []) 10 tt h)
+event-line l (Order.Label n) number text h e = absurd (miss (4 ∷ 5 ∷ 6 ∷ 7 ∷ 11 ∷ []) 8 tt h)
+event-line l (Order.Tree s f) number text h e = absurd (miss (4 ∷ 5 ∷ 6 ∷ 7 ∷ 11 ∷ []) 9 tt h)
+event-line l Order.Free number text h e = absurd (miss (4 ∷ 5 ∷ 6 ∷ 7 ∷ 11 ∷ []) 10 tt h)
+event-line l (Order.Notice n k s f) number text h e = e
 
-pub room-other : (l : List ℕ) (o : Order) (room : ℕ) → OneOf (0 ∷ 1 ∷ 2 ∷ 4 ∷ 5 ∷ 6 ∷ 7 ∷ 8 ∷ 9 ∷ 10 ∷ []) (tagOf the-type o) → room ≡ roomAfter room (meant l o)
+pub room-other : (l : List ℕ) (o : Order) (room : ℕ) → OneOf (0 ∷ 1 ∷ 2 ∷ 4 ∷ 5 ∷ 6 ∷ 7 ∷ 8 ∷ 9 ∷ 10 ∷ 11 ∷ []) (tagOf the-type o) → room ≡ roomAfter room (meant l o)
 unfolding meant
 room-other l Order.Blank room h = refl
 room-other l Order.Bad room h = refl
 room-other l (Order.Start n) room h = refl
-room-other l (Order.Room n) room h = absurd (miss (0 ∷ 1 ∷ 2 ∷ 4 ∷ 5 ∷ 6 ∷ 7 ∷ 8 ∷ 9 ∷ 10 ∷ []) 3 tt h)
+room-other l (Order.Room n) room h = absurd (miss (0 ∷ 1 ∷ 2 ∷ 4 ∷ 5 ∷ 6 ∷ 7 ∷ 8 ∷ 9 ∷ 10 ∷ 11 ∷ []) 3 tt h)
 room-other l (Order.Take n s e) room h = refl
 room-other l (Order.Join s e) room h = refl
 room-other l (Order.Leave s e) room h = refl
@@ -148,6 +150,7 @@ room-other l (Order.Route s e n) room h = refl
 room-other l (Order.Label n) room h = refl
 room-other l (Order.Tree s e) room h = refl
 room-other l Order.Free room h = refl
+room-other l (Order.Notice n k s e) room h = refl
 
 pub short : (l : List ℕ) (s e : ℕ) → Lies l s e → length (take (e - s) (drop s l)) ≤ 8192
 short l s e h = let n = length-take-le (e - s) (drop s l) (simp length-drop (omega arith)) in omega arith

@@ -73,6 +73,7 @@ IsEventLine (Said.route root via) text = IsEvent (ascii "route") text
 IsEventLine (Said.label n) text = Unit
 IsEventLine (Said.tree element) text = Unit
 IsEventLine Said.free text = Unit
+IsEventLine (Said.notice n number octets) text = IsEvent (ascii "notice") text
 
 -- the line for any order, on the line of that number
 abbrev pub IsLine : Said → ℕ → List ℕ → Type 0
@@ -87,6 +88,7 @@ IsLine (Said.route root via) number text = IsEvent (ascii "route") text
 IsLine (Said.label n) number text = IsFeed (ascii "label") text
 IsLine (Said.tree element) number text = IsFeed (ascii "tree") text
 IsLine Said.free number text = IsCount (ascii "free") text
+IsLine (Said.notice n refusal octets) number text = IsEvent (ascii "notice") text
 
 -- the room from here on
 abbrev pub roomAfter : ℕ → Said → ℕ
@@ -101,6 +103,7 @@ roomAfter room (Said.route root via) = room
 roomAfter room (Said.label n) = room
 roomAfter room (Said.tree element) = room
 roomAfter room Said.free = room
+roomAfter room (Said.notice n number octets) = room
 
 pub record Answers (said : Said) (number before room r : ℕ) (text : List ℕ) : Type 0 where
   pub short : r ≤ 20480

@@ -264,6 +264,33 @@ fn on_route(
     put_event(text, b"route", answer, records)
 }
 
+// Why a message was refused, to the neighbour that sent it.
+fn on_notice(
+    numbers: &mut [u64; 1444],
+    neighbour: u32,
+    number: u32,
+    hex: &[u8],
+    room: u32,
+    text: &mut [u8],
+) -> usize
+    requires { ⌜ (length (now hex) ≤ 8192) × (20480 ≤ length (now text)) ⌝ }
+    ensures { λ r. ⌜ (r ≤ 20480) × IsEvent (ascii "notice") (take r (now (text .exit))) ⌝ }
+{
+    let mut refused = io::buffer();
+    let n = orders::decode_hex(hex, &mut refused);
+    let mut out = output();
+    let mut answer: u32 = 0;
+    let record = notice::notice(
+        numbers,
+        neighbour,
+        number,
+        &refused[..n],
+        lent(&mut out, room),
+        &mut answer,
+    );
+    put_event(text, b"notice", answer, record)
+}
+
 fn on_tree(numbers: &[u64; 1444], names: &[u8; 18144], hex: &[u8], text: &mut [u8]) -> usize
     requires { ⌜ (length (now hex) ≤ 8192) × (20480 ≤ length (now text)) ⌝ }
     ensures { λ r. ⌜ (r ≤ 20480) × IsFeed (ascii "tree") (take r (now (text .exit))) ⌝ }
@@ -299,6 +326,12 @@ fn on_event(
         Order::Route { start, end, route } => {
             on_route(numbers, names, &line[start..end], route, room, text)
         }
+        Order::Notice {
+            neighbour,
+            number,
+            start,
+            end,
+        } => on_notice(numbers, neighbour, number, &line[start..end], room, text),
         _ => 0,
     }
 }

@@ -65,6 +65,21 @@ part-on-route-end c = lies _ _ _ (c .before .before .before .before .before .bef
 on-route-requires : tie.Need-on-route-requires
 on-route-requires c κs = (short _ _ _ (lies _ _ _ (c .before .before .before .before .before .before .before .before .before .pre .0) (c .before .before .before .before .before .order4 .given .1)), c .before .before .before .before .before .before .before .before .before .pre .1)
 
+enum-known-order-5 : tie.Need-enum-known-order-5
+enum-known-order-5 c = search needs
+
+sub-on-notice : tie.Need-sub-on-notice
+sub-on-notice c = lies _ _ _ (c .before .before .before .before .before .before .pre .0) (c .before .before .order5 .given .1) .0
+
+part-on-notice-start : tie.Need-part-on-notice-start
+part-on-notice-start c = lies _ _ _ (c .before .before .before .before .before .before .pre .0) (c .before .before .order5 .given .1) .0
+
+part-on-notice-end : tie.Need-part-on-notice-end
+part-on-notice-end c = lies _ _ _ (c .before .before .before .before .before .before .pre .0) (c .before .before .order5 .given .1) .1
+
+on-notice-requires : tie.Need-on-notice-requires
+on-notice-requires c κs = (short _ _ _ (lies _ _ _ (c .before .before .before .before .before .before .before .before .pre .0) (c .before .before .before .before .order5 .given .1)), c .before .before .before .before .before .before .before .before .pre .1)
+
 same-length : tie.Need-same-length
 same-length c = search needs
 
@@ -93,8 +108,15 @@ returns-4 : tie.Need-returns-4
 unfolding meant
 returns-4 c = (c .before .before .on-route .ensures .0, rw (c .before .before .before .before .before .before .before .before .order4 .given .1) (c .before .before .on-route .ensures .1))
 
+same-length-5 : tie.Need-same-length-5
+same-length-5 c = search needs
+
 returns-5 : tie.Need-returns-5
-returns-5 c = (omega arith, event-other _ (c .before .before .before .args .order) _ (c .match .keys5))
+unfolding meant
+returns-5 c = (c .before .before .on-notice .ensures .0, rw (c .before .before .before .before .before .before .before .order5 .given .1) (c .before .before .on-notice .ensures .1))
+
+returns-6 : tie.Need-returns-6
+returns-6 c = (omega arith, event-other _ (c .before .before .before .args .order) _ (c .match .keys6))
 
 pub on-event-spec : {M : Type 1} → statement M
 on-event-spec =
@@ -120,6 +142,11 @@ on-event-spec =
     part-on-route-start
     part-on-route-end
     on-route-requires
+    enum-known-order-5
+    sub-on-notice
+    part-on-notice-start
+    part-on-notice-end
+    on-notice-requires
     same-length
     returns
     same-length-2
@@ -128,4 +155,6 @@ on-event-spec =
     returns-3
     same-length-4
     returns-4
-    returns-5)
+    same-length-5
+    returns-5
+    returns-6)
