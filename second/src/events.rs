@@ -153,26 +153,24 @@ pub fn stray_withdraw(scene: &mut Scene) -> Option<Order> {
     Some(told(scene, from, Kind::Withdraw, &name, label))
 }
 
-pub fn awaiting(card: &Card) -> Vec<(u32, u32, Name)> {
-    card.labels()
-        .filter_map(|(label, held)| match held {
-            LabelUse::Awaiting(from, name) => Some((label, *from, name.clone())),
-            _ => None,
-        })
-        .collect()
-}
+/// `LabelUse::Mapped` or `LabelUse::Awaiting`.
+type Use = fn(u32, Name) -> LabelUse;
 
-pub fn mapped(card: &Card) -> Vec<(u32, u32, Name)> {
+/// Label, neighbour and name of each label in that use.
+fn labels_in(card: &Card, wanted: Use) -> Vec<(u32, u32, Name)> {
     card.labels()
         .filter_map(|(label, held)| match held {
-            LabelUse::Mapped(to, name) => Some((label, *to, name.clone())),
-            _ => None,
+            LabelUse::Mapped(neighbour, name) | LabelUse::Awaiting(neighbour, name) => {
+                let in_use = *held == wanted(*neighbour, name.clone());
+                in_use.then(|| (label, *neighbour, name.clone()))
+            }
+            LabelUse::Free => None,
         })
         .collect()
 }
 
 pub fn awaited_release(scene: &mut Scene) -> Option<Order> {
-    let (label, from, name) = scene.rng.pick(&awaiting(scene.card))?;
+    let (label, from, name) = scene.rng.pick(&labels_in(scene.card, LabelUse::Awaiting))?;
     Some(told(scene, from, Kind::Release, &name, label))
 }
 
@@ -190,7 +188,7 @@ fn near_name(rng: &mut Rng, name: &TreeName) -> TreeName {
 
 /// A Release that is right but for one of neighbour, name and label.
 pub fn stray_release(scene: &mut Scene) -> Option<Order> {
-    let (mut label, mut from, name) = scene.rng.pick(&awaiting(scene.card))?;
+    let (mut label, mut from, name) = scene.rng.pick(&labels_in(scene.card, LabelUse::Awaiting))?;
     let mut name = (*name).clone();
     match scene.rng.below(5) {
         0 => from = (from + 1 + scene.rng.below(15) as u32) % NEIGHBOURS,
@@ -204,7 +202,7 @@ pub fn stray_release(scene: &mut Scene) -> Option<Order> {
 
 /// A Release of a label that is still mapped, from the very upstream.
 pub fn early_release(scene: &mut Scene) -> Option<Order> {
-    let (label, from, name) = scene.rng.pick(&mapped(scene.card))?;
+    let (label, from, name) = scene.rng.pick(&labels_in(scene.card, LabelUse::Mapped))?;
     Some(told(scene, from, Kind::Release, &name, label))
 }
 
@@ -319,8 +317,8 @@ fn asked_label(scene: &mut Scene) -> u32 {
 /// A label of the block, most often one in use.
 pub fn block_label(scene: &mut Scene) -> u32 {
     let uses = match scene.rng.below(10) {
-        0..=6 => mapped(scene.card),
-        7 | 8 => awaiting(scene.card),
+        0..=6 => labels_in(scene.card, LabelUse::Mapped),
+        7 | 8 => labels_in(scene.card, LabelUse::Awaiting),
         _ => Vec::new(),
     };
     let any = scene.card.base() + scene.rng.below(256) as u32;
