@@ -19,6 +19,8 @@ pub enum Order {
     Label(u32),
     Tree(Vec<u8>),
     Free,
+    /// To a neighbour, of a refusal's number and the refused octets.
+    Notice(u32, u32, Vec<u8>),
 }
 
 impl Order {
@@ -33,6 +35,9 @@ impl Order {
             Order::Label(label) => format!("label {label}"),
             Order::Tree(octets) => format!("tree {}", hex_word(octets)),
             Order::Free => "free".to_string(),
+            Order::Notice(to, number, octets) => {
+                format!("notice {to} {number} {}", hex_word(octets))
+            }
         }
     }
 }
@@ -71,6 +76,11 @@ fn read_order(words: &[&[u8]]) -> Option<Order> {
         [b"label", label] => Some(Order::Label(read_number(label)?)),
         [b"tree", octets] => Some(Order::Tree(read_hex(octets)?)),
         [b"free"] => Some(Order::Free),
+        [b"notice", to, number, octets] => Some(Order::Notice(
+            read_number(to)?,
+            read_number(number)?,
+            read_hex(octets)?,
+        )),
         _ => None,
     }
 }
@@ -118,9 +128,14 @@ pub fn answer_number<T>(answer: &Result<T, Refusal>) -> u8 {
 pub fn written_number(line: &str) -> Option<u8> {
     let mut words = line.split(' ');
     match words.next()? {
-        "take" | "join" | "leave" | "route" | "start" => words.next()?.parse().ok(),
+        "take" | "join" | "leave" | "route" | "notice" | "start" => words.next()?.parse().ok(),
         _ => None,
     }
+}
+
+/// The octets of the record on a line written for a notice.
+pub fn notice_record(line: &str) -> Option<Vec<u8>> {
+    read_hex(line.strip_prefix("notice 0 ")?.as_bytes())
 }
 
 /// The card on the bench and the room its events are lent.
@@ -168,6 +183,7 @@ pub fn event_answer(card: &mut Card, event: &Order, room: usize) -> Result<Vec<u
         Order::Join(octets) => card.join(octets, room),
         Order::Leave(octets) => card.leave(octets, room),
         Order::Route(root, route) => card.route(root, *route, room),
+        Order::Notice(to, number, octets) => card.notice(*to, *number, octets, room),
         _ => Ok(Vec::new()),
     }
 }
@@ -177,6 +193,7 @@ fn event_word(event: &Order) -> &'static str {
         Order::Take(..) => "take",
         Order::Join(_) => "join",
         Order::Leave(_) => "leave",
+        Order::Notice(..) => "notice",
         _ => "route",
     }
 }

@@ -57,6 +57,15 @@ fn lines_that_cannot_be_taken() {
         b"label 4294967296",
         b"label 99999999999999999999999",
         b"route 1 c0000201",
+        b"notice",
+        b"notice 1 2",
+        b"notice 1 2 00 00",
+        b"notice 1 2 0",
+        b"notice - 2 00",
+        b"notice 1 - 00",
+        b"notice 4294967296 2 00",
+        b"notice 1 4294967296 00",
+        b"Notice 1 2 00",
         b"start -",
         b"\x0bfree",
     ] {
@@ -70,6 +79,8 @@ fn numbers() {
     assert_eq!(output(b"room 0000000000000000000000123"), "room 123\n");
     assert_eq!(output(b"room 4294967295"), "room 4294967295\n");
     assert_eq!(output(b"take 4294967295 -"), "take 1\n");
+    assert_eq!(output(b"notice 4294967295 2 -"), "notice 1\n");
+    assert_eq!(output(b"notice 0 4294967295 -"), "notice 0\n");
     assert_eq!(
         output(b"route - 4294967295\nroute - 0"),
         "route 1\nroute 6\n"
@@ -154,10 +165,36 @@ fn orders_read_back_what_they_write() {
         Order::Label(u32::MAX),
         Order::Tree(vec![6]),
         Order::Free,
+        Order::Notice(16, 3, vec![0x84, 0]),
+        Order::Notice(0, u32::MAX, vec![]),
     ] {
         assert_eq!(
             read_line(order.to_line().as_bytes()),
             Said::Order(order.clone())
         );
     }
+}
+
+#[test]
+fn a_notice_is_lent_the_room_and_takes_an_identifier() {
+    let (refused, ignored) = ("0401000400000009", "8401000400000009");
+    let input = format!(
+        "room 25\nnotice 2 3 {refused}\nroom 26\nnotice 2 3 {refused}\nnotice 2 10 {refused}\n\
+         notice 2 3 {ignored}\nnotice 16 3 {refused}\nnotice 15 2 -\n"
+    );
+    assert_eq!(
+        output(input.as_bytes()),
+        "room 25\nnotice 16\nroom 26\n\
+         notice 0 4c44000200010012000000010300000a00000004000000090401\n\
+         notice 0\nnotice 0\nnotice 1\n\
+         notice 0 4c44000f00010012000000020300000a80000005000000000000\n"
+    );
+}
+
+#[test]
+fn records_are_found_on_the_lines_of_notices() {
+    assert_eq!(notice_record("notice 0 4c44"), Some(vec![0x4c, 0x44]));
+    assert_eq!(notice_record("notice 0"), None);
+    assert_eq!(notice_record("notice 16"), None);
+    assert_eq!(notice_record("take 0 4c44"), None);
 }

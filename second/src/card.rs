@@ -1,5 +1,6 @@
 //! The tree table, its events and its lookups.
 
+use crate::notice::Notice;
 use crate::refusal::Refusal;
 use crate::wire::{self, Kind, TreeName};
 use std::collections::BTreeMap;
@@ -107,6 +108,23 @@ impl Card {
             return Err(Refusal::Element);
         }
         self.attempt(room, |draft| draft.reroute(root, route))
+    }
+
+    /// Tells a neighbour by what number its octets were refused.
+    pub fn notice(
+        &mut self,
+        to: u32,
+        number: u32,
+        octets: &[u8],
+        room: usize,
+    ) -> Result<Vec<u8>, Refusal> {
+        if to >= NEIGHBOURS {
+            return Err(Refusal::Neighbour);
+        }
+        self.attempt(room, |draft| {
+            draft.notify(to, number, octets);
+            Ok(())
+        })
     }
 
     /// An event runs on a copy, which becomes the card only if nothing was
@@ -319,9 +337,21 @@ impl Draft {
         self.card.labels[place] = held;
     }
 
-    fn send(&mut self, kind: Kind, neighbour: u32, name: &TreeName, label: u32) {
+    fn notify(&mut self, to: u32, number: u32, octets: &[u8]) {
+        if let Some(notice) = Notice::due(to, self.card.next_identifier, number, octets) {
+            self.step_identifier();
+            self.records.extend(notice.write());
+        }
+    }
+
+    fn step_identifier(&mut self) -> u32 {
         let identifier = self.card.next_identifier;
         self.card.next_identifier = identifier.wrapping_add(1);
+        identifier
+    }
+
+    fn send(&mut self, kind: Kind, neighbour: u32, name: &TreeName, label: u32) {
+        let identifier = self.step_identifier();
         let message = wire::write_message(kind, identifier, name, label);
         self.records.extend(wire::write_record(neighbour, &message));
     }

@@ -250,3 +250,70 @@ fn families_do_not_mix() {
     assert_eq!(card.find_label(17).map(|f| f.leaf), Some(true));
     assert_eq!(card.find_label(16).map(|f| f.leaf), Some(false));
 }
+
+fn notice(card: &mut Card, to: u32, number: u32, room: usize) -> (u8, Vec<u8>) {
+    let before = card.clone();
+    let refused = wire::write_frame(0x0401, 9, &[]);
+    let answer = card.notice(to, number, &refused, room);
+    assert!(answer.as_ref().is_ok_and(|o| !o.is_empty()) || *card == before);
+    (answer_number(&answer), answer.unwrap_or_default())
+}
+
+/// The record for number 3 to neighbour 1, with the identifier's octets.
+fn notice_octets(identifier: [u8; 4]) -> Vec<u8> {
+    let mut octets = vec![0x4c, 0x44, 0, 1, 0, 1, 0, 18];
+    octets.extend(identifier);
+    octets.extend([3, 0, 0, 10, 0, 0, 0, 4, 0, 0, 0, 9, 4, 1]);
+    octets
+}
+
+#[test]
+fn notices_take_identifiers_in_turn() {
+    let mut card = grown(1);
+    for identifier in [2, 3] {
+        let written = notice(&mut card, 1, 3, WHOLE_BUFFER);
+        assert_eq!(written, (0, notice_octets([0, 0, 0, identifier])));
+    }
+    assert_eq!(notice(&mut card, 1, 10, WHOLE_BUFFER), (0, vec![]));
+    assert_eq!(notice(&mut card, 1, 3, 25), (16, vec![]));
+    assert_eq!(notice(&mut card, 16, 3, WHOLE_BUFFER), (1, vec![]));
+    let written = card.route(&ROOT, 3, WHOLE_BUFFER).expect("it is taken");
+    assert_eq!(written[8..12], [0, 0, 0, 4]);
+    assert_eq!(card.next_identifier, 6);
+}
+
+#[test]
+fn after_the_last_identifier_comes_0() {
+    let mut card = fresh();
+    card.next_identifier = u32::MAX;
+    for octets in [[255; 4], [0; 4], [0, 0, 0, 1]] {
+        let written = notice(&mut card, 1, 3, 26);
+        assert_eq!(written, (0, notice_octets(octets)));
+    }
+}
+
+#[test]
+fn a_notice_changes_nothing_but_the_identifier() {
+    let mut card = grown(5);
+    let mut before = card.clone();
+    notice(&mut card, 0, 2, 26);
+    before.next_identifier += 1;
+    assert_eq!(card, before);
+}
+
+#[test]
+fn room_and_neighbour_of_a_notice() {
+    for (to, number, room, answer, written) in [
+        (15, 3, 26, 0, 26),
+        (15, 3, 25, 16, 0),
+        (15, 3, 0, 16, 0),
+        (15, 13, 0, 0, 0),
+        (16, 3, 26, 1, 0),
+        (16, 3, 0, 1, 0),
+        (16, 13, 0, 1, 0),
+        (u32::MAX, 3, 26, 1, 0),
+    ] {
+        let (number, octets) = notice(&mut fresh(), to, number, room);
+        assert_eq!((number, octets.len()), (answer, written));
+    }
+}

@@ -1,5 +1,5 @@
-//! The thirteen cases of "Both sides of the edge" as a day, and two edges more:
-//! the longest output and the most roots.
+//! The thirteen cases of "Both sides of the edge" as a day, and more edges:
+//! the longest output, the most roots, and the notices of request [1].
 
 use crate::bench::Order;
 use crate::card::{NO_ROUTE, THIS_NODE};
@@ -76,6 +76,17 @@ pub fn most_roots() -> Vec<String> {
     page.lines
 }
 
+/// Request [1]: a notice for each number, and both sides of each edge.
+pub fn notices() -> Vec<String> {
+    let mut page = Page::new();
+    page.comment("request [1]: refused messages, and the neighbour is told why");
+    page.fresh();
+    page.refused_and_told();
+    page.every_number();
+    page.edges_of_a_notice();
+    page.lines
+}
+
 fn longest_name(root: &[u8], number: u8) -> TreeName {
     TreeName {
         root: root.to_vec(),
@@ -104,6 +115,14 @@ fn element_claiming(length: u16, opaque: &[u8]) -> Vec<u8> {
     octets.extend(length.to_be_bytes());
     octets.extend(opaque);
     octets
+}
+
+/// A Mapping of one element, with further octets behind its label.
+fn mapping(identifier: u32, element: &[u8], label: u32, further: &[u8]) -> Vec<u8> {
+    let mut tlvs = wire::write_tlv(wire::FEC, element);
+    tlvs.extend(wire::write_tlv(wire::GENERIC_LABEL, &label.to_be_bytes()));
+    tlvs.extend(further);
+    wire::write_frame(Kind::Mapping.code(), identifier, &tlvs)
 }
 
 impl Page {
@@ -143,10 +162,7 @@ impl Page {
     }
 
     fn map_element(&mut self, from: u32, element: &[u8]) {
-        let mut tlvs = wire::write_tlv(wire::FEC, element);
-        tlvs.extend(wire::write_tlv(wire::GENERIC_LABEL, &100u32.to_be_bytes()));
-        let message = wire::write_frame(Kind::Mapping.code(), 1, &tlvs);
-        self.order(Order::Take(from, message));
+        self.order(Order::Take(from, mapping(1, element, 100, &[])));
     }
 
     fn ask(&mut self, labels: &[u32], names: &[TreeName]) {
@@ -310,6 +326,66 @@ impl Page {
         self.tell(1, Kind::Release, &numbered(OTHER_ROOT, 1), 19);
         self.route(ROOT, 4);
         self.ask(&[16, 17, 18, 19, 270, 271], &three);
+    }
+
+    /// A message that is refused by that number, and its notice.
+    fn told(&mut self, number: u32, octets: Vec<u8>) {
+        self.order(Order::Take(1, octets.clone()));
+        self.order(Order::Notice(1, number, octets));
+    }
+
+    fn refused_and_told(&mut self) {
+        let element = wire::write_element(&tree_a());
+        let filled = [7; 33];
+        let no_tlv = |code, identifier| wire::write_frame(code, identifier, &[]);
+        let cut_short = no_tlv(0x0400, 2)[..7].to_vec();
+        self.told(2, cut_short);
+        self.told(3, no_tlv(0x0401, 3));
+        self.comment("the U bit: nothing written");
+        self.told(3, no_tlv(0x8401, 3));
+        self.told(4, wire::write_frame(0x0400, 4, &[1, 0, 0, 1]));
+        self.told(5, no_tlv(0x0400, 5));
+        self.told(6, mapping(6, &element_claiming(6, &filled[..7]), 100, &[]));
+        self.told(7, mapping(7, &element_claiming(33, &filled), 100, &[]));
+        self.told(8, mapping(8, &element, 15, &[]));
+        let further = wire::write_tlv(0x0104, &[]);
+        self.told(9, mapping(9, &element, 100, &further));
+        self.comment("a label of another branch, 10, is not told");
+        self.tell(1, Kind::Mapping, &tree_a(), 100);
+        self.told(10, mapping(10, &element, 101, &[]));
+    }
+
+    fn every_number(&mut self) {
+        self.comment("every number, of a Withdraw with identifier 2712847316");
+        let refused = wire::write_frame(Kind::Withdraw.code(), 0xa1b2_c3d4, &[]);
+        for number in (0..=22).chain([255, 256, 258, 65538, u32::MAX]) {
+            self.order(Order::Notice(0, number, refused.clone()));
+        }
+    }
+
+    fn edges_of_a_notice(&mut self) {
+        let refused = wire::write_frame(0x8400, u32::MAX, &[]);
+        self.comment("7 octets, whose type and identifier are not copied, and 8; the U bit in them counts for 3 alone");
+        for number in [2, 3] {
+            for length in [0, 7, 8] {
+                self.order(Order::Notice(1, number, refused[..length].to_vec()));
+            }
+        }
+        self.comment("room for 25 octets, and for 26; a notice that is not due needs none");
+        for (room, number) in [(25, 2), (26, 2), (25, 3), (0, 10), (0, 2), (9984, 2)] {
+            self.order(Order::Room(room));
+            self.order(Order::Notice(1, number, refused.clone()));
+        }
+        self.comment("neighbours 15 and 16, who is refused 1 before 16 and whatever the number");
+        self.order(Order::Notice(15, 2, refused.clone()));
+        self.order(Order::Room(25));
+        for number in [2, 3, 10] {
+            self.order(Order::Notice(16, number, refused.clone()));
+        }
+        self.comment("the card's own messages count on from there");
+        self.order(Order::Room(9984));
+        self.route(ROOT, 3);
+        self.ask(&[16, 17], &[tree_a()]);
     }
 }
 

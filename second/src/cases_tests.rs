@@ -230,3 +230,107 @@ fn thirty_two_roots_have_a_route() {
     );
     assert_eq!(lines[42..], ["label leaf", "tree leaf", "free 255"]);
 }
+
+/// A notice's line: the neighbour, the card's identifier, status code, and
+/// what is copied.
+fn notice(neighbour: u8, identifier: u8, code: u32, copied: &str) -> String {
+    format!(
+        "notice 0 4c4400{neighbour:02x}00010012000000{identifier:02x}0300000a{code:08x}{copied}"
+    )
+}
+
+#[test]
+fn refused_messages_and_their_notices() {
+    let lines = run(&notices().join("\n"));
+    assert_eq!(lines[..2], ["start 0", "route 0"]);
+    let copied = |identifier: u8, code: u16| format!("000000{identifier:02x}{code:04x}");
+    let expected = [
+        ("take 2", notice(1, 1, 0x8000_0005, &copied(0, 0))),
+        ("take 3", notice(1, 2, 0x04, &copied(3, 0x0401))),
+        ("take 3", "notice 0".to_string()),
+        ("take 4", notice(1, 3, 0x8000_0007, &copied(4, 0x0400))),
+        ("take 5", notice(1, 4, 0x16, &copied(5, 0x0400))),
+        ("take 6", notice(1, 5, 0x0c, &copied(6, 0x0400))),
+        ("take 7", notice(1, 6, 0x0c, &copied(7, 0x0400))),
+        ("take 8", notice(1, 7, 0x8000_0008, &copied(8, 0x0400))),
+        ("take 9", notice(1, 8, 0x06, &copied(9, 0x0400))),
+    ];
+    for (pair, (take, notice)) in lines[2..].chunks(2).zip(&expected) {
+        assert_eq!(pair, [*take, notice.as_str()]);
+    }
+    let after = 2 + 2 * expected.len();
+    assert_eq!(
+        lines[after..after + 3],
+        [
+            &format!("take 0 {}", record(0, MAPPING, 9, 16)),
+            "take 10",
+            "notice 0"
+        ]
+    );
+}
+
+#[test]
+fn a_notice_of_every_number() {
+    let lines = run(&notices().join("\n"));
+    let lines = &lines[2 + 18 + 3..][..28];
+    let told: Vec<(usize, &String)> = (0..)
+        .zip(lines)
+        .filter(|(_, line)| *line != "notice 0")
+        .collect();
+    let numbers: Vec<usize> = told.iter().map(|(number, _)| *number).collect();
+    assert_eq!(numbers, [2, 3, 4, 5, 6, 7, 8, 9, 11, 12]);
+    let codes = [
+        0x8000_0005,
+        0x04,
+        0x8000_0007,
+        0x16,
+        0x0c,
+        0x0c,
+        0x8000_0008,
+        0x06,
+        0x0e,
+        0x0e,
+    ];
+    for ((identifier, (_, line)), code) in (10..).zip(told).zip(codes) {
+        assert_eq!(*line, notice(0, identifier, code, "a1b2c3d40402"));
+    }
+}
+
+#[test]
+fn edges_of_notices() {
+    let lines = run(&notices().join("\n"));
+    let lines = &lines[2 + 18 + 3 + 28..];
+    let (none, whole) = ("000000000000", "ffffffff8400");
+    let two = |identifier, copied| notice(1, identifier, 0x8000_0005, copied);
+    let three = |identifier, copied| notice(1, identifier, 0x04, copied);
+    assert_eq!(
+        lines[..6],
+        [
+            two(20, none),
+            two(21, none),
+            two(22, whole),
+            three(23, none),
+            three(24, none),
+            "notice 0".to_string()
+        ]
+    );
+    let lent: Vec<&String> = lines[6..18].iter().skip(1).step_by(2).collect();
+    assert_eq!(
+        lent,
+        [
+            "notice 16",
+            &two(25, whole),
+            "notice 0",
+            "notice 0",
+            "notice 16",
+            &two(26, whole)
+        ]
+    );
+    assert_eq!(lines[18], notice(15, 27, 0x8000_0005, whole));
+    assert_eq!(
+        lines[19..23],
+        ["room 25", "notice 1", "notice 1", "notice 1"]
+    );
+    let written = record(0, WITHDRAW, 28, 16) + &record(3, MAPPING, 29, 17);
+    assert_eq!(lines[24], format!("route 0 {written}"));
+}

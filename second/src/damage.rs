@@ -164,6 +164,13 @@ fn set(octets: &mut [u8], place: usize, value: u8) {
     }
 }
 
+/// The U bit of a message's type.
+pub fn turn_u_bit(octets: &mut [u8]) {
+    if let Some(octet) = octets.first_mut() {
+        *octet ^= 0x80;
+    }
+}
+
 fn flip(rng: &mut Rng, octets: &mut [u8]) {
     if !octets.is_empty() {
         let place = rng.below(octets.len());

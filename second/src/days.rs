@@ -123,6 +123,8 @@ pub struct Maker {
     lines: Vec<Vec<u8>>,
     /// How many awaited releases come next.
     releases_due: usize,
+    /// The chance of notices, by itself: a day's other orders do not hang on it.
+    whys: Rng,
 }
 
 impl Maker {
@@ -134,6 +136,7 @@ impl Maker {
             bench: Bench::new(),
             lines: Vec::new(),
             releases_due: 0,
+            whys: Rng::new(!seed),
         }
     }
 
@@ -146,10 +149,42 @@ impl Maker {
     }
 
     fn give_line(&mut self, line: Vec<u8>) {
-        if let Said::Order(order) = bench::read_line(&line) {
-            self.bench.obey(&order);
-        }
+        let said = bench::read_line(&line);
         self.lines.push(line);
+        if let Said::Order(order) = said {
+            let written = self.bench.obey(&order);
+            self.tell_why(&order, &written);
+        }
+    }
+
+    /// After a refused message, often the notice of it, and now and then one
+    /// that is odd or has hardly room enough.
+    fn tell_why(&mut self, order: &Order, written: &str) {
+        let Order::Take(from, octets) = order else {
+            return;
+        };
+        let number = bench::written_number(written).unwrap_or(0);
+        if number == 0 || self.whys.percent(40) {
+            return;
+        }
+        let notice = Order::Notice(*from, number.into(), octets.clone());
+        let odd = self.whys.percent(35);
+        let notice = if odd {
+            spoil(&mut self.whys, notice)
+        } else {
+            notice
+        };
+        let room = self.bench.room as u32;
+        let scarce = self.whys.percent(15);
+        if scarce {
+            let rooms = [0, 25, 25, 26, 26, 27];
+            let little = rooms[self.whys.below(rooms.len())];
+            self.give(Order::Room(little));
+        }
+        self.give(notice);
+        if scarce {
+            self.give(Order::Room(room));
+        }
     }
 
     fn scene(&mut self) -> Scene<'_> {
@@ -296,6 +331,7 @@ pub fn spoil(rng: &mut Rng, order: Order) -> Order {
         Order::Join(octets) => Order::Join(spoiled_element(rng, octets)),
         Order::Leave(octets) => Order::Leave(spoiled_element(rng, octets)),
         Order::Route(root, route) => spoil_route(rng, root, route),
+        Order::Notice(to, number, octets) => spoil_notice(rng, to, number, octets),
         other => other,
     }
 }
@@ -323,19 +359,36 @@ fn spoil_route(rng: &mut Rng, mut root: Vec<u8>, mut route: u32) -> Order {
     Order::Route(root, route)
 }
 
+/// To another neighbour, of another number, of octets that have hardly a head
+/// or none, or of a type that has the U bit or lacks it.
+fn spoil_notice(rng: &mut Rng, mut to: u32, mut number: u32, mut octets: Vec<u8>) -> Order {
+    match rng.below(6) {
+        0 => to = [14, 15, 16, 17, 65537, u32::MAX][rng.below(6)],
+        1 | 2 => number = rng.below(24) as u32,
+        3 => number = [18, 21, 258, 65539, u32::MAX][rng.below(5)],
+        4 => octets.resize([0, 1, 2, 4, 7, 8, 9][rng.below(7)], 0x84),
+        _ => {
+            number = 3;
+            damage::turn_u_bit(&mut octets);
+        }
+    }
+    Order::Notice(to, number, octets)
+}
+
 fn step_random(maker: &mut Maker) {
     if maker.rng.percent(15) {
         return maker.play(ORDINARY, 20);
     }
     let rng = &mut maker.rng;
     let length = rng.below(70);
-    let order = match rng.below(12) {
+    let order = match rng.below(13) {
         0..=2 => Order::Take(random_number(rng), rng.octets(length)),
         3..=6 => Order::Take(any_neighbour(rng), random_message(rng)),
         7 => Order::Join(random_element(rng)),
         8 => Order::Leave(random_element(rng)),
         9 => Order::Tree(random_element(rng)),
         10 => Order::Route(random_root(rng), random_number(rng)),
+        11 => Order::Notice(random_number(rng), random_number(rng), rng.octets(length)),
         _ => Order::Label(random_number(rng)),
     };
     maker.give(order);

@@ -1,4 +1,5 @@
 use super::*;
+use crate::notice::Notice;
 use std::collections::BTreeSet;
 
 /// The lines written for a day.
@@ -67,4 +68,26 @@ fn a_full_day_reaches_the_edges() {
     assert!(answers.iter().any(|answer| answer == "free 0"));
     let given: BTreeSet<u8> = numbers(&answers).into_iter().collect();
     assert!([10, 11, 12, 13, 14, 15].iter().all(|n| given.contains(n)));
+}
+
+/// In every kind of day; every record reads back.
+#[test]
+fn days_have_notices() {
+    let mut told = BTreeSet::new();
+    let mut numbers = BTreeSet::new();
+    for (kind, Kind { name, .. }) in KINDS.iter().enumerate() {
+        let day = make(kind, 5, 2000);
+        let orders = day.iter().filter(|line| line.starts_with(b"notice "));
+        assert!(orders.count() > 0, "{name}");
+        for answer in answers(&day) {
+            if let Some(octets) = bench::notice_record(&answer) {
+                let notice = Notice::read(&octets).expect("the card wrote it");
+                told.insert(notice.status);
+            } else if let Some(number) = answer.strip_prefix("notice ") {
+                numbers.insert(number.to_string());
+            }
+        }
+    }
+    assert_eq!(told, [4, 5, 6, 7, 8, 12, 14, 22].into());
+    assert_eq!(numbers, ["0", "1", "16"].map(String::from).into());
 }

@@ -8,6 +8,7 @@ mod damage;
 mod days;
 mod differ;
 mod events;
+mod notice;
 mod odd_lines;
 mod refusal;
 mod rng;
@@ -15,6 +16,7 @@ mod rows;
 mod wire;
 mod world;
 
+use notice::Notice;
 use std::fs::File;
 use std::io::{self, BufReader, BufWriter, Write};
 use std::process::ExitCode;
@@ -25,6 +27,7 @@ const USAGE: &str = "usage: second run [FILE]
        second stdin
        second rows BASE SEED LINES
        second refusals FILE
+       second notices FILE
        second differ DAY OUTPUT
        second kinds";
 
@@ -73,6 +76,7 @@ fn obey(words: &[&str], output: &mut impl Write) -> io::Result<Option<ExitCode>>
         }
         ["differ", day, other] => return differ::show(open(day)?, open(other)?, output).map(Some),
         ["refusals", file] => refusals(open(file)?)?,
+        ["notices", file] => notices(open(file)?)?,
         ["day", kind, seed, count] => return write_day(kind, seed, count, output),
         ["rows", base, seed, count] => match made_rows(base, seed, count) {
             Some(rows) => rows,
@@ -130,7 +134,12 @@ fn made_rows(base: &str, seed: &str, count: &str) -> Option<Vec<String>> {
 }
 
 fn write_gate_input(output: &mut impl Write) -> io::Result<()> {
-    for page in [cases::day(), cases::longest_output(), cases::most_roots()] {
+    for page in [
+        cases::day(),
+        cases::longest_output(),
+        cases::most_roots(),
+        cases::notices(),
+    ] {
         writeln!(output, "{}", page.join("\n"))?;
     }
     writeln!(output, "# lines, good and bad\nstart 16\nroom 9984")?;
@@ -158,5 +167,20 @@ fn refusals(input: BufReader<File>) -> io::Result<Vec<String>> {
     })?;
     let mut lines: Vec<String> = (0..).zip(counts).map(|(n, c)| format!("{n} {c}")).collect();
     lines.push(format!("? {bad_lines}"));
+    Ok(lines)
+}
+
+/// What each Notification record of the run says.
+fn notices(input: BufReader<File>) -> io::Result<Vec<String>> {
+    let mut lines = Vec::new();
+    bench::replay(input, |number, _, answer| {
+        if let Some(octets) = bench::notice_record(&answer) {
+            let said = Notice::read(&octets).map_err(|refusal| {
+                io::Error::other(format!("line {number}: refused {}", refusal.number()))
+            })?;
+            lines.push(said.to_string());
+        }
+        Ok(())
+    })?;
     Ok(lines)
 }

@@ -19,6 +19,8 @@ pub enum Refusal {
     RootsFull = 15,
     Room = 16,
     Base = 17,
+    /// Octets that are no Notification record, of request [1].
+    NoNotice = 21,
 }
 
 impl Refusal {
