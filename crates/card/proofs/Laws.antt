@@ -1,23 +1,25 @@
 -- The laws by which the calls follow the definitions. Assumes nothing.
 use Prim.Native.Nat.{ℕ, zero, suc, _+_, _-_, _≤_, _<_}
 use native.Mathlib.Omega.{arith}
-use mathlib.Core.Path.{_≡_, refl, sym, ap, ap₂, _∙_, subst}
-use mathlib.Core.Bool.{Bool, true, false, not, _&&_, _||_, and-false}
-use mathlib.Core.List.{List, [], _∷_, _++_}
-use lib.ListN.{take, drop, getD, length, replicate}
+use mathlib.Core.Path.{_≡_, refl, sym, ap, _∙_, subst}
+use mathlib.Core.Bool.{Bool, true, false, not, and-false}
+use mathlib.Core.List.{List, []}
+use lib.ListN.{length, replicate}
 use lib.Dec.{eqb, leb, ltb}
 use borrow.Author.Tests.{eq-eqb, ne-eqb, eqb-true, le-leb, lt-leb, leb-true, leb-false, le-ltb, lt-ltb, ltb-true, ltb-false}
-use Rattle.meaning.specs.Octets.{pick, place, _when_else_}
-use Rattle.meaning.specs.Lists.{positive, by-test, picked, getD-out}
+use Rattle.meaning.specs.Octets.{place, _when_else_}
+use Rattle.meaning.specs.Lists.{positive, by-test, getD-out}
 use Rattle.meaning.specs.Wire.{Message, mapping, withdraw, release, messageIn, messageRefusal, elementRefusal}
-use Rattle.meaning.specs.RoundTrip.{Heard, heard, name-fits}
+use Rattle.meaning.specs.RoundTrip.{heard, name-fits}
 use Rattle.meaning.specs.Card.{Card, Tree, Use, free, mapped, awaiting, Feed, noRoute, fresh, withNext, bare, treePlace, treeAt, isBranch, mappedTo, useOf, nothing, branchesFrom, feedOf, carries, carrier, feedOfUse, lookupLabel, lookupName}
-use Rattle.meaning.specs.Events.{Out, Outcome, refused, unless, refuse, accept, finish, onMapping, onWithdraw, onRelease, onMessage, noNeighbour, onOctets, onJoin, onLeave, notRoute, notRoot, onRoute, Event, receive, join, leave, route, outcome, event, baseOutside, start}
+use Rattle.meaning.specs.Events.{Outcome, refused, unless, refuse, accept, finish, onMapping, onWithdraw, onRelease, onMessage, noNeighbour, onOctets, onJoin, onLeave, notRoute, notRoot, onRoute, receive, join, leave, route, outcome, event, baseOutside, start}
 use Rattle.meaning.specs.Calls.{Does}
 use Rattle.octets.specs.Part.{tab}
-use Rattle.octets.proofs.Tab.{tab-length, tab-get}
-use Rattle.table.specs.Memory.{cardOf, baseIn, treeCount, useIn, labelIn, labelName}
+use Rattle.octets.proofs.Tab.{tab-length}
+use Rattle.table.specs.Memory.{cardOf, baseIn, treeCount, markAt, markUse, isFreeAt, labelIn}
 use Rattle.table.proofs.Memory.{trees-length}
+use Rattle.table.proofs.Marks.{taken-use, label-free, label-mapped, label-awaiting}
+use Rattle.table.proofs.Laws.{use-in}
 use Rattle.trees.specs.End.{joinOf, leaveOf}
 use Rattle.trees.proofs.Laws.{does-refused, standing-at, not-standing}
 use Rattle.routes.specs.Order.{routeOrder}
@@ -182,19 +184,16 @@ some-found l c free h = absurd (h refl)
 some-found l c (mapped n a) h = refl
 some-found l c (awaiting n a) h = absurd (h refl)
 
-none-in : (l : ℕ) (c : Card) (m : ℕ) (a : List ℕ) → mappedTo (useIn m a) ≡ noRoute → feedOfUse l c (useIn m a) ≡ nothing
-unfolding useIn
-none-in l c m a e =
-    by-test (eqb m 0)
-    (λ x. rw x (unfold feedOfUse in refl))
-    (λ x. by-test (leb m 16)
-    (λ y. absurd (near m (leb-true _ _ y) (rw (x, y) at e)))
-    (λ y. by-test (leb m 32)
-    (λ z. rw (x, y, z) (unfold feedOfUse in refl))
-    (λ z. rw (x, y, z) (unfold feedOfUse in refl))))
-  where
-    near : (m : ℕ) → m ≤ 16 → mappedTo (mapped (m - 1) a) ≡ noRoute → ⊥
-    near m h e = let q : m - 1 ≡ 17 = unfold mappedTo in e in omega arith
+none-in : (l : ℕ) (c : Card) (ns os : List ℕ) (p : ℕ) → mappedTo (labelIn ns os p) ≡ noRoute → feedOfUse l c (labelIn ns os p) ≡ nothing
+none-in l c ns os p e =
+    by-test (isFreeAt ns p)
+    (λ x. rw (label-free ns p os x) (unfold feedOfUse in refl))
+    (λ x.
+    by-test (leb (markUse (markAt ns p)) 16)
+    (λ y.
+    let q : markUse (markAt ns p) - 1 ≡ 17 = sym (ap mappedTo (label-mapped ns p os (taken-use ns p x) (leb-true _ _ y)) ∙ unfold mappedTo in refl) ∙ e in
+    absurd (omega (arith, taken-use ns p x, leb-true (markUse (markAt ns p)) 16 y)))
+    (λ y. rw (label-awaiting ns p os (leb-false _ _ y)) (unfold feedOfUse in refl)))
 
 module _ (ns os : List ℕ) (l : ℕ) where
   outside : (baseIn ns ≤ l → l < baseIn ns + 256 → ⊥) → useOf l (cardOf ns os) ≡ free
@@ -220,13 +219,10 @@ module _ (ns os : List ℕ) (l : ℕ) where
   none-found e =
       by-test (leb (baseIn ns) l)
       (λ x. by-test (ltb l (baseIn ns + 256))
-      (λ y. let u : useOf l (cardOf ns os) ≡ useIn (getD ns (1188 + (l - baseIn ns)) 0) (labelName os (l - baseIn ns)) = use-inside (leb-true _ _ x) (ltb-true _ _ y) in
-      sym (ap (feedOfUse l (cardOf ns os)) u ∙ none-in l (cardOf ns os) _ _ (sym (ap mappedTo u) ∙ e)))
+      (λ y. let u : useOf l (cardOf ns os) ≡ labelIn ns os (l - baseIn ns) = use-in ns os l (l - baseIn ns) (omega (arith, leb-true (baseIn ns) l x)) (omega (arith, leb-true (baseIn ns) l x, ltb-true l (baseIn ns + 256) y)) in
+      sym (ap (feedOfUse l (cardOf ns os)) u ∙ none-in l (cardOf ns os) ns os (l - baseIn ns) (sym (ap mappedTo u) ∙ e)))
       (λ y. sym (ap (feedOfUse l (cardOf ns os)) (outside (λ _ k. omega (arith, ltb-false l (baseIn ns + 256) y))) ∙ unfold feedOfUse in refl)))
       (λ x. sym (ap (feedOfUse l (cardOf ns os)) (outside (λ k _. omega (arith, leb-false (baseIn ns) l x))) ∙ unfold feedOfUse in refl))
-    where
-      use-inside : baseIn ns ≤ l → l < baseIn ns + 256 → useOf l (cardOf ns os) ≡ useIn (getD ns (1188 + (l - baseIn ns)) 0) (labelName os (l - baseIn ns))
-      use-inside h k = unfold useOf cardOf in rw (le-leb (baseIn ns) l h) (tab-get 256 (labelIn ns os) (l - baseIn ns) free (omega arith) ∙ unfold labelIn in refl)
 
   module _ (h : mappedTo (useOf l (cardOf ns os)) ≡ noRoute → ⊥) (i : ℕ) (ei : i ≡ place (carries l) (cardOf ns os .trees)) where
     leads : lookupLabel l (cardOf ns os) ≡ feedOf (treeAt i (cardOf ns os))

@@ -256,12 +256,7 @@ fn feed_at(numbers: &[u64], i: usize) -> Feed
     requires { ⌜ (length (now numbers) ≡ 1444) × (i < treeCount (now numbers)) × (i < 64) ⌝ }
     ensures { λ r. ⌜ ((os : List ℕ) → feedIn (r .branches) (r .leaf) ≡ feedOf (treeAt i (cardOf (now (numbers .entry)) os))) ⌝ }
 {
-    let mut branches = [0u64; 16];
-    let mut n = 0;
-    while n < 16 {
-        branches[n] = table::branch(numbers, i, n);
-        n += 1;
-    }
+    let branches = table::branches(numbers, i);
     Feed {
         leaf: table::is_leaf(numbers, i),
         branches,

@@ -1,21 +1,20 @@
 -- What each function leaves in the memory is the card that its move leaves. Assumes nothing.
-use Prim.Native.Nat.{ℕ, zero, suc, _+_, _*_, _-_, _≤_, _<_}
+use Prim.Native.Nat.{ℕ, _+_, _*_, _-_, _≤_, _<_}
 use native.Mathlib.Omega.{arith}
 use mathlib.Core.Path.{_≡_, refl, sym, ap, _∙_}
 use mathlib.Core.Bool.{false}
 use mathlib.Core.List.{List}
 use lib.ListN.{getD, length}
-use lib.Dec.{ltb}
 use borrow.Author.Tests.{eq-eqb, ne-eqb, le-leb, lt-ltb, le-ltb}
 use Rattle.meaning.specs.Octets.{place}
-use Rattle.meaning.specs.Lists.{by-test, place-count}
+use Rattle.meaning.specs.Lists.{place-count}
 use Rattle.meaning.specs.Wire.{recordOf, nextId, records, idsAfter}
-use Rattle.meaning.specs.Card.{Tree, Card, Use, free, mapped, treeAt, withLabels, isFree, useOf, heldFor, freeLabels, lowestFree}
+use Rattle.meaning.specs.Card.{Tree, Card, free, mapped, treeAt, isFree, useOf, heldFor, freeLabels, lowestFree}
 use Rattle.meaning.specs.Events.{still, tell, setUse, setLabel, ended, giveUp, give, letGo, takeUp, moveLabel, relabel, needMove, need, labelsShort, upstream}
 use Rattle.octets.specs.Part.{mid}
-use Rattle.table.specs.Memory.{cardOf, baseIn, treeCount, ownLabel}
+use Rattle.table.specs.Memory.{cardOf, baseIn, treeCount}
 use Rattle.table.proofs.Memory.{trees-length, labels-length}
-use Rattle.table.proofs.Laws.{label-at, ownPlace}
+use Rattle.table.proofs.Laws.{label-some, label-carried}
 use Rattle.moves.specs.Move.{Wrote, moveSize, relabelSize}
 use Rattle.moves.proofs.Laws.{wrote-nothing, wrote-one, then-length, let-go-size, let-go-stays, take-up-size, move-size}
 use Rattle.moves.proofs.Trees.{give-up-free, give-free}
@@ -26,20 +25,11 @@ module _ (ns ns' os os' : List ℕ) where
   pub as-many : length (cardOf ns' os' .trees) ≡ length (cardOf ns os .trees) → treeCount ns' ≡ treeCount ns
   as-many e = sym (trees-length ns' os') ∙ e ∙ trees-length ns os
 
-  pub use-many : (l : ℕ) (v : Use) → cardOf ns' os' ≡ setUse l v (cardOf ns os) → treeCount ns' ≡ treeCount ns
-  unfolding setUse withLabels
-  use-many l v e = as-many (ap (λ (c : Card). length (c .trees)) e)
-
 -- ---- a tree's own label
 
 module _ (ns os : List ℕ) (i : ℕ) (h : i < treeCount ns) where
   own-least : (treeAt i (cardOf ns os) .label ≡ 0 → ⊥) → baseIn ns ≤ treeAt i (cardOf ns os) .label
-  unfolding ownLabel
-  own-least ne =
-      let e : treeAt i (cardOf ns os) .label ≡ ownLabel (baseIn ns) (ownPlace ns i) = label-at ns os i h in
-      by-test (ltb (ownPlace ns i) 256)
-      (λ t. rw (e, t) (omega arith))
-      (λ t. absurd (ne (e ∙ rw t refl)))
+  own-least ne = omega (arith, label-some ns os i h (baseIn ns) refl (label-carried ns os i h ne))
 
   own-used : (treeAt i (cardOf ns os) .label ≡ 0 → ⊥) → useOf (treeAt i (cardOf ns os) .label) (cardOf ns os) ≡ getD (cardOf ns os .labels) (treeAt i (cardOf ns os) .label - cardOf ns os .base) free
   unfolding useOf cardOf
@@ -47,20 +37,18 @@ module _ (ns os : List ℕ) (i : ℕ) (h : i < treeCount ns) where
 
 -- ---- one tree
 
-pub gave-up : (i id at next to label : ℕ) (ns ns₁ ns₂ os name s s' : List ℕ) → i < treeCount ns
+pub gave-up : (i id at next to label : ℕ) (ns ns' os name s s' : List ℕ) → i < treeCount ns
     → (treeAt i (cardOf ns os) .label ≡ 0 → ⊥)
     → to ≡ heldFor (cardOf ns os) (treeAt i (cardOf ns os))
     → label ≡ treeAt i (cardOf ns os) .label
     → name ≡ treeAt i (cardOf ns os) .name
     → next ≡ nextId id → s' ≡ mid at (24 + length name) s (recordOf id (tell to 0x0402 name label))
-    → cardOf ns₁ os ≡ setUse (treeAt i (cardOf ns os) .label) (ended (useOf (treeAt i (cardOf ns os) .label) (cardOf ns os))) (cardOf ns os)
-    → cardOf ns₂ os ≡ setLabel i 0 (cardOf ns₁ os)
-    → Wrote (giveUp i (cardOf ns os)) id at s s' (cardOf ns₂ os) (at + (24 + length name)) next × (freeLabels (cardOf ns₂ os) ≡ freeLabels (cardOf ns os))
+    → cardOf ns' os ≡ setLabel i 0 (setUse (treeAt i (cardOf ns os) .label) (ended (useOf (treeAt i (cardOf ns os) .label) (cardOf ns os))) (cardOf ns os))
+    → Wrote (giveUp i (cardOf ns os)) id at s s' (cardOf ns' os) (at + (24 + length name)) next × (freeLabels (cardOf ns' os) ≡ freeLabels (cardOf ns os))
 unfolding giveUp
-gave-up i id at next to label ns ns₁ ns₂ os name s s' h ne et el en ei es e₁ e₂ =
-    let e : cardOf ns₂ os ≡ giveUp i (cardOf ns os) .card = e₂ ∙ ap (setLabel i 0) e₁ in
+gave-up i id at next to label ns ns' os name s s' h ne et el en ei es e =
     let es' : s' ≡ mid at (24 + length (treeAt i (cardOf ns os) .name)) s (recordOf id (tell (heldFor (cardOf ns os) (treeAt i (cardOf ns os))) 0x0402 (treeAt i (cardOf ns os) .name) (treeAt i (cardOf ns os) .label))) = rw (← et, ← el, ← en) es in
-    (rw en (wrote-one _ _ id at next s s' (cardOf ns₂ os) e es' ei), ap freeLabels e ∙ give-up-free i (cardOf ns os) (own-used ns os i h ne))
+    (rw en (wrote-one _ _ id at next s s' (cardOf ns' os) e es' ei), ap freeLabels e ∙ give-up-free i (cardOf ns os) (own-used ns os i h ne))
 
 pub let-go-none : (i : ℕ) (c : Card) → treeAt i c .label ≡ 0 → letGo i c ≡ still c
 unfolding letGo
@@ -83,31 +71,24 @@ pub free-place : (ns os : List ℕ) (p : ℕ) → p ≡ place isFree (cardOf ns 
 unfolding freeLabels
 free-place ns os p e h = omega (arith, place-count isFree (cardOf ns os .labels) h, labels-length ns os)
 
-base-kept : (ns ns' os os' : List ℕ) (l : ℕ) (v : Use) → cardOf ns' os' ≡ setUse l v (cardOf ns os) → baseIn ns' ≡ baseIn ns
-unfolding cardOf setUse withLabels
-base-kept ns ns' os os' l v e = ap (λ (c : Card). c .base) e
-
 lowest-at : (ns os : List ℕ) (p : ℕ) → p ≡ place isFree (cardOf ns os .labels) → baseIn ns + p ≡ lowestFree (cardOf ns os)
 unfolding cardOf lowestFree
 lowest-at ns os p e = ap (λ (k : ℕ). baseIn ns + k) e
 
-pub gave : (i u p b id at next : ℕ) (ns ns₁ ns₂ os os₁ name s s' : List ℕ) → b ≡ baseIn ns
+pub gave : (i u p b id at next : ℕ) (ns ns' os os' name s s' : List ℕ) → b ≡ baseIn ns
     → 0 < freeLabels (cardOf ns os)
     → p ≡ place isFree (cardOf ns os .labels)
     → name ≡ treeAt i (cardOf ns os) .name
     → next ≡ nextId id → s' ≡ mid at (24 + length name) s (recordOf id (tell u 0x0400 name (b + p)))
-    → cardOf ns₁ os₁ ≡ setUse (baseIn ns + p) (mapped u (treeAt i (cardOf ns os) .name)) (cardOf ns os)
-    → cardOf ns₂ os₁ ≡ setLabel i (baseIn ns₁ + p) (cardOf ns₁ os₁)
-    → Wrote (give i u (cardOf ns os)) id at s s' (cardOf ns₂ os₁) (at + (24 + length name)) next × (freeLabels (cardOf ns₂ os₁) + 1 ≡ freeLabels (cardOf ns os))
+    → cardOf ns' os' ≡ setLabel i (baseIn ns + p) (setUse (baseIn ns + p) (mapped u (treeAt i (cardOf ns os) .name)) (cardOf ns os))
+    → Wrote (give i u (cardOf ns os)) id at s s' (cardOf ns' os') (at + (24 + length name)) next × (freeLabels (cardOf ns' os') + 1 ≡ freeLabels (cardOf ns os))
 unfolding give
-gave i u p b id at next ns ns₁ ns₂ os os₁ name s s' eb some ep en ei es e₁ e₂ =
-    let k : baseIn ns₁ ≡ baseIn ns = base-kept ns ns₁ os os₁ _ _ e₁ in
+gave i u p b id at next ns ns' os os' name s s' eb some ep en ei es e₁ =
     let l : b + p ≡ lowestFree (cardOf ns os) = ap (λ (n : ℕ). n + p) eb ∙ lowest-at ns os p ep in
-    let e : cardOf ns₂ os₁ ≡ give i u (cardOf ns os) .card =
-    e₂ ∙ ap (λ (n : ℕ). setLabel i (n + p) (cardOf ns₁ os₁)) k ∙ ap (setLabel i (baseIn ns + p)) e₁
-    ∙ ap (λ (n : ℕ). setLabel i n (setUse n (mapped u (treeAt i (cardOf ns os) .name)) (cardOf ns os))) (lowest-at ns os p ep) in
+    let e : cardOf ns' os' ≡ give i u (cardOf ns os) .card =
+    e₁ ∙ ap (λ (n : ℕ). setLabel i n (setUse n (mapped u (treeAt i (cardOf ns os) .name)) (cardOf ns os))) (lowest-at ns os p ep) in
     let es' : s' ≡ mid at (24 + length (treeAt i (cardOf ns os) .name)) s (recordOf id (tell u 0x0400 (treeAt i (cardOf ns os) .name) (lowestFree (cardOf ns os)))) = rw (← en, ← l) es in
-    (rw en (wrote-one _ _ id at next s s' (cardOf ns₂ os₁) e es' ei), ap (λ (c : Card). freeLabels c + 1) e ∙ give-free i u (cardOf ns os) some)
+    (rw en (wrote-one _ _ id at next s s' (cardOf ns' os') e es' ei), ap (λ (c : Card). freeLabels c + 1) e ∙ give-free i u (cardOf ns os) some)
 
 -- ---- u is a neighbour, or none
 

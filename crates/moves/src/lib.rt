@@ -36,8 +36,7 @@ fn give_up(
     let name = table::tree_name(names, i);
     let end = at + (24 + name.len());
     let next = writer::send(id, out, at, to, 0x0402, label, name);
-    table::end_use(numbers, i);
-    table::clear_label(numbers, i);
+    table::end_label(numbers, i);
     Written { at: end, id: next }
 }
 
@@ -81,7 +80,6 @@ fn give(
     let end = at + (24 + name.len());
     let next = writer::send(id, out, at, u, 0x0400, label, name);
     rows::map_label(numbers, names, p, i, u);
-    table::set_label(numbers, i, p);
     Written { at: end, id: next }
 }
 

@@ -2,35 +2,40 @@
 use Prim.Native.Nat.{ℕ, zero, suc, _+_, _*_, _-_, _≤_, _<_, suc-le-suc, zero-le}
 use native.Mathlib.Nat.{add-zero}
 use native.Mathlib.Omega.{arith}
-use mathlib.Core.Path.{_≡_, refl, ap, _∙_}
-use mathlib.Core.Bool.{Bool}
+use mathlib.Core.Path.{_≡_, refl, sym, ap, _∙_}
+use mathlib.Core.Bool.{Bool, true}
 use mathlib.Core.List.{List, [], _∷_, _++_}
 use lib.ListN.{length, take, drop, getD, set, replicate, length-set, length-drop, length-replicate}
 use lib.Seq.{getD-set-same, getD-set-other, getD-take, getD-drop, length-take-le}
-use borrow.Author.Tests.{le-leb, ne-eqb}
+use borrow.Author.Tests.{le-leb}
 use Rattle.meaning.specs.Octets.{place, put, cut}
 use Rattle.meaning.specs.Lists.{picked, place-finds, same-eq}
-use Rattle.meaning.specs.Card.{Route, Tree, Use, free, mapped, labelCount, fresh, withRoutes, withTrees, withLabels, bare, treeAt, isFor, routePlace}
-use Rattle.meaning.specs.Events.{baseOutside, setUse}
+use Rattle.meaning.specs.Card.{Route, Tree, Use, free, mapped, labelCount, fresh, withRoutes, withTrees, withLabels, withLabel, bare, treeAt, isFor, routePlace}
+use Rattle.meaning.specs.Events.{baseOutside, setUse, setLabel}
 use Rattle.octets.specs.Part.{mid, tab}
 use Rattle.octets.proofs.Tab.{tab-length, tab-get, tab-ext, tab-set, tab-snoc, tab-cut, put-in, put-end}
-use Rattle.table.specs.Memory.{upTo, textAt, nameLimit, treeName, labelName, rootName, baseIn, nextIn, routeCount, treeCount, routeIn, ownLabel, treeIn, useIn, labelIn, cardOf}
-use Rattle.table.proofs.Memory.{upTo-le, upTo-in, Agree, base-same, next-same, route-same, routes-same, tree-same, trees-same, label-same, labels-same, agree-refl, agree-set, tree-at}
-use Rattle.rows.specs.Parts.{Written, Closed}
+use Rattle.table.specs.Memory.{upTo, textAt, nameLimit, treeName, labelName, rootName, baseIn, nextIn, routeCount, treeCount, routeIn, markAt, markUse, isFreeAt, labelIn, ownPlace, ownLabel, treeIn, cardOf}
+use Rattle.table.proofs.Memory.{upTo-le, upTo-in, treeCount-le, Agree, base-same, next-same, route-same, routes-same, own-same, own-kept, tree-with, tree-same, trees-same, label-same, labels-same, agree-refl, agree-set, tree-at}
+use Rattle.table.proofs.Marks.{free-at, mapped-at, unmapped-free, label-free, label-mapped, carried-in, not-far, not-mapped, not-named, own-some, own-none, own-beside}
+use Rattle.rows.specs.Parts.{Written, Closed, Lowered}
 use Rattle.rows.proofs.Parts.{written, Carries, lower, text-carried, text-put}
 
 -- ---- the rest of the card
 
 module _ (ns ns' os os' : List ℕ) where
-  -- the memory of all but the trees is as it was
-  but-trees : (ts : List Tree) → Agree 0 3 ns ns' → Agree 4 32 ns ns' → Agree 1188 256 ns ns' → Agree 3520 14624 os os' → tab (treeCount ns') (treeIn ns' os') ≡ ts → cardOf ns' os' ≡ withTrees ts (cardOf ns os)
-  unfolding cardOf withTrees
-  but-trees ts head vias marks names trees =
+  -- the memory of all but the trees and the labels is as it was
+  but-rows : (ts : List Tree) (ls : List Use) → Agree 0 3 ns ns' → Agree 4 32 ns ns' → Agree 17600 544 os os' → tab (treeCount ns') (treeIn ns' os') ≡ ts → tab labelCount (labelIn ns' os') ≡ ls → cardOf ns' os' ≡ withTrees ts (withLabels ls (cardOf ns os))
+  unfolding cardOf withTrees withLabels
+  but-rows ts ls head vias roots trees labels =
       let b : baseIn ns' ≡ baseIn ns = base-same ns ns' os os' (λ j x y. head j (omega arith) (omega arith)) in
       let n : nextIn ns' ≡ nextIn ns = next-same ns ns' os os' (λ j x y. head j (omega arith) (omega arith)) in
-      let r : tab (routeCount ns') (routeIn ns' os') ≡ tab (routeCount ns) (routeIn ns os) = routes-same ns ns' os os' (λ j x y. head j (omega arith) (omega arith)) vias (λ j x y. names j (omega arith) (omega arith)) in
-      let l : tab labelCount (labelIn ns' os') ≡ tab labelCount (labelIn ns os) = labels-same ns ns' os os' marks (λ j x y. names j (omega arith) (omega arith)) in
+      let r : tab (routeCount ns') (routeIn ns' os') ≡ tab (routeCount ns) (routeIn ns os) = routes-same ns ns' os os' (λ j x y. head j (omega arith) (omega arith)) vias roots in
       cc
+
+  -- of all but the trees
+  but-trees : (ts : List Tree) → Agree 0 3 ns ns' → Agree 4 32 ns ns' → Agree 17600 544 os os' → ((p : ℕ) → p < 256 → labelIn ns' os' p ≡ labelIn ns os p) → tab (treeCount ns') (treeIn ns' os') ≡ ts → cardOf ns' os' ≡ withTrees ts (cardOf ns os)
+  but-trees ts head vias roots labels trees =
+      but-rows ts (tab labelCount (labelIn ns os)) head vias roots trees (tab-ext labelCount (labelIn ns' os') (labelIn ns os) labels) ∙ unfold cardOf withTrees withLabels in refl
 
   -- and of all but the routes
   but-routes : (rs : List Route) → Agree 0 2 ns ns' → Agree 3 1 ns ns' → Agree 36 1408 ns ns' → Agree 0 17600 os os' → tab (routeCount ns') (routeIn ns' os') ≡ rs → cardOf ns' os' ≡ withRoutes rs (cardOf ns os)
@@ -38,18 +43,8 @@ module _ (ns ns' os os' : List ℕ) where
   but-routes rs head count rows names routes =
       let b : baseIn ns' ≡ baseIn ns = base-same ns ns' os os' (λ j x y. head j (omega arith) (omega arith)) in
       let n : nextIn ns' ≡ nextIn ns = next-same ns ns' os os' (λ j x y. head j (omega arith) (omega arith)) in
-      let t : tab (treeCount ns') (treeIn ns' os') ≡ tab (treeCount ns) (treeIn ns os) = trees-same ns ns' os os' (λ j x y. head j (omega arith) (omega arith)) count (λ j x y. rows j (omega arith) (omega arith)) (λ j x y. rows j (omega arith) (omega arith)) (λ j x y. names j (omega arith) (omega arith)) in
+      let t : tab (treeCount ns') (treeIn ns' os') ≡ tab (treeCount ns) (treeIn ns os) = trees-same ns ns' os os' (λ j x y. head j (omega arith) (omega arith)) count (λ j x y. rows j (omega arith) (omega arith)) (λ j x y. rows j (omega arith) (omega arith)) (λ j x y. rows j (omega arith) (omega arith)) (λ j x y. names j (omega arith) (omega arith)) in
       let l : tab labelCount (labelIn ns' os') ≡ tab labelCount (labelIn ns os) = labels-same ns ns' os os' (λ j x y. rows j (omega arith) (omega arith)) (λ j x y. names j (omega arith) (omega arith)) in
-      cc
-
-  -- and of all but the labels
-  but-labels : (ls : List Use) → Agree 0 1188 ns ns' → Agree 0 3520 os os' → Agree 17600 544 os os' → tab labelCount (labelIn ns' os') ≡ ls → cardOf ns' os' ≡ withLabels ls (cardOf ns os)
-  unfolding cardOf withLabels
-  but-labels ls rows names roots labels =
-      let b : baseIn ns' ≡ baseIn ns = base-same ns ns' os os' (λ j x y. rows j (omega arith) (omega arith)) in
-      let n : nextIn ns' ≡ nextIn ns = next-same ns ns' os os' (λ j x y. rows j (omega arith) (omega arith)) in
-      let r : tab (routeCount ns') (routeIn ns' os') ≡ tab (routeCount ns) (routeIn ns os) = routes-same ns ns' os os' (λ j x y. rows j (omega arith) (omega arith)) (λ j x y. rows j (omega arith) (omega arith)) roots in
-      let t : tab (treeCount ns') (treeIn ns' os') ≡ tab (treeCount ns) (treeIn ns os) = trees-same ns ns' os os' (λ j x y. rows j (omega arith) (omega arith)) (λ j x y. rows j (omega arith) (omega arith)) (λ j x y. rows j (omega arith) (omega arith)) (λ j x y. rows j (omega arith) (omega arith)) names in
       cc
 
   -- ---- rows that stand at another place
@@ -61,17 +56,15 @@ module _ (ns ns' os os' : List ℕ) where
       let root : textAt 16 os' (17600 + j * 17) ≡ textAt 16 os (17600 + i * 17) = text-carried 16 (17600 + i * 17) (17600 + j * 17) os os' r in
       cc
 
-  tree-carried : (i j : ℕ) → Agree 0 1 ns ns' → Carries (36 + i) (36 + j) 1 ns ns' → Carries (100 + i * 17) (100 + j * 17) 17 ns ns' → Carries (i * 55) (j * 55) 55 os os' → treeIn ns' os' j ≡ treeIn ns os i
+  tree-carried : (i j : ℕ) → ownLabel ns' j (ownPlace ns' j) ≡ ownLabel ns i (ownPlace ns i) → Carries (100 + i * 17) (100 + j * 17) 17 ns ns' → Carries (i * 55) (j * 55) 55 os os' → treeIn ns' os' j ≡ treeIn ns os i
   unfolding treeIn treeName
-  tree-carried i j b l r n =
+  tree-carried i j l r n =
       let name : textAt nameLimit os' (j * 55) ≡ textAt nameLimit os (i * 55) = text-carried nameLimit (i * 55) (j * 55) os os' n in
       let branches : tab 16 (λ k. getD ns' (101 + j * 17 + k) 0) ≡ tab 16 (λ k. getD ns (101 + i * 17 + k) 0) =
       tab-ext 16 _ _ (λ k lt.
       let x : 101 + j * 17 + k ≡ 100 + j * 17 + (1 + k) = omega arith in
       let y : 100 + i * 17 + (1 + k) ≡ 101 + i * 17 + k = omega arith in
       ap (λ (m : ℕ). getD ns' m 0) x ∙ r (1 + k) (omega arith) ∙ ap (λ (m : ℕ). getD ns m 0) y) in
-      let base : baseIn ns' ≡ baseIn ns = base-same ns ns' os os' b in
-      let label : getD ns' (36 + j) 0 ≡ getD ns (36 + i) 0 = simp add-zero at (l 0 (omega arith)) in
       let leaf : getD ns' (100 + j * 17) 0 ≡ getD ns (100 + i * 17) 0 = simp add-zero at (r 0 (omega arith)) in
       cc
 
@@ -91,10 +84,6 @@ base-in : (ns : List ℕ) (b : ℕ) → getD ns 0 0 ≡ b → 16 ≤ b → b ≤
 unfolding baseIn baseOutside
 base-in ns b e l h = rw (e, le-leb 16 b l, le-leb b 1048320 h) refl
 
-free-label : (ns os : List ℕ) (p : ℕ) → getD ns (1188 + p) 0 ≡ 0 → labelIn ns os p ≡ free
-unfolding labelIn useIn
-free-label ns os p e = rw e refl
-
 no-rows : (ns os : List ℕ) → getD ns 2 0 ≡ 0 → getD ns 3 0 ≡ 0 → (tab (routeCount ns) (routeIn ns os) ≡ []) × (tab (treeCount ns) (treeIn ns os) ≡ [])
 unfolding tab routeCount treeCount upTo
 no-rows ns os r t = (rw r refl, rw t refl)
@@ -108,7 +97,7 @@ start-fresh ns zs os base h lo hi e =
     let none = no-rows ms os (rest 2 (omega arith)) (rest 3 (omega arith)) in
     let r : tab (routeCount ms) (routeIn ms os) ≡ [] = none .0 in
     let t : tab (treeCount ms) (treeIn ms os) ≡ [] = none .1 in
-    let l : tab labelCount (labelIn ms os) ≡ replicate labelCount free = tab-replicate labelCount (labelIn ms os) free (λ p lt. free-label ms os p (rest (1188 + p) (omega arith))) in
+    let l : tab labelCount (labelIn ms os) ≡ replicate labelCount free = tab-replicate labelCount (labelIn ms os) free (λ p lt. label-free ms p os (free-at ms p (ap markUse (rest (1188 + p) (omega arith))))) in
     cc
   where
     ms : List ℕ
@@ -119,35 +108,53 @@ start-fresh ns zs os base h lo hi e =
 
 -- ---- a label mapped
 
-use-mapped : (n : ℕ) (a : List ℕ) → n < 16 → useIn (n + 1) a ≡ mapped n a
-unfolding useIn
-use-mapped n a h =
-    let back : n + 1 - 1 ≡ n = omega arith in
-    rw (ne-eqb (n + 1) 0 (λ e. omega arith), le-leb (n + 1) 16 (omega arith), back) refl
-
 -- where the slot of the tree's name was copied, the label remembers the name
-remembered : (ns os ms qs : List ℕ) (p i n : ℕ) → n < 16 → i < treeCount ns → getD ms (1188 + p) 0 ≡ n + 1 → Carries (i * 55) (3520 + p * 55) 55 os qs → labelIn ms qs p ≡ mapped n (treeAt i (cardOf ns os) .name)
-unfolding labelIn labelName treeIn treeName
+remembered : (ns os ms qs : List ℕ) (p i n : ℕ) → n < 16 → i < treeCount ns → markUse (markAt ms p) ≡ n + 1 → Carries (i * 55) (3520 + p * 55) 55 os qs → labelIn ms qs p ≡ mapped n (treeAt i (cardOf ns os) .name)
+unfolding labelName treeIn treeName
 remembered ns os ms qs p i n hn hi e h =
-    rw (e, text-carried nameLimit (i * 55) (3520 + p * 55) os qs h, tree-at ns os i hi) (use-mapped n _ hn)
+    let back : markUse (markAt ms p) - 1 ≡ n = omega arith in
+    rw (label-mapped ms p qs (omega arith) (omega arith), back, text-carried nameLimit (i * 55) (3520 + p * 55) os qs h, tree-at ns os i hi) refl
 
-pub map-label : (ns os qs : List ℕ) (p i n : ℕ) → length ns ≡ 1444 → length os ≡ 18144 → p < 256 → i < treeCount ns → i < 64 → n < 16
-    → qs ≡ mid (3520 + p * 55) 55 os (take 55 (drop (i * 55) os))
-    → cardOf (set ns (1188 + p) (n + 1)) qs ≡ setUse (baseIn ns + p) (mapped n (treeAt i (cardOf ns os) .name)) (cardOf ns os)
-unfolding cardOf setUse
-map-label ns os qs p i n hl ho hp hi h64 hn hq =
+both-set : (ns os : List ℕ) (p i l : ℕ) (u : Use) → withTrees (set (cardOf ns os .trees) i (withLabel l (treeAt i (cardOf ns os)))) (withLabels (set (cardOf ns os .labels) p u) (cardOf ns os)) ≡ setLabel i l (setUse (baseIn ns + p) u (cardOf ns os))
+unfolding setLabel setUse withTrees withLabels treeAt cardOf
+both-set ns os p i l u =
     let back : baseIn ns + p - baseIn ns ≡ p = omega arith in
-    rw back
-    (but-labels ns ms os qs _
-    (agree-set 0 1188 ns (1188 + p) (n + 1) (λ u v. omega arith))
-    (λ j x y. w .rest j (λ u v. omega arith))
+    rw back refl
+
+pub map-label : (ns os qs : List ℕ) (p i n : ℕ) → length ns ≡ 1444 → length os ≡ 18144 → p < 256 → i < treeCount ns → i < 64 → n < 16 → isFreeAt ns p ≡ true
+    → qs ≡ mid (3520 + p * 55) 55 os (take 55 (drop (i * 55) os))
+    → cardOf (set (set ns (1188 + p) (n + 1 + 256 * i)) (36 + i) p) qs ≡ setLabel i (baseIn ns + p) (setUse (baseIn ns + p) (mapped n (treeAt i (cardOf ns os) .name)) (cardOf ns os))
+map-label ns os qs p i n hl ho hp hi h64 hn hf hq =
+    but-rows ns ms os qs (set (cardOf ns os .trees) i (withLabel (baseIn ns + p) (treeAt i (cardOf ns os)))) (set (cardOf ns os .labels) p (mapped n (treeAt i (cardOf ns os) .name)))
+    (λ j x y. keep j (λ e. omega arith) (λ e. omega arith))
+    (λ j x y. keep j (λ e. omega arith) (λ e. omega arith))
     (λ j x y. w .rest j (λ u v. omega (arith, part)))
-    (tab-set 256 (labelIn ns os) (labelIn ms qs) p _ hp
-    (remembered ns os ms qs p i n hn hi (getD-set-same ns (1188 + p) (n + 1) 0 (omega arith)) copied)
-    (λ q ne lt. label-same ns ms os qs q (agree-set (1188 + q) 1 ns (1188 + p) (n + 1) (λ u v. ne (omega arith))) (λ j x y. w .rest j (λ u v. ne (omega (arith, part)))))))
+    (unfold cardOf treeCount in rw count (tab-set (treeCount ns) (treeIn ns os) (treeIn ms qs) i _ hi this other))
+    (unfold cardOf in tab-set 256 (labelIn ns os) (labelIn ms qs) p _ hp
+    (remembered ns os ms qs p i n hn hi (omega (arith, now)) copied)
+    (λ q ne lt. label-same ns ms os qs q (λ j x y. keep j (λ e. ne (omega arith)) (λ e. omega arith)) (λ j x y. w .rest j (λ u v. ne (omega (arith, part))))))
+    ∙ both-set ns os p i (baseIn ns + p) (mapped n (treeAt i (cardOf ns os) .name))
   where
+    v : ℕ
+    v = n + 1 + 256 * i
+
+    ks : List ℕ
+    ks = set ns (1188 + p) v
+
     ms : List ℕ
-    ms = set ns (1188 + p) (n + 1)
+    ms = set ks (36 + i) p
+
+    keep : (j : ℕ) → (j ≡ 1188 + p → ⊥) → (j ≡ 36 + i → ⊥) → getD ms j 0 ≡ getD ns j 0
+    keep j ne me = getD-set-other ks (36 + i) j p 0 me ∙ getD-set-other ns (1188 + p) j v 0 ne
+
+    count : getD ms 3 0 ≡ getD ns 3 0
+    count = keep 3 (λ e. omega arith) (λ e. omega arith)
+
+    now : markAt ms p ≡ v
+    now = getD-set-other ks (36 + i) (1188 + p) p 0 (λ e. omega arith) ∙ getD-set-same ns (1188 + p) v 0 (omega arith)
+
+    own : ownPlace ms i ≡ p
+    own = getD-set-same ks (36 + i) p 0 (rw length-set (omega arith))
 
     slot : List ℕ
     slot = take 55 (drop (i * 55) os)
@@ -160,6 +167,33 @@ map-label ns os qs p i n hl ho hp hi h64 hn hq =
 
     copied : Carries (i * 55) (3520 + p * 55) 55 os qs
     copied j lt = w .here j (omega (arith, part)) ∙ getD-take 55 (drop (i * 55) os) j 0 lt ∙ getD-drop (i * 55) os j 0
+
+    base : baseIn ms ≡ baseIn ns
+    base = base-same ns ms os qs (λ j x y. keep j (λ e. omega arith) (λ e. omega arith))
+
+    -- the tree carries the label, since its mark names the tree
+    carried : ownLabel ms i (ownPlace ms i) ≡ baseIn ns + p
+    carried = rw (own, own-some ms i p (carried-in ms i p hp (mapped-at ms p (omega (arith, now)) (omega (arith, now))) (omega (arith, now)))) (ap (λ (b : ℕ). b + p) base)
+
+    this : treeIn ms qs i ≡ withLabel (baseIn ns + p) (treeAt i (cardOf ns os))
+    this =
+        rw (tree-at ns os i hi)
+        (tree-with ns ms os qs i (baseIn ns + p) carried
+        (λ j x y. keep j (λ e. omega arith) (λ e. omega arith))
+        (λ j x y. w .rest j (λ u v. omega arith)))
+
+    -- no other tree does: it did not before, since the label was free
+    others : (j q : ℕ) → (j ≡ i → ⊥) → ownLabel ks j q ≡ ownLabel ns j q
+    others j q ne = own-beside ns p v j q (λ e. rw e (not-mapped ns j p (unmapped-free ns p hf), not-named ks j p (λ z. ne (sym z ∙ omega (arith, getD-set-same ns (1188 + p) v 0 (omega arith))))))
+
+    other : (j : ℕ) → (j ≡ i → ⊥) → j < treeCount ns → treeIn ms qs j ≡ treeIn ns os j
+    other j ne lt =
+        let j64 : j < 64 = omega (arith, treeCount-le ns) in
+        let o : ownPlace ms j ≡ ownPlace ns j = keep (36 + j) (λ e. omega arith) (λ e. ne (omega arith)) in
+        tree-same ns ms os qs j
+        (rw o (own-same ks ms os os j (ownPlace ns j) (agree-set 0 1 ks (36 + i) p (λ x y. omega arith)) (λ h. getD-set-other ks (36 + i) (1188 + ownPlace ns j) p 0 (λ e. omega arith)) ∙ others j (ownPlace ns j) ne))
+        (λ k x y. keep k (λ e. omega arith) (λ e. omega arith))
+        (λ k x y. w .rest k (λ u v. omega arith))
 
 -- ---- a row goes
 
@@ -191,16 +225,16 @@ remove-route ns vs os qs i n hl hn hi cv cr =
     keep : (j : ℕ) → (j ≡ 2 → ⊥) → (4 + i ≤ j → j < 4 + n → ⊥) → getD ms j 0 ≡ getD ns j 0
     keep j ne out = getD-set-other vs 2 j (n - 1) 0 ne ∙ cv .rest j out
 
-pub remove-tree : (ns ls rs os qs : List ℕ) (i n : ℕ) → length ns ≡ 1444 → n ≡ treeCount ns → i < n
-    → Closed (36 + i) (36 + n) 1 ns ls → Closed (100 + i * 17) (100 + n * 17) 17 ls rs → Closed (i * 55) (n * 55) 55 os qs
+pub remove-tree : (ns ks ls rs os qs : List ℕ) (i n : ℕ) → length ns ≡ 1444 → n ≡ treeCount ns → i < n → Lowered i (n - 1) ns ks
+    → Closed (36 + i) (36 + n) 1 ks ls → Closed (100 + i * 17) (100 + n * 17) 17 ls rs → Closed (i * 55) (n * 55) 55 os qs
     → cardOf (set rs 3 (n - 1)) qs ≡ withTrees (cut (cardOf ns os .trees) i) (cardOf ns os)
 unfolding treeCount cardOf
-remove-tree ns ls rs os qs i n hl hn hi cl cr cn =
+remove-tree ns ks ls rs os qs i n hl hn hi lo cl cr cn =
     but-trees ns ms os qs _
-    (λ j x y. keep j (λ e. omega arith) (λ u v. omega arith) (λ u v. omega arith))
-    (λ j x y. keep j (λ e. omega arith) (λ u v. omega arith) (λ u v. omega arith))
-    (λ j x y. keep j (λ e. omega arith) (λ u v. omega (arith, limit)) (λ u v. omega (arith, limit)))
+    (λ j x y. keep j (λ e. omega arith) (λ u v. omega arith) (λ u v. omega arith) (λ u v. omega arith))
+    (λ j x y. keep j (λ e. omega arith) (λ u v. omega arith) (λ u v. omega arith) (λ u v. omega arith))
     (λ j x y. cn .rest j (λ u v. omega (arith, limit)))
+    (λ p h. label-same ks ms os qs p (λ j x y. behind j (omega arith)) (λ j x y. cn .rest j (λ u v. omega (arith, limit))) ∙ lo .uses os p h)
     (rw (count, ← hn) (tab-cut n i (treeIn ns os) (treeIn ms qs) (bare []) hi low high))
   where
     ms : List ℕ
@@ -210,35 +244,49 @@ remove-tree ns ls rs os qs i n hl hn hi cl cr cn =
     limit = omega (arith, upTo-le 64 (getD ns 3 0))
 
     count : upTo 64 (getD ms 3 0) ≡ n - 1
-    count = ap (upTo 64) (getD-set-same rs 3 (n - 1) 0 (omega (arith, cl .long, cr .long))) ∙ upTo-in 64 (n - 1) (omega (arith, limit))
+    count = ap (upTo 64) (getD-set-same rs 3 (n - 1) 0 (omega (arith, lo .long, cl .long, cr .long))) ∙ upTo-in 64 (n - 1) (omega (arith, limit))
 
-    keep : (j : ℕ) → (j ≡ 3 → ⊥) → (36 + i ≤ j → j < 36 + n → ⊥) → (100 + i * 17 ≤ j → j < 100 + n * 17 → ⊥) → getD ms j 0 ≡ getD ns j 0
-    keep j ne out off = getD-set-other rs 3 j (n - 1) 0 ne ∙ cr .rest j off ∙ cl .rest j out
+    -- outside the gaps and the count: what was made ready
+    ready : (j : ℕ) → (j ≡ 3 → ⊥) → (36 + i ≤ j → j < 36 + n → ⊥) → (100 + i * 17 ≤ j → j < 100 + n * 17 → ⊥) → getD ms j 0 ≡ getD ks j 0
+    ready j ne out off = getD-set-other rs 3 j (n - 1) 0 ne ∙ cr .rest j off ∙ cl .rest j out
+
+    behind : (j : ℕ) → 1188 ≤ j → getD ms j 0 ≡ getD ks j 0
+    behind j h = ready j (λ e. omega arith) (λ u v. omega (arith, limit)) (λ u v. omega (arith, limit))
+
+    keep : (j : ℕ) → (j ≡ 3 → ⊥) → (36 ≤ j → j < 100 → ⊥) → (1188 ≤ j → j < 1444 → ⊥) → (100 + i * 17 ≤ j → j < 100 + n * 17 → ⊥) → getD ms j 0 ≡ getD ns j 0
+    keep j ne own mark off = ready j ne (λ u v. own (omega arith) (omega (arith, limit))) off ∙ lo .rest j own mark
+
+    -- the label that a tree carries, by the place that it has for its own
+    carried : (j p : ℕ) → ownLabel ms j p ≡ ownLabel ks j p
+    carried j p = own-same ks ms os os j p (λ k x y. ready k (λ e. omega arith) (λ u v. omega arith) (λ u v. omega arith)) (λ h. behind (1188 + p) (omega arith))
 
     low : (j : ℕ) → j < i → treeIn ms qs j ≡ treeIn ns os j
     low j lt =
+        let o : ownPlace ms j ≡ ownPlace ks j = ready (36 + j) (λ e. omega arith) (λ u v. omega arith) (λ u v. omega (arith, limit)) in
         tree-same ns ms os qs j
-        (λ k x y. keep k (λ e. omega arith) (λ u v. omega arith) (λ u v. omega arith))
-        (λ k x y. keep k (λ e. omega arith) (λ u v. omega arith) (λ u v. omega (arith, limit)))
-        (λ k x y. keep k (λ e. omega arith) (λ u v. omega (arith, limit)) (λ u v. omega arith))
+        (rw o (carried j (ownPlace ks j) ∙ lo .before j lt (omega (arith, limit))))
+        (λ k x y. keep k (λ e. omega arith) (λ u v. omega arith) (λ u v. omega (arith, limit)) (λ u v. omega arith))
         (λ k x y. cn .rest k (λ u v. omega arith))
 
     high : (j : ℕ) → i ≤ j → j + 1 < n → treeIn ms qs j ≡ treeIn ns os (j + 1)
     high j le lt =
+        let o : ownPlace ms j ≡ ownPlace ks (j + 1) =
+        getD-set-other rs 3 (36 + j) (n - 1) 0 (λ e. omega arith) ∙ cr .rest (36 + j) (λ u v. omega (arith, limit))
+        ∙ cl .down (36 + j) (omega arith) (omega arith) ∙ ap (λ (k : ℕ). getD ks k 0) (let e : 36 + j + 1 ≡ 36 + (j + 1) = omega arith in e) in
         tree-carried ns ms os qs (j + 1) j
-        (λ k x y. keep k (λ e. omega arith) (λ u v. omega arith) (λ u v. omega arith))
-        (λ k h. getD-set-other rs 3 (36 + j + k) (n - 1) 0 (λ e. omega arith) ∙ cr .rest (36 + j + k) (λ u v. omega (arith, limit))
-        ∙ lower (36 + i) (36 + n) 1 (36 + (j + 1)) (36 + j) 1 ns ls cl (omega arith) (omega arith) (omega arith) k h)
+        (rw o (carried j (ownPlace ks (j + 1)) ∙ lo .moved j le (omega arith)))
         (λ k h. getD-set-other rs 3 (100 + j * 17 + k) (n - 1) 0 (λ e. omega arith)
         ∙ lower (100 + i * 17) (100 + n * 17) 17 (100 + (j + 1) * 17) (100 + j * 17) 17 ls rs cr (omega arith) (omega arith) (omega arith) k h
-        ∙ cl .rest (100 + (j + 1) * 17 + k) (λ u v. omega (arith, limit)))
+        ∙ cl .rest (100 + (j + 1) * 17 + k) (λ u v. omega (arith, limit))
+        ∙ lo .rest (100 + (j + 1) * 17 + k) (λ u v. omega arith) (λ u v. omega (arith, limit)))
         (lower (i * 55) (n * 55) 55 ((j + 1) * 55) (j * 55) 55 os qs cn (omega arith) (omega arith) (omega arith))
 
 -- ---- a row comes
 
 new-tree : (ns os qs o : List ℕ) (n : ℕ) → length o ≤ 54 → getD ns (36 + n) 0 ≡ 256 → ((j : ℕ) → j < 17 → getD ns (100 + n * 17 + j) 0 ≡ 0) → Written (n * 55) (length o ∷ o) os qs → treeIn ns qs n ≡ bare o
-unfolding treeIn treeName ownLabel bare
+unfolding treeIn treeName bare
 new-tree ns os qs o n h l r w =
+    let label : ownLabel ns n (getD ns (36 + n) 0) ≡ 0 = own-none ns n (getD ns (36 + n) 0) (not-far ns n (getD ns (36 + n) 0) (omega arith)) in
     let name : textAt nameLimit qs (n * 55) ≡ o = text-put nameLimit (n * 55) o os qs h w in
     let branches : tab 16 (λ k. getD ns (101 + n * 17 + k) 0) ≡ replicate 16 0 =
     tab-replicate 16 _ 0 (λ k lt. let x : 101 + n * 17 + k ≡ 100 + n * 17 + (1 + k) = omega arith in ap (λ (m : ℕ). getD ns m 0) x ∙ r (1 + k) (omega arith)) in
@@ -253,8 +301,8 @@ enter-tree ns zs os qs o n hl hn h64 ho wr wn =
     but-trees ns ms os qs _
     (λ j x y. keep j (λ e. omega arith) (λ e. omega arith) (λ u v. omega arith))
     (λ j x y. keep j (λ e. omega arith) (λ e. omega arith) (λ u v. omega arith))
-    (λ j x y. keep j (λ e. omega arith) (λ e. omega arith) (λ u v. omega arith))
     (λ j x y. wn .rest j (λ u v. omega arith))
+    (λ p h. label-same ns ms os qs p (λ j x y. keep j (λ e. omega arith) (λ e. omega arith) (λ u v. omega arith)) (λ j x y. wn .rest j (λ u v. omega arith)))
     (rw (count, ← hn) (tab-snoc n (treeIn ns os) (treeIn ms qs) (bare o) low new))
   where
     ms : List ℕ
@@ -269,8 +317,10 @@ enter-tree ns zs os qs o n hl hn h64 ho wr wn =
     low : (j : ℕ) → j < n → treeIn ms qs j ≡ treeIn ns os j
     low j lt =
         tree-same ns ms os qs j
+        (own-kept ns ms os os j
         (λ k x y. keep k (λ e. omega arith) (λ e. omega arith) (λ u v. omega arith))
         (λ k x y. keep k (λ e. omega arith) (λ e. omega arith) (λ u v. omega arith))
+        (λ k x y. keep k (λ e. omega arith) (λ e. omega arith) (λ u v. omega arith)))
         (λ k x y. keep k (λ e. omega arith) (λ e. omega arith) (λ u v. omega arith))
         (λ k x y. wn .rest k (λ u v. omega arith))
 

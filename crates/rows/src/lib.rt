@@ -1,13 +1,14 @@
 // Trees and routes that come and go in the card's memory, the labels' remembered names, and the fresh card.
 ghost use mathlib.Core.Path.{_≡_};
+ghost use mathlib.Core.Bool.{true};
 ghost use mathlib.Core.List.{List, [], _∷_, _++_};
-ghost use Prim.Native.Nat.{ℕ, _+_, _≤_, _<_};
+ghost use Prim.Native.Nat.{ℕ, _+_, _-_, _≤_, _<_};
 ghost use lib.ListN.{length, replicate};
 ghost use Rattle.meaning.specs.Octets.{put, cut};
 ghost use Rattle.meaning.specs.Card.{Card, fresh, withTrees, withRoutes, bare, treeAt, mapped, routePlace};
-ghost use Rattle.meaning.specs.Events.{setUse};
-ghost use Rattle.table.specs.Memory.{cardOf, baseIn, treeCount, routeCount};
-ghost use Rattle.rows.specs.Parts.{Written, Closed};
+ghost use Rattle.meaning.specs.Events.{setUse, setLabel};
+ghost use Rattle.table.specs.Memory.{cardOf, baseIn, treeCount, routeCount, isFreeAt};
+ghost use Rattle.rows.specs.Parts.{Written, Closed, Lowered, LoweredOne};
 
 fn tree_count(numbers: &[u64]) -> usize
     requires { ⌜ length (now numbers) ≡ 1444 ⌝ }
@@ -75,6 +76,33 @@ pub fn enter_tree(numbers: &mut [u64], names: &mut [u8], name: &[u8])
     numbers[3] = (n + 1) as u64;
 }
 
+// The tree at place j + 1 is to stand at place j: the mark of its label names that place. Where it does not carry the label that
+// it has for its own it has none from now on, so that it cannot come to carry that one.
+fn lower_one(numbers: &mut [u64], j: usize)
+    requires { ⌜ (length (now numbers) ≡ 1444) × (j + 1 < 64) ⌝ }
+    ensures { λ _. ⌜ LoweredOne j (now (numbers .entry)) (now (numbers .exit)) ⌝ }
+{
+    let t = j + 1;
+    if table::carries_own(numbers, t) {
+        let k = 1188 + numbers[36 + t] as usize;
+        numbers[k] = numbers[k] - 256;
+        return;
+    }
+    numbers[36 + t] = 256;
+}
+
+// Each of the n trees that stands behind place i is to stand one place lower.
+fn lower_behind(numbers: &mut [u64], i: usize, n: usize)
+    requires { ⌜ (length (now numbers) ≡ 1444) × (i < n) × (n ≤ 64) ⌝ }
+    ensures { λ _. ⌜ Lowered i (n - 1) (now (numbers .entry)) (now (numbers .exit)) ⌝ }
+{
+    let mut j = i;
+    while j + 1 < n {
+        lower_one(numbers, j);
+        j += 1;
+    }
+}
+
 // A tree goes, and the gap is closed.
 pub fn remove_tree(numbers: &mut [u64], names: &mut [u8], i: usize)
     requires { ⌜ (length (now numbers) ≡ 1444) × (length (now names) ≡ 18144) × (i < treeCount (now numbers)) × (i < 64) ⌝ }
@@ -82,20 +110,22 @@ pub fn remove_tree(numbers: &mut [u64], names: &mut [u8], i: usize)
         ≡ withTrees (cut (cardOf (now (numbers .entry)) (now (names .entry)) .trees) i) (cardOf (now (numbers .entry)) (now (names .entry))) ⌝ }
 {
     let n = tree_count(numbers);
+    lower_behind(numbers, i, n);
     close_numbers(numbers, 36 + i, 36 + n, 1);
     close_numbers(numbers, 100 + i * 17, 100 + n * 17, 17);
     close_octets(names, i * 55, n * 55, 55);
     numbers[3] = (n - 1) as u64;
 }
 
-// The label at place p of the block is mapped to neighbour n, for the tree at place i.
+// The label at place p of the block, which is free, is mapped to neighbour n for the tree at place i, which carries it from now on.
 pub fn map_label(numbers: &mut [u64], names: &mut [u8], p: usize, i: usize, n: u64)
-    requires { ⌜ (length (now numbers) ≡ 1444) × (length (now names) ≡ 18144) × (p < 256) × (i < treeCount (now numbers)) × (i < 64) × (n < 16) ⌝ }
+    requires { ⌜ (length (now numbers) ≡ 1444) × (length (now names) ≡ 18144) × (p < 256) × (i < treeCount (now numbers)) × (i < 64) × (n < 16) × (isFreeAt (now numbers) p ≡ true) ⌝ }
     ensures { λ _. ⌜ cardOf (now (numbers .exit)) (now (names .exit))
-        ≡ setUse (baseIn (now (numbers .entry)) + p) (mapped n (treeAt i (cardOf (now (numbers .entry)) (now (names .entry))) .name)) (cardOf (now (numbers .entry)) (now (names .entry))) ⌝ }
+        ≡ setLabel i (baseIn (now (numbers .entry)) + p) (setUse (baseIn (now (numbers .entry)) + p) (mapped n (treeAt i (cardOf (now (numbers .entry)) (now (names .entry))) .name)) (cardOf (now (numbers .entry)) (now (names .entry)))) ⌝ }
 {
     octets::copy_within(names, i * 55, 3520 + p * 55, 55);
-    numbers[1188 + p] = n + 1;
+    numbers[1188 + p] = n + 1 + 256 * i as u64;
+    numbers[36 + i] = p as u64;
 }
 
 // ---- routes

@@ -7,20 +7,18 @@ use mathlib.Core.Path.{_≡_, refl, sym, ap, _∙_}
 use mathlib.Core.Bool.{Bool, true, false, not}
 use mathlib.Core.List.{List}
 use lib.ListN.{length, take, drop, getD, set, length-set, drop-of-length-le}
-use lib.Seq.{getD-set-same, getD-set-other, set-getD, drop-cons}
-use lib.Dec.{eqb, leb, ltb}
-use borrow.Author.Tests.{lt-ltb, le-ltb, le-leb, lt-leb, leb-true, leb-false, eq-eqb, ne-eqb}
+use lib.Seq.{getD-set-same, getD-set-other, drop-cons}
+use lib.Dec.{eqb, leb}
+use borrow.Author.Tests.{lt-ltb, le-leb, lt-leb, leb-true, leb-false, eq-eqb, ne-eqb}
 use Rattle.meaning.specs.Octets.{any, place, count, same}
 use Rattle.meaning.specs.Lists.{by-test, getD-out}
-use Rattle.meaning.specs.Card.{Route, Tree, Use, withNext, withTrees, withBranch, withLeaf, withLabel, treeAt, isBranch, named, treePlace, free, withLabels, isFree, isAwaiting, mappedTo, useOf, freeLabels, carries, isFor, routePlace, routeOf}
+use Rattle.meaning.specs.Card.{Route, Tree, Use, withNext, withTrees, withBranch, withLeaf, withLabel, treeAt, isBranch, named, treePlace, free, withLabels, isFree, isAwaiting, mappedTo, useOf, heldFor, freeLabels, carries, isFor, routePlace, routeOf}
 use Rattle.meaning.specs.Events.{baseOutside, setLabel, setUse, ended}
 use Rattle.octets.specs.Part.{tab}
-use Rattle.octets.proofs.Tab.{tab-length, tab-get, tab-ext, tab-set}
-use Rattle.table.specs.Memory.{upTo, textAt, treeName, baseIn, nextIn, routeCount, treeCount, routeIn, ownLabel, treeIn, useIn, labelIn, labelName, rootName, cardOf}
-use Rattle.table.proofs.Memory.{treeCount-le, base-range, text-part, text-le, base-same, next-same, routes-same, tree-same, trees-same, label-same, labels-same, agree-refl, agree-set, tree-at}
-
-never : false ≡ true → ⊥
-never e = let z : _≡_ {A = ℕ} 0 1 = cc in omega arith
+use Rattle.octets.proofs.Tab.{tab-length, tab-get, tab-ext, tab-set, place-start, place-hit, place-miss, place-none}
+use Rattle.table.specs.Memory.{upTo, textAt, treeName, baseIn, nextIn, routeCount, treeCount, routeIn, markAt, markUse, markPlace, isFreeAt, isMappedAt, labelIn, ownPlace, carriesAt, ownLabel, treeIn, labelName, rootName, cardOf}
+use Rattle.table.proofs.Memory.{treeCount-le, base-range, text-part, text-le, base-same, next-same, routes-same, own-kept, tree-with, tree-same, trees-same, label-same, labels-same, agree-refl, agree-set, tree-at}
+use Rattle.table.proofs.Marks.{never, free-at, taken-use, mapped-at, mapped-use, unmapped-free, unmapped-above, label-free, label-mapped, label-awaiting, carried-in, carried-out, not-mapped, not-named, own-some, own-none, own-beside}
 
 pos : (m : ℕ) → (m ≡ 0 → ⊥) → 0 < m
 pos zero f = absurd (f refl)
@@ -61,13 +59,14 @@ module _ (ns os : List ℕ) (k v : ℕ) where
       (agree-set 4 32 ns k v (λ a b. h (omega arith) (omega arith)))
       (agree-refl 17600 544 os)
 
-  pub trees-away : 1 ≤ k → (3 ≤ k → k < 1188 → ⊥) → tab (treeCount (set ns k v)) (treeIn (set ns k v) os) ≡ tab (treeCount ns) (treeIn ns os)
+  pub trees-away : 1 ≤ k → k < 3 → tab (treeCount (set ns k v)) (treeIn (set ns k v) os) ≡ tab (treeCount ns) (treeIn ns os)
   trees-away g h =
       trees-same ns (set ns k v) os os
       (agree-set 0 1 ns k v (λ a b. omega arith))
-      (agree-set 3 1 ns k v (λ a b. h (omega arith) (omega arith)))
-      (agree-set 36 64 ns k v (λ a b. h (omega arith) (omega arith)))
-      (agree-set 100 1088 ns k v (λ a b. h (omega arith) (omega arith)))
+      (agree-set 3 1 ns k v (λ a b. omega arith))
+      (agree-set 36 64 ns k v (λ a b. omega arith))
+      (agree-set 100 1088 ns k v (λ a b. omega arith))
+      (agree-set 1188 256 ns k v (λ a b. omega arith))
       (agree-refl 0 3520 os)
 
   pub labels-away : k < 1188 → tab 256 (labelIn (set ns k v) os) ≡ tab 256 (labelIn ns os)
@@ -77,29 +76,23 @@ pub set-next : (ns os : List ℕ) (id : ℕ) → length ns ≡ 1444 → id < 429
 unfolding cardOf withNext nextIn
 set-next ns os id l h =
     let n : getD (set ns 1 id) 1 0 % 4294967296 ≡ id = rw (getD-set-same ns 1 id 0 (omega arith)) (mod-eq-of-lt h) in
-    cc (base-away ns os 1 id (omega arith), routes-away ns os 1 id (λ a b. omega arith), trees-away ns os 1 id (omega arith) (λ a b. omega arith), labels-away ns os 1 id (omega arith))
+    cc (base-away ns os 1 id (omega arith), routes-away ns os 1 id (λ a b. omega arith), trees-away ns os 1 id (omega arith) (omega arith), labels-away ns os 1 id (omega arith))
 
 -- ---- what a tree's numbers say
 
--- the place in the block of the tree's own label, and a label's mark
-abbrev pub ownPlace : List ℕ → ℕ → ℕ
-ownPlace ns i = getD ns (36 + i) 0
-
-abbrev pub markAt : List ℕ → ℕ → ℕ
-markAt ns p = getD ns (1188 + p) 0
-
 module _ (ns os : List ℕ) (i : ℕ) (h : i < treeCount ns) where
-  pub label-at : treeAt i (cardOf ns os) .label ≡ ownLabel (baseIn ns) (ownPlace ns i)
+  pub label-at : treeAt i (cardOf ns os) .label ≡ ownLabel ns i (ownPlace ns i)
   unfolding treeIn
   label-at = ap (λ (t : Tree). t .label) (tree-at ns os i h)
 
-  pub label-some : (b : ℕ) → b ≡ baseIn ns → ownPlace ns i < 256 → b + ownPlace ns i ≡ treeAt i (cardOf ns os) .label
-  unfolding ownLabel
-  label-some b e p = rw (label-at, lt-ltb (ownPlace ns i) 256 p, e) refl
+  pub label-some : (b : ℕ) → b ≡ baseIn ns → carriesAt ns i (ownPlace ns i) ≡ true → b + ownPlace ns i ≡ treeAt i (cardOf ns os) .label
+  label-some b e c = rw (label-at, own-some ns i (ownPlace ns i) c, e) refl
 
-  pub label-none : 256 ≤ ownPlace ns i → 0 ≡ treeAt i (cardOf ns os) .label
-  unfolding ownLabel
-  label-none p = rw (label-at, le-ltb (ownPlace ns i) 256 p) refl
+  pub label-none : carriesAt ns i (ownPlace ns i) ≡ false → 0 ≡ treeAt i (cardOf ns os) .label
+  label-none c = rw (label-at, own-none ns i (ownPlace ns i) c) refl
+
+  pub label-carried : (treeAt i (cardOf ns os) .label ≡ 0 → ⊥) → carriesAt ns i (ownPlace ns i) ≡ true
+  label-carried ne = by-test (carriesAt ns i (ownPlace ns i)) (λ t. t) (λ t. absurd (ne (sym (label-none t))))
 
   pub leaf-at : not (eqb (getD ns (100 + i * 17) 0) 0) ≡ treeAt i (cardOf ns os) .leaf
   unfolding treeIn
@@ -153,21 +146,27 @@ named-at a ns os i n e = rw e refl
 -- ---- one number of a tree anew
 
 module _ (ns os : List ℕ) (i : ℕ) (l : length ns ≡ 1444) (h : i < treeCount ns) (i64 : i < 64) where
-  -- at a place k that is in no other tree
-  pub tree-set : (k v : ℕ) (t : Tree) → 36 ≤ k → k < 1188 → ((j : ℕ) → (j ≡ i → ⊥) → j < 64 → (36 + j ≡ k → ⊥) × (100 + j * 17 ≤ k → k < 117 + j * 17 → ⊥)) → treeIn (set ns k v) os i ≡ t
+  -- the labels that trees carry are as they were
+  row-own : (k v j : ℕ) → 100 + i * 17 ≤ k → k < 117 + i * 17 → j < 64 → ownLabel (set ns k v) j (ownPlace (set ns k v) j) ≡ ownLabel ns j (ownPlace ns j)
+  row-own k v j low high j64 =
+      own-kept ns (set ns k v) os os j
+      (agree-set 0 1 ns k v (λ a b. omega arith))
+      (agree-set (36 + j) 1 ns k v (λ a b. omega arith))
+      (agree-set 1188 256 ns k v (λ a b. omega arith))
+
+  -- at a place k of its row
+  tree-set : (k v : ℕ) (t : Tree) → 100 + i * 17 ≤ k → k < 117 + i * 17 → treeIn (set ns k v) os i ≡ t
       → cardOf (set ns k v) os ≡ withTrees (set (cardOf ns os .trees) i t) (cardOf ns os)
   unfolding cardOf withTrees treeCount
-  tree-set k v t low high out e =
+  tree-set k v t low high e =
       let n : getD (set ns k v) 3 0 ≡ getD ns 3 0 = getD-set-other ns k 3 v 0 (λ q. omega arith) in
       let ts : tab (treeCount ns) (treeIn (set ns k v) os) ≡ set (tab (treeCount ns) (treeIn ns os)) i t =
       tab-set (treeCount ns) (treeIn ns os) (treeIn (set ns k v) os) i t h e (λ j ne lt.
-      let o = out j ne (omega (arith, treeCount-le ns)) in
       tree-same ns (set ns k v) os os j
-      (agree-set 0 1 ns k v (λ a b. omega arith))
-      (agree-set (36 + j) 1 ns k v (λ a b. o .0 (omega arith)))
-      (agree-set (100 + j * 17) 17 ns k v (λ a b. o .1 a (omega arith)))
+      (row-own k v j low high (omega (arith, treeCount-le ns)))
+      (agree-set (100 + j * 17) 17 ns k v (λ a b. ne (omega arith)))
       (agree-refl (j * 55) 55 os)) in
-      cc (base-away ns os k v (omega arith), next-away ns os k v (omega arith), routes-away ns os k v (λ a b. omega arith), labels-away ns os k v high)
+      cc (base-away ns os k v (omega arith), next-away ns os k v (omega arith), routes-away ns os k v (λ a b. omega arith), labels-away ns os k v (omega arith))
 
   pub set-branch : (n v : ℕ) → n < 16
       → cardOf (set ns (101 + i * 17 + n) v) os ≡ withTrees (set (cardOf ns os .trees) i (withBranch n v (treeAt i (cardOf ns os)))) (cardOf ns os)
@@ -177,9 +176,8 @@ module _ (ns os : List ℕ) (i : ℕ) (l : length ns ≡ 1444) (h : i < treeCoun
       let bs : tab 16 (λ m. getD (set ns k v) (101 + i * 17 + m) 0) ≡ set (tab 16 (λ m. getD ns (101 + i * 17 + m) 0)) n v =
       tab-set 16 _ _ n v n16 (getD-set-same ns k v 0 (omega arith)) (λ m ne lt. getD-set-other ns k (101 + i * 17 + m) v 0 (λ q. ne (omega arith))) in
       let f : getD (set ns k v) (100 + i * 17) 0 ≡ getD ns (100 + i * 17) 0 = getD-set-other ns k (100 + i * 17) v 0 (λ q. omega arith) in
-      let o : getD (set ns k v) (36 + i) 0 ≡ ownPlace ns i = getD-set-other ns k (36 + i) v 0 (λ q. omega arith) in
-      let b = base-away ns os k v (omega arith) in
-      rw (tree-at ns os i h) (tree-set k v _ (omega arith) (omega arith) (λ j ne j64. ((λ q. omega arith), (λ x y. ne (omega arith)))) (cc))
+      let o = row-own k v i (omega arith) (omega arith) i64 in
+      rw (tree-at ns os i h) (tree-set k v _ (omega arith) (omega arith) (cc))
 
   row-away : (k v : ℕ) → k < 101 + i * 17 → tab 16 (λ m. getD (set ns k v) (101 + i * 17 + m) 0) ≡ tab 16 (λ m. getD ns (101 + i * 17 + m) 0)
   row-away k v low = tab-ext 16 _ _ (λ m lt. getD-set-other ns k (101 + i * 17 + m) v 0 (λ q. omega arith))
@@ -191,93 +189,57 @@ module _ (ns os : List ℕ) (i : ℕ) (l : length ns ≡ 1444) (h : i < treeCoun
       let k : ℕ = 100 + i * 17 in
       let bs = row-away k v (omega arith) in
       let g : getD (set ns k v) k 0 ≡ v = getD-set-same ns k v 0 (omega arith) in
-      let o : getD (set ns k v) (36 + i) 0 ≡ ownPlace ns i = getD-set-other ns k (36 + i) v 0 (λ q. omega arith) in
-      let b = base-away ns os k v (omega arith) in
-      rw (tree-at ns os i h) (tree-set k v _ (omega arith) (omega arith) (λ j ne j64. ((λ q. omega arith), (λ x y. ne (omega arith)))) (cc))
-
-  own-set : (v w : ℕ) → ownLabel (baseIn ns) v ≡ w → cardOf (set ns (36 + i) v) os ≡ setLabel i w (cardOf ns os)
-  unfolding treeIn withLabel setLabel
-  own-set v w e =
-      let k : ℕ = 36 + i in
-      let bs = row-away k v (omega arith) in
-      let f : getD (set ns k v) (100 + i * 17) 0 ≡ getD ns (100 + i * 17) 0 = getD-set-other ns k (100 + i * 17) v 0 (λ q. omega arith) in
-      let o : getD (set ns k v) k 0 ≡ v = getD-set-same ns k v 0 (omega arith) in
-      let b = base-away ns os k v (omega arith) in
-      rw (tree-at ns os i h) (tree-set k v _ (omega arith) (omega arith) (λ j ne j64. ((λ q. ne (omega arith)), (λ x y. omega arith))) (cc))
-
-  pub set-label : (p : ℕ) → p < 256 → cardOf (set ns (36 + i) p) os ≡ setLabel i (baseIn ns + p) (cardOf ns os)
-  unfolding ownLabel
-  set-label p p256 = own-set p (baseIn ns + p) (rw (lt-ltb p 256 p256) refl)
-
-  pub clear-label : cardOf (set ns (36 + i) 256) os ≡ setLabel i 0 (cardOf ns os)
-  unfolding ownLabel
-  clear-label = own-set 256 0 refl
+      let o = row-own k v i (omega arith) (omega arith) i64 in
+      rw (tree-at ns os i h) (tree-set k v _ (omega arith) (omega arith) (cc))
 
 -- ---- labels
 
--- what a mark says of a label
-
-module _ (a : List ℕ) where
-  pub mapped-none : (m : ℕ) → m ≡ 0 → 17 ≡ mappedTo (useIn m a)
-  unfolding mappedTo useIn
-  mapped-none m e = rw e refl
-
-  pub mapped-some : (m : ℕ) → (m ≡ 0 → ⊥) → m ≤ 16 → m - 1 ≡ mappedTo (useIn m a)
-  unfolding mappedTo useIn
-  mapped-some m ne h = rw (ne-eqb m 0 ne, le-leb m 16 h) refl
-
-  pub mapped-other : (m : ℕ) → (m ≡ 0 → ⊥) → 16 < m → 17 ≡ mappedTo (useIn m a)
-  unfolding mappedTo useIn
-  mapped-other m ne h = rw (ne-eqb m 0 ne, lt-leb m 16 h) (by-test (leb m 32) (λ e. rw e refl) (λ e. rw e refl))
-
-  free-above : (m : ℕ) → (m ≡ 0 → ⊥) → 16 < m → ltb 32 m ≡ isFree (useIn m a)
-  unfolding isFree useIn
-  free-above m ne h =
-      rw (ne-eqb m 0 ne, lt-leb m 16 h)
-      (by-test (leb m 32) (λ e. rw (e, le-ltb 32 m (leb-true m 32 e)) refl) (λ e. rw (e, lt-ltb 32 m (leb-false m 32 e)) refl))
-
-  free-mapped : (m : ℕ) → (m ≡ 0 → ⊥) → m ≤ 16 → ltb 32 m ≡ isFree (useIn m a)
-  unfolding isFree useIn
-  free-mapped m ne h = rw (ne-eqb m 0 ne, le-leb m 16 h, le-ltb 32 m (omega arith)) refl
-
-  awaiting-this : (n : ℕ) (b : List ℕ) (m : ℕ) → n < 16 → m ≡ 17 + n → isAwaiting n b (useIn m a) ≡ same a b
-  unfolding isAwaiting useIn
-  awaiting-this n b m h e =
-      rw (ne-eqb m 0 (λ z. omega arith), lt-leb m 16 (omega arith), le-leb m 32 (omega arith))
-      (let q : m - 17 ≡ n = omega arith in rw (eq-eqb (m - 17) n q) refl)
-
-  awaiting-not : (n : ℕ) (b : List ℕ) (m : ℕ) → (m ≡ 17 + n → ⊥) → isAwaiting n b (useIn m a) ≡ false
-  unfolding isAwaiting useIn
-  awaiting-not n b m ne =
-      by-test (eqb m 0)
-      (λ e. rw e refl)
-      (λ e. rw e (by-test (leb m 16)
-      (λ k. rw k refl)
-      (λ k. rw k (by-test (leb m 32)
-      (λ j. rw (j, ne-eqb (m - 17) n (λ q. ne (omega (arith, leb-false m 16 k)))) refl)
-      (λ j. rw j refl)))))
-
-  ended-not : (m : ℕ) → m ≡ 0 → useIn m a ≡ ended (useIn m a)
-  unfolding ended useIn
-  ended-not m e = rw e refl
-
-  ended-already : (m : ℕ) → 16 < m → useIn m a ≡ ended (useIn m a)
-  unfolding ended useIn
-  ended-already m h = rw (ne-eqb m 0 (λ e. omega arith), lt-leb m 16 h) (by-test (leb m 32) (λ e. rw e refl) (λ e. rw e refl))
-
-  ended-now : (m : ℕ) → (m ≡ 0 → ⊥) → m ≤ 16 → useIn (m + 16) a ≡ ended (useIn m a)
-  unfolding ended useIn
-  ended-now m ne h =
-      let q : m + 16 - 17 ≡ m - 1 = omega arith in
-      rw (ne-eqb (m + 16) 0 (λ e. omega arith), lt-leb (m + 16) 16 (omega (arith, pos m ne)), le-leb (m + 16) 32 (omega arith), ne-eqb m 0 ne, le-leb m 16 h, q) refl
-
 -- what a label is used for: of the block, and outside it
 
-pub use-in : (ns os : List ℕ) (label p : ℕ) → label ≡ baseIn ns + p → p < 256 → useOf label (cardOf ns os) ≡ useIn (markAt ns p) (labelName os p)
-unfolding useOf cardOf labelIn
+pub use-in : (ns os : List ℕ) (label p : ℕ) → label ≡ baseIn ns + p → p < 256 → useOf label (cardOf ns os) ≡ labelIn ns os p
+unfolding useOf cardOf
 use-in ns os label p e h =
     let q : label - baseIn ns ≡ p = omega arith in
     rw (le-leb (baseIn ns) label (omega arith), q) (tab-get 256 (labelIn ns os) p free h)
+
+-- the neighbour to which the label at a place is mapped
+module _ (ns : List ℕ) (p : ℕ) where
+  abbrev pub MapsTo : ℕ → Type 0
+  MapsTo r = ((os : List ℕ) → r ≡ mappedTo (labelIn ns os p)) × (r ≤ 17) × (r ≡ 17 → isMappedAt ns p ≡ false) × ((r ≡ 17 → ⊥) → isMappedAt ns p ≡ true)
+
+  pub maps-free : isFreeAt ns p ≡ true → MapsTo 17
+  unfolding mappedTo
+  maps-free e = ((λ os. rw (label-free ns p os e) refl), omega arith, (λ _. unmapped-free ns p e), (λ ne. absurd (ne refl)))
+
+  pub maps-some : isFreeAt ns p ≡ false → markUse (markAt ns p) ≤ 16 → MapsTo (markUse (markAt ns p) - 1)
+  unfolding mappedTo
+  maps-some e h =
+      let some = taken-use ns p e in
+      ((λ os. rw (label-mapped ns p os some h) refl), omega arith, (λ q. absurd (omega arith)), (λ _. mapped-at ns p some h))
+
+  pub maps-other : 16 < markUse (markAt ns p) → MapsTo 17
+  unfolding mappedTo
+  maps-other h = ((λ os. rw (label-awaiting ns p os h) refl), omega arith, (λ _. unmapped-above ns p h), (λ ne. absurd (ne refl)))
+
+-- whether the label at a place awaits release
+module _ (ns os : List ℕ) (p n : ℕ) (a : List ℕ) where
+  awaiting-this : n < 16 → markUse (markAt ns p) ≡ 17 + n → isAwaiting n a (labelIn ns os p) ≡ same (labelName os p) a
+  unfolding isAwaiting
+  awaiting-this h e =
+      let q : markUse (markAt ns p) - 17 ≡ n = omega arith in
+      rw (label-awaiting ns p os (omega arith)) (rw (eq-eqb (markUse (markAt ns p) - 17) n q) refl)
+
+  awaiting-not : (markUse (markAt ns p) ≡ 17 + n → ⊥) → isAwaiting n a (labelIn ns os p) ≡ false
+  unfolding isAwaiting
+  awaiting-not ne =
+      by-test (isFreeAt ns p)
+      (λ e. rw (label-free ns p os e) refl)
+      (λ e.
+      by-test (leb (markUse (markAt ns p)) 16)
+      (λ t. rw (label-mapped ns p os (taken-use ns p e) (leb-true _ _ t)) refl)
+      (λ t.
+      let k : 16 < markUse (markAt ns p) = leb-false _ _ t in
+      rw (label-awaiting ns p os k) (rw (ne-eqb (markUse (markAt ns p) - 17) n (λ q. ne (omega arith))) refl)))
 
 module _ (ns os : List ℕ) (label b : ℕ) (e : b ≡ baseIn ns) where
   use-under : label < b → useOf label (cardOf ns os) ≡ free
@@ -288,21 +250,21 @@ module _ (ns os : List ℕ) (label b : ℕ) (e : b ≡ baseIn ns) where
   unfolding useOf cardOf
   use-above h k = rw (le-leb (baseIn ns) label (rw e at h)) (getD-out (tab 256 (labelIn ns os)) (label - baseIn ns) free (rw tab-length (rw e at k)))
 
-  pub mark-under : label < b → useOf label (cardOf ns os) ≡ useIn 0 (labelName os (label - baseIn ns))
-  unfolding useIn
-  mark-under h = use-under h
+  pub use-at : b ≤ label → label - b < 256 → useOf label (cardOf ns os) ≡ labelIn ns os (label - b)
+  use-at h k = use-in ns os label (label - b) (omega arith) k
 
-  pub mark-above : b ≤ label → 256 ≤ label - b → useOf label (cardOf ns os) ≡ useIn 0 (labelName os (label - baseIn ns))
-  unfolding useIn
-  mark-above h k = use-above h k
+  pub maps-under : label < b → 17 ≡ mappedTo (useOf label (cardOf ns os))
+  unfolding mappedTo
+  maps-under h = rw (use-under h) refl
 
-  pub mark-in : b ≤ label → label - b < 256 → useOf label (cardOf ns os) ≡ useIn (markAt ns (label - b)) (labelName os (label - baseIn ns))
-  mark-in h k = rw e (use-in ns os label (label - baseIn ns) (omega arith) (omega arith))
+  pub maps-above : b ≤ label → 256 ≤ label - b → 17 ≡ mappedTo (useOf label (cardOf ns os))
+  unfolding mappedTo
+  maps-above h k = rw (use-above h k) refl
 
   -- whether it awaits release
 
   abbrev pub Awaits : ℕ → List ℕ → Bool → Type 0
-  Awaits n a r = (r ≡ isAwaiting n a (useOf label (cardOf ns os))) × (r ≡ true → (baseIn ns ≤ label) × (label < baseIn ns + 256))
+  Awaits n a r = (r ≡ isAwaiting n a (useOf label (cardOf ns os))) × (r ≡ true → (baseIn ns ≤ label) × (label < baseIn ns + 256) × (isMappedAt ns (label - baseIn ns) ≡ false))
 
   pub awaits-under : (n : ℕ) (a : List ℕ) → label < b → Awaits n a false
   unfolding isAwaiting
@@ -312,23 +274,25 @@ module _ (ns os : List ℕ) (label b : ℕ) (e : b ≡ baseIn ns) where
   unfolding isAwaiting
   awaits-above n a h k = (rw (use-above h k) refl, λ z. absurd (never z))
 
-  pub awaits-not : (n : ℕ) (a : List ℕ) → b ≤ label → label - b < 256 → (markAt ns (label - b) ≡ 17 + n → ⊥) → Awaits n a false
-  awaits-not n a h k ne = (rw (use-in ns os label (label - b) (omega arith) k) (sym (awaiting-not _ n a _ ne)), λ z. absurd (never z))
+  pub awaits-not : (n : ℕ) (a : List ℕ) → b ≤ label → label - b < 256 → (markUse (markAt ns (label - b)) ≡ 17 + n → ⊥) → Awaits n a false
+  awaits-not n a h k ne = (rw (use-at h k) (sym (awaiting-not ns os (label - b) n a ne)), λ z. absurd (never z))
 
-  pub awaits-same : (n : ℕ) (a : List ℕ) (r : Bool) → b ≤ label → label - b < 256 → n < 16 → markAt ns (label - b) ≡ 17 + n → r ≡ same (labelName os (label - b)) a → Awaits n a r
-  awaits-same n a r h k n16 m s = (rw (use-in ns os label (label - b) (omega arith) k) (s ∙ sym (awaiting-this _ n a _ n16 m)), λ z. (omega arith, omega arith))
+  pub awaits-same : (n : ℕ) (a : List ℕ) (r : Bool) → b ≤ label → label - b < 256 → n < 16 → markUse (markAt ns (label - b)) ≡ 17 + n → r ≡ same (labelName os (label - b)) a → Awaits n a r
+  awaits-same n a r h k n16 m s =
+      let away : isMappedAt ns (label - b) ≡ false = unmapped-above ns (label - b) (omega arith) in
+      (rw (use-at h k) (s ∙ sym (awaiting-this ns os (label - b) n a n16 m)), λ z. (omega arith, omega arith, rw (← e) away))
 
--- whether the label at a place is free
+-- the neighbour for which a tree holds its label
+module _ (ns os : List ℕ) (i : ℕ) (h : i < treeCount ns) where
+  pub held-some : (r : ℕ) → carriesAt ns i (ownPlace ns i) ≡ true → r ≡ mappedTo (labelIn ns os (ownPlace ns i)) → r ≡ heldFor (cardOf ns os) (treeAt i (cardOf ns os))
+  unfolding heldFor
+  held-some r c e =
+      let own : treeAt i (cardOf ns os) .label ≡ baseIn ns + ownPlace ns i = sym (label-some ns os i h (baseIn ns) refl c) in
+      e ∙ ap mappedTo (sym (use-in ns os (treeAt i (cardOf ns os) .label) (ownPlace ns i) own (carried-out ns i (ownPlace ns i) c .0)))
 
-pub free-none : (ns os : List ℕ) (p : ℕ) → markAt ns p ≡ 0 → true ≡ isFree (labelIn ns os p)
-unfolding isFree labelIn useIn
-free-none ns os p e = rw e refl
-
-pub free-some : (ns os : List ℕ) (p : ℕ) → (markAt ns p ≡ 0 → ⊥) → ltb 32 (markAt ns p) ≡ isFree (labelIn ns os p)
-unfolding labelIn
-free-some ns os p ne =
-    let m : ℕ = markAt ns p in
-    by-test (leb m 16) (λ e. free-mapped (labelName os p) m ne (leb-true m 16 e)) (λ e. free-above (labelName os p) m ne (leb-false m 16 e))
+  pub held-none : carriesAt ns i (ownPlace ns i) ≡ false → 17 ≡ heldFor (cardOf ns os) (treeAt i (cardOf ns os))
+  unfolding heldFor
+  held-none c = rw (← label-none ns os i h c) (maps-under ns os 0 (baseIn ns) refl (omega (arith, base-range ns)))
 
 -- all labels, from the front
 
@@ -340,73 +304,153 @@ pub count-start : (ns os : List ℕ) → freeLabels (cardOf ns os) ≡ 0 + count
 unfolding freeLabels cardOf
 count-start ns os = omega arith
 
--- the tree that carries a label
+-- ---- the tree that carries a label
 
-module _ (ns os : List ℕ) (label b i : ℕ) (e : b ≡ baseIn ns) (low : b ≤ label) (high : label < b + 256) where
-  pub carries-this : ownPlace ns i ≡ label - b → carries label (treeIn ns os i) ≡ true
-  unfolding carries treeIn ownLabel
-  carries-this q = rw (lt-ltb (ownPlace ns i) 256 (omega arith)) (eq-eqb (baseIn ns + ownPlace ns i) label (omega arith))
+-- k elements that do not pass
+place-past {ℓ} : {A : Type ℓ} (t : A → Bool) (n : ℕ) (f : ℕ → A) (k : ℕ) → k ≤ n → ((j : ℕ) → j < k → t (f j) ≡ false) → place t (tab n f) ≡ k + place t (drop k (tab n f))
+place-past t n f zero h g = place-start t (tab n f)
+place-past t n f (suc k) h g = place-past t n f k (omega arith) (λ j l. g j (omega arith)) ∙ place-miss t n f k (omega arith) (g k (omega arith)) ∙ rw (add-one k) refl
 
-  pub carries-not : (ownPlace ns i ≡ label - b → ⊥) → carries label (treeIn ns os i) ≡ false
-  unfolding carries treeIn ownLabel
-  carries-not ne =
-      by-test (ltb (ownPlace ns i) 256)
-      (λ t. rw t (ne-eqb (baseIn ns + ownPlace ns i) label (λ q. ne (omega arith))))
-      (λ t. rw t (ne-eqb 0 label (λ q. omega (arith, base-range ns))))
+module _ (ns os : List ℕ) (label p : ℕ) (h : p < 256) (e : label ≡ baseIn ns + p) where
+  carries-this : (i : ℕ) → ownPlace ns i ≡ p → carriesAt ns i p ≡ true → carries label (treeIn ns os i) ≡ true
+  unfolding carries treeIn
+  carries-this i o c = rw (o, own-some ns i p c) (eq-eqb (baseIn ns + p) label (sym e))
 
-pub carriers-from : (ns os : List ℕ) (label n i : ℕ) → n ≡ treeCount ns → i + place (carries label) (drop i (cardOf ns os .trees)) ≡ i + place (carries label) (drop i (tab n (treeIn ns os)))
-unfolding cardOf
-carriers-from ns os label n i e = rw e refl
+  carries-not : (i : ℕ) → (ownPlace ns i ≡ p → carriesAt ns i p ≡ true → ⊥) → carries label (treeIn ns os i) ≡ false
+  unfolding carries treeIn
+  carries-not i f =
+      by-test (carriesAt ns i (ownPlace ns i))
+      (λ t. rw (own-some ns i (ownPlace ns i) t) (ne-eqb (baseIn ns + ownPlace ns i) label (λ q. let o : ownPlace ns i ≡ p = omega arith in f o (rw o at t))))
+      (λ t. rw (own-none ns i (ownPlace ns i) t) (ne-eqb 0 label (λ q. omega (arith, base-range ns))))
 
-pub carriers-start : (ns os : List ℕ) (label n : ℕ) → n ≡ treeCount ns → place (carries label) (cardOf ns os .trees) ≡ 0 + place (carries label) (drop 0 (tab n (treeIn ns os)))
-unfolding cardOf
-carriers-start ns os label n e = rw e (omega arith)
+  abbrev pub Carrier : ℕ → Type 0
+  Carrier r = r ≡ place (carries label) (cardOf ns os .trees)
 
--- one mark anew
+  -- the tree that the mark names, where it has the label for its own
+  pub carrier-named : (n i : ℕ) → n ≡ treeCount ns → i < n → isMappedAt ns p ≡ true → markPlace (markAt ns p) ≡ i → ownPlace ns i ≡ p → Carrier i
+  unfolding cardOf
+  carrier-named n i en lt m q o =
+      rw (← en) (sym (place-past (carries label) n (treeIn ns os) i (omega arith)
+      (λ j l. carries-not j (λ _ c. omega (arith, carried-out ns j p c .2)))
+      ∙ place-hit (carries label) n (treeIn ns os) i lt (carries-this i o (carried-in ns i p h m q))))
 
-module _ (ns os : List ℕ) (l : length ns ≡ 1444) (p : ℕ) (h : p < 256) (label : ℕ) (e : label ≡ baseIn ns + p) where
-  pub set-mark : (v : ℕ) (u : Use) → useIn v (labelName os p) ≡ u → cardOf (set ns (1188 + p) v) os ≡ setUse label u (cardOf ns os)
-  unfolding cardOf setUse withLabels labelIn
-  set-mark v u eu =
+  carrier-none : (n : ℕ) → n ≡ treeCount ns → ((i : ℕ) → i < n → ownPlace ns i ≡ p → carriesAt ns i p ≡ true → ⊥) → Carrier n
+  unfolding cardOf
+  carrier-none n en f = rw (← en) (sym (place-past (carries label) n (treeIn ns os) n (omega arith) (λ j l. carries-not j (f j l)) ∙ place-none (carries label) n (treeIn ns os) n (omega arith) (omega arith)))
+
+  -- none, where the label is not mapped, or its mark names no tree, or one that has another for its own
+  pub carrier-unmapped : (n : ℕ) → n ≡ treeCount ns → isMappedAt ns p ≡ false → Carrier n
+  carrier-unmapped n en m = carrier-none n en (λ i _ _ c. never (sym m ∙ carried-out ns i p c .1))
+
+  pub carrier-beyond : (n : ℕ) → n ≡ treeCount ns → n ≤ markPlace (markAt ns p) → Carrier n
+  carrier-beyond n en m = carrier-none n en (λ i lt _ c. omega (arith, carried-out ns i p c .2))
+
+  pub carrier-other : (n : ℕ) → n ≡ treeCount ns → (ownPlace ns (markPlace (markAt ns p)) ≡ p → ⊥) → Carrier n
+  carrier-other n en f = carrier-none n en (λ i _ o c. f (ap (ownPlace ns) (carried-out ns i p c .2) ∙ o))
+
+-- ---- one mark anew
+
+module _ (ns os : List ℕ) (l : length ns ≡ 1444) (p : ℕ) (h : p < 256) (label : ℕ) (e : label ≡ baseIn ns + p) (v : ℕ) where
+  -- with the label's use and the trees, as they are then
+  marked : (u : Use) (ts : List Tree) → labelIn (set ns (1188 + p) v) os p ≡ u → tab (treeCount ns) (treeIn (set ns (1188 + p) v) os) ≡ ts → cardOf (set ns (1188 + p) v) os ≡ withTrees ts (setUse label u (cardOf ns os))
+  unfolding cardOf withTrees setUse withLabels treeCount
+  marked u ts eu et =
       let k : ℕ = 1188 + p in
       let q : label - baseIn ns ≡ p = omega arith in
-      let this : useIn (getD (set ns k v) k 0) (labelName os p) ≡ u = rw (getD-set-same ns k v 0 (omega arith)) eu in
+      let n : getD (set ns k v) 3 0 ≡ getD ns 3 0 = getD-set-other ns k 3 v 0 (λ q. omega arith) in
       let ls : tab 256 (labelIn (set ns k v) os) ≡ set (tab 256 (labelIn ns os)) p u =
-      tab-set 256 (labelIn ns os) (labelIn (set ns k v) os) p u h this (λ j ne lt.
+      tab-set 256 (labelIn ns os) (labelIn (set ns k v) os) p u h eu (λ j ne lt.
       label-same ns (set ns k v) os os j (agree-set (1188 + j) 1 ns k v (λ a b. ne (omega arith))) (agree-refl (3520 + j * 55) 55 os)) in
-      cc (base-away ns os k v (omega arith), next-away ns os k v (omega arith), routes-away ns os k v (λ a b. omega arith), trees-away ns os k v (omega arith) (λ a b. omega arith))
+      cc (base-away ns os k v (omega arith), next-away ns os k v (omega arith), routes-away ns os k v (λ a b. omega arith))
 
-  -- or as it was
-  same-mark : (u : Use) → useIn (markAt ns p) (labelName os p) ≡ u → cardOf ns os ≡ setUse label u (cardOf ns os)
-  same-mark u eu = ap (λ (m : List ℕ). cardOf m os) (sym (set-getD ns (1188 + p) 0)) ∙ set-mark (markAt ns p) u eu
+  -- a tree of which the mark is not
+  beside : (j : ℕ) → j < 64 → (ownPlace ns j ≡ p → (carriesAt ns j p ≡ false) × (carriesAt (set ns (1188 + p) v) j p ≡ false)) → treeIn (set ns (1188 + p) v) os j ≡ treeIn ns os j
+  beside j j64 f =
+      let o : ownPlace (set ns (1188 + p) v) j ≡ ownPlace ns j = getD-set-other ns (1188 + p) (36 + j) v 0 (λ q. omega arith) in
+      tree-same ns (set ns (1188 + p) v) os os j
+      (rw o (own-beside ns p v j (ownPlace ns j) (λ q. rw q (f q))))
+      (agree-set (100 + j * 17) 17 ns (1188 + p) v (λ a b. omega arith))
+      (agree-refl (j * 55) 55 os)
 
-pub free-label : (ns os : List ℕ) (label b : ℕ) → length ns ≡ 1444 → b ≡ baseIn ns → b ≤ label → label < b + 256 → cardOf (set ns (1188 + (label - b)) 0) os ≡ setUse label free (cardOf ns os)
-unfolding useIn
-free-label ns os label b l e low high = set-mark ns os l (label - b) (omega arith) label (omega arith) 0 free refl
+  pub marks-now : markAt (set ns (1188 + p) v) p ≡ v
+  marks-now = getD-set-same ns (1188 + p) v 0 (omega arith)
 
--- the use of the label that a tree carries ends
+pub free-label : (ns os : List ℕ) (label b : ℕ) → length ns ≡ 1444 → b ≡ baseIn ns → b ≤ label → label < b + 256 → isMappedAt ns (label - b) ≡ false → cardOf (set ns (1188 + (label - b)) 0) os ≡ setUse label free (cardOf ns os)
+free-label ns os label b l e low high m =
+    marked ns os l p h label e' 0 free (cardOf ns os .trees) (label-free ms p os now)
+    (unfold cardOf in tab-ext (treeCount ns) (treeIn ms os) (treeIn ns os) (λ j lt. beside ns os l p h label e' 0 j (omega (arith, treeCount-le ns)) (λ _. (not-mapped ns j p m, not-mapped ms j p (unmapped-free ms p now)))))
+    ∙ unfold cardOf withTrees setUse withLabels in refl
+  where
+    p : ℕ
+    p = label - b
 
-module _ (ns os : List ℕ) (i : ℕ) (l : length ns ≡ 1444) (h : i < treeCount ns) (k : ownPlace ns i < 256) where
-  pub own : treeAt i (cardOf ns os) .label ≡ baseIn ns + ownPlace ns i
-  own = sym (label-some ns os i h (baseIn ns) refl k)
+    h : p < 256
+    h = omega arith
 
-  pub own-use : useOf (treeAt i (cardOf ns os) .label) (cardOf ns os) ≡ useIn (markAt ns (ownPlace ns i)) (labelName os (ownPlace ns i))
-  own-use = use-in ns os (treeAt i (cardOf ns os) .label) (ownPlace ns i) own k
+    e' : label ≡ baseIn ns + p
+    e' = omega arith
 
-  abbrev pub Ends : List ℕ → Type 0
-  Ends ms = cardOf ms os ≡ setUse (treeAt i (cardOf ns os) .label) (ended (useOf (treeAt i (cardOf ns os) .label) (cardOf ns os))) (cardOf ns os)
+    ms : List ℕ
+    ms = set ns (1188 + p) 0
 
-  ends-same : useIn (markAt ns (ownPlace ns i)) (labelName os (ownPlace ns i)) ≡ ended (useIn (markAt ns (ownPlace ns i)) (labelName os (ownPlace ns i))) → Ends ns
-  ends-same e = rw own-use (same-mark ns os l (ownPlace ns i) k (treeAt i (cardOf ns os) .label) own _ e)
+    now : isFreeAt ms p ≡ true
+    now = free-at ms p (ap markUse (marks-now ns os l p h label e' 0))
 
-  pub ends-not : markAt ns (ownPlace ns i) ≡ 0 → Ends ns
-  ends-not e = ends-same (ended-not (labelName os (ownPlace ns i)) _ e)
+-- the tree carries its label no more, which awaits release
 
-  pub ends-already : 16 < markAt ns (ownPlace ns i) → Ends ns
-  ends-already e = ends-same (ended-already (labelName os (ownPlace ns i)) _ e)
+module _ (ns os : List ℕ) (i : ℕ) (l : length ns ≡ 1444) (h : i < treeCount ns) (i64 : i < 64) (c : carriesAt ns i (ownPlace ns i) ≡ true) where
+  pub own-inside : ownPlace ns i < 256
+  own-inside = carried-out ns i (ownPlace ns i) c .0
 
-  pub ends-now : (markAt ns (ownPlace ns i) ≡ 0 → ⊥) → markAt ns (ownPlace ns i) ≤ 16 → Ends (set ns (1188 + ownPlace ns i) (markAt ns (ownPlace ns i) + 16))
-  ends-now ne e = rw own-use (set-mark ns os l (ownPlace ns i) k (treeAt i (cardOf ns os) .label) own _ _ (ended-now (labelName os (ownPlace ns i)) _ ne e))
+  own-label : treeAt i (cardOf ns os) .label ≡ baseIn ns + ownPlace ns i
+  own-label = sym (label-some ns os i h (baseIn ns) refl c)
+
+  own-ended : (ms : List ℕ) → markAt ms (ownPlace ns i) ≡ markUse (markAt ns (ownPlace ns i)) + 16 → (isMappedAt ms (ownPlace ns i) ≡ false) × (labelIn ms os (ownPlace ns i) ≡ ended (useOf (treeAt i (cardOf ns os) .label) (cardOf ns os)))
+  unfolding ended
+  own-ended ms e =
+      let p : ℕ = ownPlace ns i in
+      let u = mapped-use ns p (carried-out ns i p c .1) in
+      let v : markUse (markAt ms p) ≡ markUse (markAt ns p) + 16 = omega arith in
+      let back : markUse (markAt ms p) - 17 ≡ markUse (markAt ns p) - 1 = omega arith in (
+        unmapped-above ms p (omega arith),
+        rw (use-in ns os (treeAt i (cardOf ns os) .label) p own-label own-inside, label-mapped ns p os (u .0) (u .1), label-awaiting ms p os (omega arith), back) refl,
+      )
+
+  pub ends : cardOf (set ns (1188 + ownPlace ns i) (markUse (markAt ns (ownPlace ns i)) + 16)) os
+      ≡ setLabel i 0 (setUse (treeAt i (cardOf ns os) .label) (ended (useOf (treeAt i (cardOf ns os) .label) (cardOf ns os))) (cardOf ns os))
+  unfolding setLabel
+  ends =
+      marked ns os l p own-inside label own-label v _ (set (cardOf ns os .trees) i (withLabel 0 (treeAt i (cardOf ns os)))) (done .1)
+      (unfold cardOf in tab-set (treeCount ns) (treeIn ns os) (treeIn ms os) i _ h this (λ j ne lt.
+      beside ns os l p own-inside label own-label v j (omega (arith, treeCount-le ns)) (λ _. (not-named ns j p (λ q. ne (sym q ∙ named)), not-mapped ms j p (done .0)))))
+      ∙ unfold cardOf withTrees setUse withLabels treeAt in refl
+    where
+      p : ℕ
+      p = ownPlace ns i
+
+      label : ℕ
+      label = treeAt i (cardOf ns os) .label
+
+      v : ℕ
+      v = markUse (markAt ns p) + 16
+
+      ms : List ℕ
+      ms = set ns (1188 + p) v
+
+      done : (isMappedAt ms p ≡ false) × (labelIn ms os p ≡ ended (useOf label (cardOf ns os)))
+      done = own-ended ms (marks-now ns os l p own-inside label own-label v)
+
+      named : markPlace (markAt ns p) ≡ i
+      named = carried-out ns i p c .2
+
+      this : treeIn ms os i ≡ withLabel 0 (treeAt i (cardOf ns os))
+      this =
+          let o : ownPlace ms i ≡ p = getD-set-other ns (1188 + p) (36 + i) v 0 (λ q. omega arith) in
+          rw (tree-at ns os i h)
+          (tree-with ns ms os os i 0
+          (rw o (own-none ms i p (not-mapped ms i p (done .0))))
+          (agree-set (100 + i * 17) 17 ns (1188 + p) v (λ a b. omega arith))
+          (agree-refl (i * 55) 55 os))
 
 -- ---- routes
 

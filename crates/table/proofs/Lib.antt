@@ -1,3 +1,3 @@
-pub mod Laws
 pub mod Memory
-pub mod Search
+pub mod Marks
+pub mod Laws

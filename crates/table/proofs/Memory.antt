@@ -1,21 +1,19 @@
 -- What a change of the memory leaves as it was: each part of the card depends on its own places alone. Assumes nothing.
-use Prim.Native.Nat.{ℕ, zero, suc, _+_, _*_, _-_, _%_, _≤_, _<_}
+use Prim.Native.Nat.{ℕ, _+_, _*_, _≤_, _<_}
 use native.Mathlib.Omega.{arith}
-use mathlib.Core.Path.{_≡_, refl, sym, ap, ap₂, _∙_}
-use mathlib.Core.Bool.{Bool, true, false, not}
-use mathlib.Core.List.{List, [], _∷_, _++_}
-use lib.ListN.{length, take, drop, getD, set, length-take, length-drop}
-use lib.Seq.{getD-set-same, getD-set-other, getD-take, getD-drop, length-take-le}
-use lib.Dec.{eqb, leb, ltb}
-use borrow.Author.Tests.{lt-ltb, le-ltb, ltb-true, ltb-false, leb-true, not-false}
-use Rattle.meaning.specs.Octets.{pick}
-use Rattle.meaning.specs.Lists.{by-test, picked}
+use mathlib.Core.Path.{_≡_, refl, _∙_}
+use mathlib.Core.List.{List, []}
+use lib.ListN.{length, take, drop, getD, set, length-drop}
+use lib.Seq.{getD-set-other, getD-take, getD-drop, length-take-le}
+use lib.Dec.{leb, ltb}
+use borrow.Author.Tests.{le-ltb, ltb-true, ltb-false, leb-true, not-false}
+use Rattle.meaning.specs.Lists.{by-test}
 use Rattle.meaning.specs.RoundTrip.{both}
-use Rattle.meaning.specs.Card.{Route, Tree, Use, Card, routeLimit, treeLimit, labelCount, bare, treeAt}
+use Rattle.meaning.specs.Card.{labelCount, withLabel, bare, treeAt}
 use Rattle.meaning.specs.Events.{baseOutside}
 use Rattle.octets.specs.Part.{tab}
 use Rattle.octets.proofs.Tab.{tab-length, tab-get, tab-ext, tab-is}
-use Rattle.table.specs.Memory.{upTo, textAt, nameLimit, treeName, labelName, rootName, baseIn, nextIn, routeCount, treeCount, routeIn, ownLabel, treeIn, useIn, labelIn, cardOf}
+use Rattle.table.specs.Memory.{upTo, textAt, nameLimit, treeName, labelName, rootName, baseIn, nextIn, routeCount, treeCount, routeIn, markAt, isFreeAt, isMappedAt, labelIn, ownPlace, carriesAt, ownLabel, treeIn, cardOf}
 
 -- ---- at most k
 
@@ -96,25 +94,38 @@ module _ (ns ns' os os' : List ℕ) where
       (tab-ext _ _ _ (λ i lt. let le = upTo-le 32 (getD ns 2 0) in
       route-same i (λ j a b. k j (omega arith) (omega arith)) (λ j a b. r j (omega arith) (omega arith))))
 
-  pub tree-same : (i : ℕ) → Agree 0 1 ns ns' → Agree (36 + i) 1 ns ns' → Agree (100 + i * 17) 17 ns ns' → Agree (i * 55) 55 os os' → treeIn ns' os' i ≡ treeIn ns os i
-  unfolding treeIn treeName
-  tree-same i b l r n =
+  -- the label that a tree at place i carries, by the mark of its own place alone
+  pub own-same : (i p : ℕ) → Agree 0 1 ns ns' → (p < 256 → markAt ns' p ≡ markAt ns p) → ownLabel ns' i p ≡ ownLabel ns i p
+  unfolding ownLabel carriesAt isMappedAt isFreeAt
+  own-same i p b m =
+      by-test (ltb p 256)
+      (λ t. rw (t, m (ltb-true p 256 t), base-same b) refl)
+      (λ t. rw t refl)
+
+  pub own-kept : (i : ℕ) → Agree 0 1 ns ns' → Agree (36 + i) 1 ns ns' → Agree 1188 256 ns ns' → ownLabel ns' i (ownPlace ns' i) ≡ ownLabel ns i (ownPlace ns i)
+  own-kept i b o m = rw (o (36 + i) (omega arith) (omega arith)) (own-same i (ownPlace ns i) b (λ h. m (1188 + ownPlace ns i) (omega arith) (omega arith)))
+
+  -- the row and the name of a tree as they were, and its label
+  pub tree-with : (i w : ℕ) → ownLabel ns' i (ownPlace ns' i) ≡ w → Agree (100 + i * 17) 17 ns ns' → Agree (i * 55) 55 os os' → treeIn ns' os' i ≡ withLabel w (treeIn ns os i)
+  unfolding treeIn treeName withLabel
+  tree-with i w l r n =
       let same-name : textAt nameLimit os' (i * 55) ≡ textAt nameLimit os (i * 55) = text-same nameLimit (i * 55) os os' n in
       let same-branches : tab 16 (λ k. getD ns' (101 + i * 17 + k) 0) ≡ tab 16 (λ k. getD ns (101 + i * 17 + k) 0) = tab-ext 16 _ _ (λ k lt. r (101 + i * 17 + k) (omega arith) (omega arith)) in
-      let same-base : baseIn ns' ≡ baseIn ns = base-same b in
-      let same-label : getD ns' (36 + i) 0 ≡ getD ns (36 + i) 0 = l (36 + i) (omega arith) (omega arith) in
       let same-leaf : getD ns' (100 + i * 17) 0 ≡ getD ns (100 + i * 17) 0 = r (100 + i * 17) (omega arith) (omega arith) in
       cc
 
-  pub trees-same : Agree 0 1 ns ns' → Agree 3 1 ns ns' → Agree 36 64 ns ns' → Agree 100 1088 ns ns' → Agree 0 3520 os os' → tab (treeCount ns') (treeIn ns' os') ≡ tab (treeCount ns) (treeIn ns os)
+  pub tree-same : (i : ℕ) → ownLabel ns' i (ownPlace ns' i) ≡ ownLabel ns i (ownPlace ns i) → Agree (100 + i * 17) 17 ns ns' → Agree (i * 55) 55 os os' → treeIn ns' os' i ≡ treeIn ns os i
+  tree-same i l r n = tree-with i (ownLabel ns i (ownPlace ns i)) l r n ∙ unfold treeIn withLabel in refl
+
+  pub trees-same : Agree 0 1 ns ns' → Agree 3 1 ns ns' → Agree 36 64 ns ns' → Agree 100 1088 ns ns' → Agree 1188 256 ns ns' → Agree 0 3520 os os' → tab (treeCount ns') (treeIn ns' os') ≡ tab (treeCount ns) (treeIn ns os)
   unfolding treeCount
-  trees-same b h l r n =
+  trees-same b h l r m n =
       rw (h 3 (omega arith) (omega arith))
       (tab-ext _ _ _ (λ i lt. let le = upTo-le 64 (getD ns 3 0) in
-      tree-same i b (λ j x y. l j (omega arith) (omega arith)) (λ j x y. r j (omega arith) (omega arith)) (λ j x y. n j (omega arith) (omega arith))))
+      tree-same i (own-kept i b (λ j x y. l j (omega arith) (omega arith)) m) (λ j x y. r j (omega arith) (omega arith)) (λ j x y. n j (omega arith) (omega arith))))
 
   pub label-same : (p : ℕ) → Agree (1188 + p) 1 ns ns' → Agree (3520 + p * 55) 55 os os' → labelIn ns' os' p ≡ labelIn ns os p
-  unfolding labelIn labelName
+  unfolding labelIn labelName isFreeAt
   label-same p m n = rw (text-same nameLimit (3520 + p * 55) os os' n, m (1188 + p) (omega arith) (omega arith)) refl
 
   pub labels-same : Agree 1188 256 ns ns' → Agree 3520 14080 os os' → tab labelCount (labelIn ns' os') ≡ tab labelCount (labelIn ns os)

@@ -1,6 +1,6 @@
 -- The card that the lent memory denotes: any content denotes one. docs/MEMORY.md draws the layout. Assumes nothing.
-use Prim.Native.Nat.{ℕ, _+_, _*_, _-_, _%_}
-use mathlib.Core.Bool.{Bool, not}
+use Prim.Native.Nat.{ℕ, _+_, _*_, _-_, _/_, _%_}
+use mathlib.Core.Bool.{Bool, not, _&&_}
 use mathlib.Core.List.{List}
 use lib.ListN.{getD}
 use lib.Dec.{eqb, leb, ltb}
@@ -49,24 +49,57 @@ treeCount ns = upTo treeLimit (getD ns 3 0)
 unfoldable pub routeIn : List ℕ → List ℕ → ℕ → Route
 routeIn ns os i = record { root = rootName os i; via = getD ns (4 + i) 0 }
 
--- a tree's own label is kept as its place in the block; any number that is no place is none
-unfoldable pub ownLabel : ℕ → ℕ → ℕ
-ownLabel base v = pick (ltb v labelCount) (base + v) 0
+-- ---- labels: each has a mark
+
+-- the mark of the label at place p of the block: use + 256 * place, its use and the place of the tree that carries it
+abbrev pub markAt : List ℕ → ℕ → ℕ
+markAt ns p = getD ns (1188 + p) 0
+
+abbrev pub markUse : ℕ → ℕ
+markUse m = m % 256
+
+abbrev pub markPlace : ℕ → ℕ
+markPlace m = m / 256
+
+-- whether the label at place p is free: said here, and nowhere else
+unfoldable pub isFreeAt : List ℕ → ℕ → Bool
+isFreeAt ns p = eqb (markUse (markAt ns p)) 0
+
+-- what a label that is not free is used for, for the name a: 1 to 16 are mapped to neighbour 0 to 15, 17 to 32 await release from
+-- neighbour 0 to 15 (nothing writes a use above 32; it would await what no neighbour can send)
+unfoldable pub useIn : ℕ → List ℕ → Use
+useIn u a = pick (leb u 16) (mapped (u - 1) a) (awaiting (u - 17) a)
+
+unfoldable pub isMappedAt : List ℕ → ℕ → Bool
+isMappedAt ns p = not (isFreeAt ns p) && leb (markUse (markAt ns p)) 16
+
+unfoldable pub labelIn : List ℕ → List ℕ → ℕ → Use
+labelIn ns os p = pick (isFreeAt ns p) free (useIn (markUse (markAt ns p)) (labelName os p))
+
+-- ---- trees
+
+-- the place in the block of the label that the tree at place i has for its own; any number that is no place is none
+abbrev pub ownPlace : List ℕ → ℕ → ℕ
+ownPlace ns i = getD ns (36 + i) 0
+
+-- the tree at place i carries the label at place p: the label is mapped, and its mark names the tree.
+-- A mark names one place, so no label has two carriers, whatever the memory holds, and a label's mark leads to its carrier
+unfoldable pub carriesAt : List ℕ → ℕ → ℕ → Bool
+carriesAt ns i p = ltb p labelCount && (isMappedAt ns p && eqb (markPlace (markAt ns p)) i)
+
+-- the label of the tree at place i, by the place p that it has for its own; 0, as for none, where it does not carry that one
+unfoldable pub ownLabel : List ℕ → ℕ → ℕ → ℕ
+ownLabel ns i p = pick (carriesAt ns i p) (baseIn ns + p) 0
 
 unfoldable pub treeIn : List ℕ → List ℕ → ℕ → Tree
 treeIn ns os i = record {
   name = treeName os i;
   branches = tab 16 (λ n. getD ns (101 + i * 17 + n) 0);
   leaf = not (eqb (getD ns (100 + i * 17) 0) 0);
-  label = ownLabel (baseIn ns) (getD ns (36 + i) 0);
+  label = ownLabel ns i (ownPlace ns i);
 }
 
--- a label's mark: 0 free, 1 to 16 mapped to a neighbour, 17 to 32 awaiting release from one
-unfoldable pub useIn : ℕ → List ℕ → Use
-useIn m a = pick (eqb m 0) free (pick (leb m 16) (mapped (m - 1) a) (pick (leb m 32) (awaiting (m - 17) a) free))
-
-unfoldable pub labelIn : List ℕ → List ℕ → ℕ → Use
-labelIn ns os p = useIn (getD ns (1188 + p) 0) (labelName os p)
+-- ---- the card
 
 unfoldable pub cardOf : List ℕ → List ℕ → Card
 cardOf ns os = record {

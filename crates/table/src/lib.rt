@@ -1,15 +1,14 @@
 // The card's memory: what is asked of it, and what changes in one place. The memory is two lent arrays; specs/Memory.antt says
 // which card they denote, and docs/MEMORY.md draws them. A function that sees the numbers alone speaks of every content of the octets.
 ghost use mathlib.Core.Path.{_≡_};
-ghost use mathlib.Core.Bool.{true};
+ghost use mathlib.Core.Bool.{true, false};
 ghost use mathlib.Core.List.{List};
 ghost use Prim.Native.Nat.{ℕ, _+_, _-_, _≤_, _<_};
-ghost use lib.ListN.{length, drop, getD, set};
+ghost use lib.ListN.{length, getD, set};
 ghost use Rattle.meaning.specs.Octets.{place, any};
 ghost use Rattle.meaning.specs.Card.{withNext, withTrees, withBranch, withLeaf, treePlace, treeAt, isBranch, isFree, isAwaiting, mappedTo, useOf, heldFor, freeLabels, routePlace, routeOf, carries, free};
 ghost use Rattle.meaning.specs.Events.{setUse, setLabel, ended, labelsShort};
-ghost use Rattle.table.specs.Memory.{cardOf, baseIn, treeCount, routeCount, textAt, treeName, labelName, rootName, useIn, labelIn};
-ghost use Rattle.table.specs.Search.{Without};
+ghost use Rattle.table.specs.Memory.{cardOf, baseIn, treeCount, routeCount, textAt, treeName, labelName, rootName, isFreeAt, isMappedAt, labelIn, carriesAt, ownPlace};
 
 // ---- the head
 
@@ -57,14 +56,63 @@ pub fn tree_count(numbers: &[u64]) -> usize
     if n < 64 { n as usize } else { 64 }
 }
 
+// ---- marks
+
+// Whether the label at place p of the block is free: read here, and nowhere else.
+fn is_free(numbers: &[u64], p: usize) -> bool
+    requires { ⌜ (length (now numbers) ≡ 1444) × (p < 256) ⌝ }
+    ensures { λ r. ⌜ (r ≡ isFreeAt (now (numbers .entry)) p) × ((os : List ℕ) → r ≡ isFree (labelIn (now (numbers .entry)) os p)) ⌝ }
+{
+    numbers[1188 + p] % 256 == 0
+}
+
+// The neighbour to which the label at place p of the block is mapped; 17 for none.
+fn mapped_at(numbers: &[u64], p: usize) -> u64
+    requires { ⌜ (length (now numbers) ≡ 1444) × (p < 256) ⌝ }
+    ensures { λ r. ⌜ ((os : List ℕ) → r ≡ mappedTo (labelIn (now (numbers .entry)) os p)) × (r ≤ 17)
+        × (r ≡ 17 → isMappedAt (now (numbers .entry)) p ≡ false) × ((r ≡ 17 → ⊥) → isMappedAt (now (numbers .entry)) p ≡ true) ⌝ }
+{
+    if is_free(numbers, p) {
+        return 17;
+    }
+    let u = numbers[1188 + p] % 256;
+    if u <= 16 { u - 1 } else { 17 }
+}
+
+// Whether the tree at place i carries the label at place p.
+fn carries_at(numbers: &[u64], i: usize, p: u64) -> bool
+    requires { ⌜ length (now numbers) ≡ 1444 ⌝ }
+    ensures { λ r. ⌜ r ≡ carriesAt (now (numbers .entry)) i p ⌝ }
+{
+    if 256 <= p {
+        return false;
+    }
+    let k = p as usize;
+    if mapped_at(numbers, k) == 17 {
+        return false;
+    }
+    numbers[1188 + k] / 256 == i as u64
+}
+
 // ---- trees
+
+// Whether the tree at place i carries the label that it has for its own.
+pub fn carries_own(numbers: &[u64], i: usize) -> bool
+    requires { ⌜ (length (now numbers) ≡ 1444) × (i < 64) ⌝ }
+    ensures { λ r. ⌜ r ≡ carriesAt (now (numbers .entry)) i (ownPlace (now (numbers .entry)) i) ⌝ }
+{
+    carries_at(numbers, i, numbers[36 + i])
+}
 
 pub fn tree_label(numbers: &[u64], i: usize) -> u64
     requires { ⌜ (length (now numbers) ≡ 1444) × (i < treeCount (now numbers)) × (i < 64) ⌝ }
     ensures { λ r. ⌜ ((os : List ℕ) → r ≡ treeAt i (cardOf (now (numbers .entry)) os) .label) ⌝ }
 {
-    let p = numbers[36 + i];
-    if p < 256 { base(numbers) + p } else { 0 }
+    if carries_own(numbers, i) {
+        base(numbers) + numbers[36 + i]
+    } else {
+        0
+    }
 }
 
 pub fn is_leaf(numbers: &[u64], i: usize) -> bool
@@ -79,6 +127,32 @@ pub fn branch(numbers: &[u64], i: usize, n: usize) -> u64
     ensures { λ r. ⌜ ((os : List ℕ) → r ≡ getD (treeAt i (cardOf (now (numbers .entry)) os) .branches) n 0) ⌝ }
 {
     numbers[101 + i * 17 + n]
+}
+
+// The sixteen branches, all read before the caller writes one: so a lookup makes no copy on the way to the lent array.
+pub fn branches(numbers: &[u64], i: usize) -> [u64; 16]
+    requires { ⌜ (length (now numbers) ≡ 1444) × (i < treeCount (now numbers)) × (i < 64) ⌝ }
+    ensures { λ r. ⌜ ((os : List ℕ) → r ≡ treeAt i (cardOf (now (numbers .entry)) os) .branches) ⌝ }
+{
+    let a = 101 + i * 17;
+    [
+        numbers[a + 0],
+        numbers[a + 1],
+        numbers[a + 2],
+        numbers[a + 3],
+        numbers[a + 4],
+        numbers[a + 5],
+        numbers[a + 6],
+        numbers[a + 7],
+        numbers[a + 8],
+        numbers[a + 9],
+        numbers[a + 10],
+        numbers[a + 11],
+        numbers[a + 12],
+        numbers[a + 13],
+        numbers[a + 14],
+        numbers[a + 15],
+    ]
 }
 
 // Whether the tree has a branch, apart from that of neighbour `but` (16: none apart).
@@ -152,50 +226,21 @@ pub fn set_leaf(numbers: &mut [u64], i: usize, leaf: bool)
     numbers[100 + i * 17] = if leaf { 1 } else { 0 };
 }
 
-// The tree carries the label at place p of the block from now on; or none.
-pub fn set_label(numbers: &mut [u64], i: usize, p: usize)
-    requires { ⌜ (length (now numbers) ≡ 1444) × (i < treeCount (now numbers)) × (i < 64) × (p < 256) ⌝ }
-    ensures { λ _. ⌜ ((os : List ℕ) → cardOf (now (numbers .exit)) os ≡ setLabel i (baseIn (now (numbers .entry)) + p) (cardOf (now (numbers .entry)) os)) ⌝ }
-{
-    numbers[36 + i] = p as u64;
-}
-
-pub fn clear_label(numbers: &mut [u64], i: usize)
-    requires { ⌜ (length (now numbers) ≡ 1444) × (i < treeCount (now numbers)) × (i < 64) ⌝ }
-    ensures { λ _. ⌜ ((os : List ℕ) → cardOf (now (numbers .exit)) os ≡ setLabel i 0 (cardOf (now (numbers .entry)) os)) ⌝ }
-{
-    numbers[36 + i] = 256;
-}
-
 // ---- labels
-
-// The mark of a label; 0, as of a free one, outside the block.
-fn mark(numbers: &[u64], label: u64) -> u64
-    requires { ⌜ length (now numbers) ≡ 1444 ⌝ }
-    ensures { λ r. ⌜ ((os : List ℕ) → useOf label (cardOf (now (numbers .entry)) os) ≡ useIn r (labelName os (label - baseIn (now (numbers .entry))))) ⌝ }
-{
-    let b = base(numbers);
-    if label < b {
-        return 0;
-    }
-    let p = label - b;
-    if p < 256 {
-        numbers[1188 + p as usize]
-    } else {
-        0
-    }
-}
 
 // The neighbour to which a label is mapped; 17 for none.
 pub fn mapped_to(numbers: &[u64], label: u64) -> u64
     requires { ⌜ length (now numbers) ≡ 1444 ⌝ }
     ensures { λ r. ⌜ ((os : List ℕ) → r ≡ mappedTo (useOf label (cardOf (now (numbers .entry)) os))) × (r ≤ 17) ⌝ }
 {
-    let m = mark(numbers, label);
-    if m == 0 {
+    let b = base(numbers);
+    if label < b {
         return 17;
     }
-    if m <= 16 { m - 1 } else { 17 }
+    if 256 <= label - b {
+        return 17;
+    }
+    mapped_at(numbers, (label - b) as usize)
 }
 
 // The neighbour for which the tree at place i holds its label; 17 for none.
@@ -203,7 +248,11 @@ pub fn held_for(numbers: &[u64], i: usize) -> u64
     requires { ⌜ (length (now numbers) ≡ 1444) × (i < treeCount (now numbers)) × (i < 64) ⌝ }
     ensures { λ r. ⌜ ((os : List ℕ) → r ≡ heldFor (cardOf (now (numbers .entry)) os) (treeAt i (cardOf (now (numbers .entry)) os))) × (r ≤ 17) ⌝ }
 {
-    mapped_to(numbers, tree_label(numbers, i))
+    if carries_own(numbers, i) {
+        mapped_at(numbers, numbers[36 + i] as usize)
+    } else {
+        17
+    }
 }
 
 fn label_name(names: &[u8], p: usize) -> &[u8]
@@ -217,7 +266,7 @@ fn label_name(names: &[u8], p: usize) -> &[u8]
 pub fn is_awaited(numbers: &[u64], names: &[u8], neighbour: u64, name: &[u8], label: u64) -> bool
     requires { ⌜ (length (now numbers) ≡ 1444) × (length (now names) ≡ 18144) × (neighbour < 16) ⌝ }
     ensures { λ r. ⌜ (r ≡ isAwaiting neighbour (now (name .entry)) (useOf label (cardOf (now (numbers .entry)) (now (names .entry)))))
-        × (r ≡ true → (baseIn (now (numbers .entry)) ≤ label) × (label < baseIn (now (numbers .entry)) + 256)) ⌝ }
+        × (r ≡ true → (baseIn (now (numbers .entry)) ≤ label) × (label < baseIn (now (numbers .entry)) + 256) × (isMappedAt (now (numbers .entry)) (label - baseIn (now (numbers .entry))) ≡ false)) ⌝ }
 {
     let b = base(numbers);
     if label < b {
@@ -227,21 +276,10 @@ pub fn is_awaited(numbers: &[u64], names: &[u8], neighbour: u64, name: &[u8], la
         return false;
     }
     let p = (label - b) as usize;
-    if numbers[1188 + p] != 17 + neighbour {
+    if numbers[1188 + p] % 256 != 17 + neighbour {
         return false;
     }
     octets::equal(label_name(names, p), name)
-}
-
-fn is_free(numbers: &[u64], p: usize) -> bool
-    requires { ⌜ (length (now numbers) ≡ 1444) × (p < 256) ⌝ }
-    ensures { λ r. ⌜ ((os : List ℕ) → r ≡ isFree (labelIn (now (numbers .entry)) os p)) ⌝ }
-{
-    let m = numbers[1188 + p];
-    if m == 0 {
-        return true;
-    }
-    32 < m
 }
 
 pub fn free_labels(numbers: &[u64]) -> usize
@@ -281,7 +319,7 @@ pub fn labels_short(numbers: &[u64], needed: usize) -> bool
 // The place of the lowest free label; 256 where none is free.
 pub fn lowest_free(numbers: &[u64]) -> usize
     requires { ⌜ length (now numbers) ≡ 1444 ⌝ }
-    ensures { λ r. ⌜ ((os : List ℕ) → r ≡ place isFree (cardOf (now (numbers .entry)) os .labels)) × (r ≤ 256) ⌝ }
+    ensures { λ r. ⌜ ((os : List ℕ) → r ≡ place isFree (cardOf (now (numbers .entry)) os .labels)) × (r ≤ 256) × (r < 256 → isFreeAt (now (numbers .entry)) r ≡ true) ⌝ }
 {
     let mut p = 0;
     while p < 256 {
@@ -293,86 +331,37 @@ pub fn lowest_free(numbers: &[u64]) -> usize
     256
 }
 
-// Whether a number is none of those from place a on: of two, of four, of eight.
-fn none_of_two(numbers: &[u64], a: usize, p: u64) -> bool
-    requires { ⌜ a + 2 ≤ length (now numbers) ⌝ }
-    ensures { λ r. ⌜ (r ≡ true → Without (now (numbers .entry)) a 2 p) ⌝ }
-{
-    (numbers[a] != p) & (numbers[a + 1] != p)
-}
-
-fn none_of_four(numbers: &[u64], a: usize, p: u64) -> bool
-    requires { ⌜ a + 4 ≤ length (now numbers) ⌝ }
-    ensures { λ r. ⌜ (r ≡ true → Without (now (numbers .entry)) a 4 p) ⌝ }
-{
-    none_of_two(numbers, a, p) & none_of_two(numbers, a + 2, p)
-}
-
-fn none_of_eight(numbers: &[u64], a: usize, p: u64) -> bool
-    requires { ⌜ a + 8 ≤ length (now numbers) ⌝ }
-    ensures { λ r. ⌜ (r ≡ true → Without (now (numbers .entry)) a 8 p) ⌝ }
-{
-    none_of_four(numbers, a, p) & none_of_four(numbers, a + 4, p)
-}
-
-// The same from place `from` on, one tree after the other.
-fn carrier_from(numbers: &[u64], label: u64, from: usize) -> usize
-    requires { ⌜ (length (now numbers) ≡ 1444) × (baseIn (now numbers) ≤ label) × (label < baseIn (now numbers) + 256) × (from ≤ treeCount (now numbers)) × (from ≤ 64) ⌝ }
-    ensures { λ r. ⌜ ((os : List ℕ) → r ≡ from + place (carries label) (drop from (cardOf (now (numbers .entry)) os .trees))) × (r ≤ treeCount (now (numbers .entry))) × (r ≤ 64) ⌝ }
-{
-    let p = label - base(numbers);
-    let n = tree_count(numbers);
-    let mut i = from;
-    while i < n {
-        if numbers[36 + i] == p {
-            return i;
-        }
-        i += 1;
-    }
-    n
-}
-
-// The place of the tree that carries a label of the block; the number of trees where none does. Trees that do not carry it
-// are passed over by eights.
+// The place of the tree that carries a label of the block; the number of trees where none does. The label's mark names it.
 pub fn carrier_place(numbers: &[u64], label: u64) -> usize
     requires { ⌜ (length (now numbers) ≡ 1444) × (baseIn (now numbers) ≤ label) × (label < baseIn (now numbers) + 256) ⌝ }
     ensures { λ r. ⌜ ((os : List ℕ) → r ≡ place (carries label) (cardOf (now (numbers .entry)) os .trees)) × (r ≤ treeCount (now (numbers .entry))) × (r ≤ 64) ⌝ }
 {
     let p = label - base(numbers);
     let n = tree_count(numbers);
-    let mut i = 0;
-    while 8 <= n - i {
-        if !none_of_eight(numbers, 36 + i, p) {
-            return carrier_from(numbers, label, i);
-        }
-        i += 8;
+    let k = p as usize;
+    if mapped_at(numbers, k) == 17 {
+        return n;
     }
-    carrier_from(numbers, label, i)
+    let i = (numbers[1188 + k] / 256) as usize;
+    if n <= i {
+        return n;
+    }
+    if numbers[36 + i] == p { i } else { n }
 }
 
-// The label that the tree carries was mapped, and awaits release from now on.
-pub fn end_use(numbers: &mut [u64], i: usize)
+// The label that the tree carries awaits release from now on, and the tree carries none: a label that is not mapped has no carrier.
+pub fn end_label(numbers: &mut [u64], i: usize)
     requires { ⌜ (length (now numbers) ≡ 1444) × (i < treeCount (now numbers)) × (i < 64) × ((os : List ℕ) → treeAt i (cardOf (now numbers) os) .label ≡ 0 → ⊥) ⌝ }
     ensures { λ _. ⌜ ((os : List ℕ) → cardOf (now (numbers .exit)) os
-        ≡ setUse (treeAt i (cardOf (now (numbers .entry)) os) .label) (ended (useOf (treeAt i (cardOf (now (numbers .entry)) os) .label) (cardOf (now (numbers .entry)) os))) (cardOf (now (numbers .entry)) os)) ⌝ }
+        ≡ setLabel i 0 (setUse (treeAt i (cardOf (now (numbers .entry)) os) .label) (ended (useOf (treeAt i (cardOf (now (numbers .entry)) os) .label) (cardOf (now (numbers .entry)) os))) (cardOf (now (numbers .entry)) os))) ⌝ }
 {
-    let p = numbers[36 + i];
-    if 256 <= p {
-        return;
-    }
-    let k = 1188 + p as usize;
-    let m = numbers[k];
-    if m == 0 {
-        return;
-    }
-    if 16 < m {
-        return;
-    }
-    numbers[k] = m + 16;
+    let k = 1188 + numbers[36 + i] as usize;
+    numbers[k] = numbers[k] % 256 + 16;
 }
 
+// A label that is not mapped is free from now on.
 pub fn free_label(numbers: &mut [u64], label: u64)
-    requires { ⌜ (length (now numbers) ≡ 1444) × (baseIn (now numbers) ≤ label) × (label < baseIn (now numbers) + 256) ⌝ }
+    requires { ⌜ (length (now numbers) ≡ 1444) × (baseIn (now numbers) ≤ label) × (label < baseIn (now numbers) + 256) × (isMappedAt (now numbers) (label - baseIn (now numbers)) ≡ false) ⌝ }
     ensures { λ _. ⌜ ((os : List ℕ) → cardOf (now (numbers .exit)) os ≡ setUse label free (cardOf (now (numbers .entry)) os)) ⌝ }
 {
     let p = (label - base(numbers)) as usize;

@@ -1,7 +1,7 @@
 use native.Mathlib.Omega.{arith}
 use mathlib.Core.Path.{ap}
 use lib.ListN.{length}
-use Rattle.moves.proofs.Steps.{use-many, free-place, gave}
+use Rattle.moves.proofs.Steps.{free-place, gave}
 use borrow.Author.Needs.{needs}
 use Rattle.moves.proofs.give.Statement.{statement}
 use Rattle.moves.proofs.give.Tie as tie
@@ -31,13 +31,10 @@ send-requires c κs =
 
 map-label-requires : tie.Need-map-label-requires
 map-label-requires c κs =
-    let s = c .before .before .before .before .before .before .before .before .before .before .before .before .before .before .before in
-    (s .pre .0, s .pre .1, free-place _ (s .args .names .now) _ (c .before .before .before .before .before .before .before .before .before .before .lowest-free .ensures .0 _) (s .pre .5), s .pre .2, s .pre .3, s .pre .4)
-
-set-label-requires : tie.Need-set-label-requires
-set-label-requires c κs =
-    let s = c .before .before .before .before .before .before .before .before .before .before .before .before .before .before .before .before .before .before .before .before .before in
-    (search needs, rw (use-many _ _ _ _ _ _ (c .before .before .before .before .before .map-label .ensures)) (s .pre .2), s .pre .3, free-place _ (s .args .names .now) _ (c .before .before .before .before .before .before .before .before .before .before .before .before .before .before .before .before .lowest-free .ensures .0 _) (s .pre .5))
+    let f = c .before .before .before .before .before .before .before .before .before .before in
+    let s = f .before .before .before .before .before in
+    let p = free-place _ (s .args .names .now) _ (f .lowest-free .ensures .0 _) (s .pre .5) in
+    (s .pre .0, s .pre .1, p, s .pre .2, s .pre .3, s .pre .4, f .lowest-free .ensures .2 p)
 
 same-length : tie.Need-same-length
 same-length c = search needs
@@ -50,9 +47,12 @@ same-length-3 c = search needs
 
 returns : tie.Need-returns
 returns c =
-    let s = c .before .before .before .before .before .before .before .before .before .before .before .before .before .before .before .before .before .before .before .before .before .before .before .before in
-    let n = c .before .before .before .before .before .before .before .before .before .before .before .before .before .before .before in
-    gave (s .args .i) (s .args .u) _ _ (s .args .id) (s .args .at) _ _ _ _ (s .args .names .now) _ _ _ _ (c .before .before .before .before .before .before .before .before .before .before .before .before .before .before .before .before .before .base .ensures .0) (s .pre .5) (c .before .before .before .before .before .before .before .before .before .before .before .before .before .before .before .before .before .before .before .lowest-free .ensures .0 _) (n .tree-name .ensures .0 _ (s .pre .2)) (c .before .before .before .before .before .before .before .before .before .before .before .before .before .send .ensures .0) (c .before .before .before .before .before .before .before .before .before .before .before .before .before .send .ensures .1) (c .before .before .before .before .before .before .before .before .map-label .ensures) (c .before .before .set-label .ensures _)
+    let w = c .before .before .before .before .before .before .before .before .before in
+    let n = w .before .before in
+    let b = n .before .before in
+    let f = b .before .before in
+    let s = f .before .before .before .before .before in
+    gave (s .args .i) (s .args .u) _ _ (s .args .id) (s .args .at) _ _ _ (s .args .names .now) _ _ _ _ (b .base .ensures .0) (s .pre .5) (f .lowest-free .ensures .0 _) (n .tree-name .ensures .0 _ (s .pre .2)) (w .send .ensures .0) (w .send .ensures .1) (c .before .before .before .before .map-label .ensures)
 
 pub give-spec : {M : Type 1} → statement M
 give-spec =
@@ -66,7 +66,6 @@ give-spec =
     add-end-2
     send-requires
     map-label-requires
-    set-label-requires
     same-length
     same-length-2
     same-length-3

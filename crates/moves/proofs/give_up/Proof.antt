@@ -1,7 +1,7 @@
 use native.Mathlib.Omega.{arith}
 use mathlib.Core.Path.{sym, ap, _∙_}
 use lib.ListN.{length}
-use Rattle.moves.proofs.Steps.{use-many, gave-up}
+use Rattle.moves.proofs.Steps.{gave-up}
 use borrow.Author.Needs.{needs}
 use Rattle.moves.proofs.give_up.Statement.{statement}
 use Rattle.moves.proofs.give_up.Tie as tie
@@ -26,17 +26,11 @@ send-requires c κs =
     let s = c .before .before .before .before .before .before .before .before .before in
     (omega (arith, ap length (c .before .tree-name .ensures .0 _ (s .pre .2)), s .pre .5), omega arith)
 
-end-use-requires : tie.Need-end-use-requires
-end-use-requires c κs =
-    let s = c .before .before .before .before .before .before .before .before .before .before .before .before .before in
+end-label-requires : tie.Need-end-label-requires
+end-label-requires c κs =
     let l = c .before .before .before .before .before .before in
+    let s = l .before .before .before .before .before .before .before in
     (search needs, search needs, search needs, λ os z. s .pre .4 (sym (l .tree-label .ensures _) ∙ l .tree-label .ensures os ∙ z))
-
-clear-label-requires : tie.Need-clear-label-requires
-clear-label-requires c κs =
-    let s = c .before .before .before .before .before .before .before .before .before .before .before .before .before .before .before .before .before in
-    let u = c .before .before .before in
-    (search needs, rw (use-many _ _ _ _ _ _ (u .end-use .ensures (s .args .names .now))) (s .pre .2), s .pre .3)
 
 same-length : tie.Need-same-length
 same-length c = search needs
@@ -46,12 +40,12 @@ same-length-2 c = search needs
 
 returns : tie.Need-returns
 returns c =
-    let s = c .before .before .before .before .before .before .before .before .before .before .before .before .before .before .before .before .before .before .before .before in
-    let n = c .before .before .before .before .before .before .before .before .before .before .before .before in
+    let w = c .before .before .before .before .before .before in
+    let n = w .before .before in
     let l = n .before in
-    let h = n .before .before .before in
-    let w = c .before .before .before .before .before .before .before .before .before .before in
-    gave-up (s .args .i) (s .args .id) (s .args .at) _ _ _ _ _ _ (s .args .names .now) _ _ _ (s .pre .2) (s .pre .4) (h .held-for .ensures .0 _) (l .tree-label .ensures _) (n .tree-name .ensures .0 _ (s .pre .2)) (w .send .ensures .0) (w .send .ensures .1) (c .before .before .before .before .before .before .end-use .ensures _) (c .before .before .clear-label .ensures _)
+    let h = l .before .before in
+    let s = h .before .before .before .before .before in
+    gave-up (s .args .i) (s .args .id) (s .args .at) _ _ _ _ _ (s .args .names .now) _ _ _ (s .pre .2) (s .pre .4) (h .held-for .ensures .0 _) (l .tree-label .ensures _) (n .tree-name .ensures .0 _ (s .pre .2)) (w .send .ensures .0) (w .send .ensures .1) (c .before .before .end-label .ensures _)
 
 pub give-up-spec : {M : Type 1} → statement M
 give-up-spec =
@@ -63,8 +57,7 @@ give-up-spec =
     add-end
     add-end-2
     send-requires
-    end-use-requires
-    clear-label-requires
+    end-label-requires
     same-length
     same-length-2
     returns)

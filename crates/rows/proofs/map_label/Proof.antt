@@ -1,3 +1,5 @@
+use native.Mathlib.Omega.{arith}
+use lib.ListN.{length-set}
 use Rattle.rows.proofs.Rows.{map-label}
 use borrow.Author.Needs.{needs}
 use Rattle.rows.proofs.map_label.Statement.{statement}
@@ -18,14 +20,29 @@ copy-within-requires c κs = search needs
 add-numbers : tie.Need-add-numbers
 add-numbers c = search needs
 
-add-numbers-2 : tie.Need-add-numbers-2
-add-numbers-2 c = search needs
-
 mul-numbers : tie.Need-mul-numbers
 mul-numbers c = search needs
 
+add-numbers-2 : tie.Need-add-numbers-2
+add-numbers-2 c = search needs
+
+add-numbers-3 : tie.Need-add-numbers-3
+add-numbers-3 c = search needs
+
+mul-numbers-2 : tie.Need-mul-numbers-2
+mul-numbers-2 c = search needs
+
 slice-write-numbers : tie.Need-slice-write-numbers
 slice-write-numbers c = search needs
+
+add-numbers-4 : tie.Need-add-numbers-4
+add-numbers-4 c = search needs
+
+mul-numbers-3 : tie.Need-mul-numbers-3
+mul-numbers-3 c = search needs
+
+slice-write-numbers-2 : tie.Need-slice-write-numbers-2
+slice-write-numbers-2 c = simp length-set (omega arith)
 
 same-length : tie.Need-same-length
 same-length c = search needs
@@ -36,7 +53,7 @@ same-length-2 c = search needs
 returns : tie.Need-returns
 returns c =
     let s = c .before .before .before .before .before .before in
-    map-label _ _ _ _ _ _ (s .pre .0) (s .pre .1) (s .pre .2) (s .pre .3) (s .pre .4) (s .pre .5) (c .before .before .copy-within .ensures)
+    map-label _ _ _ _ _ _ (s .pre .0) (s .pre .1) (s .pre .2) (s .pre .3) (s .pre .4) (s .pre .5) (s .pre .6) (c .before .before .copy-within .ensures)
 
 pub map-label-spec : {M : Type 1} → statement M
 map-label-spec =
@@ -47,9 +64,14 @@ map-label-spec =
     add-copy-within
     copy-within-requires
     add-numbers
-    add-numbers-2
     mul-numbers
+    add-numbers-2
+    add-numbers-3
+    mul-numbers-2
     slice-write-numbers
+    add-numbers-4
+    mul-numbers-3
+    slice-write-numbers-2
     same-length
     same-length-2
     returns)

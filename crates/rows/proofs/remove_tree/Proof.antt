@@ -9,6 +9,9 @@ use Rattle.rows.proofs.remove_tree.Tie as tie
 tree-count-requires : tie.Need-tree-count-requires
 tree-count-requires c κs = search needs
 
+lower-behind-requires : tie.Need-lower-behind-requires
+lower-behind-requires c κs = search needs
+
 add-close-numbers : tie.Need-add-close-numbers
 add-close-numbers c = search needs
 
@@ -49,7 +52,11 @@ slice-write-numbers : tie.Need-slice-write-numbers
 slice-write-numbers c = search needs
 
 same-length : tie.Need-same-length
-same-length c = simp length-set (c .before .before .before .before .before .before .close-numbers2 .ensures .long ∙ c .before .before .before .before .before .before .before .before .before .before .close-numbers .ensures .long)
+same-length c =
+    let m = c .before .before .before .before .before .before in
+    let l = m .before .before .before .before in
+    let w = l .before .before .before .before in
+    simp length-set (m .close-numbers2 .ensures .long ∙ l .close-numbers .ensures .long ∙ w .lower-behind .ensures .long)
 
 same-length-2 : tie.Need-same-length-2
 same-length-2 c = search needs
@@ -58,15 +65,17 @@ returns : tie.Need-returns
 returns c =
     let m = c .before .before .before .before .before .before in
     let l = m .before .before .before .before in
-    let k = l .before .before in
+    let w = l .before .before .before .before in
+    let k = w .before .before in
     let s = k .before .before .before .before in
-    remove-tree _ _ _ _ _ _ _ (s .pre .0) (k .tree-count .ensures .0) (omega (arith, k .tree-count .ensures .0, s .pre)) (l .close-numbers .ensures) (m .close-numbers2 .ensures) (c .before .before .close-octets .ensures)
+    remove-tree _ _ _ _ _ _ _ _ (s .pre .0) (k .tree-count .ensures .0) (omega (arith, k .tree-count .ensures .0, s .pre)) (w .lower-behind .ensures) (l .close-numbers .ensures) (m .close-numbers2 .ensures) (c .before .before .close-octets .ensures)
 
 pub remove-tree-spec : {M : Type 1} → statement M
 remove-tree-spec =
     tie.close
     (tie.spec
     tree-count-requires
+    lower-behind-requires
     add-close-numbers
     add-close-numbers-2
     close-numbers-requires

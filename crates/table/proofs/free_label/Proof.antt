@@ -23,7 +23,7 @@ same-length : tie.Need-same-length
 same-length c = search needs
 
 returns : tie.Need-returns
-returns c = λ os. let s = c .before .before .before in free-label (s .args .numbers .now) os (s .args .label) (c .base .result) (s .pre .0) (c .base .ensures .0) (omega arith) (omega arith)
+returns c = λ os. let s = c .before .before .before in free-label (s .args .numbers .now) os (s .args .label) (c .base .result) (s .pre .0) (c .base .ensures .0) (omega arith) (omega arith) (rw (c .base .ensures .0) (s .pre .3))
 
 pub free-label-spec : {M : Type 1} → statement M
 free-label-spec =

@@ -39,8 +39,8 @@ loop-again : tie.Need-loop-again Inv-loop μ-loop
 loop-again c =
     let l = c .before .before in
     ⊎-elim
-    (λ w. (omega arith, omega arith, (λ os. rw (w .1) (l .before .loop .inv .2 os ∙ count-hit isFree 256 (labelIn _ os) _ _ (l .loop-test .taken) (sym (c .before .is-free .ensures os) ∙ w .0 .taken)))))
-    (λ w. (omega arith, omega arith, (λ os. rw (w .1) (l .before .loop .inv .2 os ∙ count-miss isFree 256 (labelIn _ os) _ _ (l .loop-test .taken) (sym (c .before .is-free .ensures os) ∙ w .0 .left)))))
+    (λ w. (omega arith, omega arith, (λ os. rw (w .1) (l .before .loop .inv .2 os ∙ count-hit isFree 256 (labelIn _ os) _ _ (l .loop-test .taken) (sym (c .before .is-free .ensures .1 os) ∙ w .0 .taken)))))
+    (λ w. (omega arith, omega arith, (λ os. rw (w .1) (l .before .loop .inv .2 os ∙ count-miss isFree 256 (labelIn _ os) _ _ (l .loop-test .taken) (sym (c .before .is-free .ensures .1 os) ∙ w .0 .left)))))
     (c .if1 .came)
 
 returns : tie.Need-returns Inv-loop μ-loop

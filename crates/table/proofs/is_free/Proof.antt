@@ -1,22 +1,26 @@
+use mathlib.Core.Path.{_≡_, refl, sym, _∙_}
+use lib.Dec.{eqb}
 use borrow.Author.Needs.{needs}
-use Rattle.table.proofs.Laws.{free-none, free-some}
+use Rattle.table.specs.Memory.{markAt, markUse, isFreeAt}
+use Rattle.table.proofs.Marks.{free-in}
 use Rattle.table.proofs.is_free.Statement.{statement}
 use Rattle.table.proofs.is_free.Tie as tie
 
-add-m : tie.Need-add-m
-add-m c = search needs
+add-result : tie.Need-add-result
+add-result c = search needs
 
-mul-m : tie.Need-mul-m
-mul-m c = search needs
+mul-result : tie.Need-mul-result
+mul-result c = search needs
 
-shared-slice-read-m : tie.Need-shared-slice-read-m
-shared-slice-read-m c = search needs
+shared-slice-read-result : tie.Need-shared-slice-read-result
+shared-slice-read-result c = search needs
 
 returns : tie.Need-returns
-returns c = λ os. let s = c .before .before in free-none (s .args .numbers .now) os (s .args .p) (c .if1 .taken)
-
-returns-2 : tie.Need-returns-2
-returns-2 c = λ os. let s = c .before .before in free-some (s .args .numbers .now) os (s .args .p) (c .if1 .left)
+returns c =
+    let s = c .before in
+    let ns = s .args .numbers .now in
+    let e : eqb (markUse (markAt ns (s .args .p))) 0 ≡ isFreeAt ns (s .args .p) = unfold isFreeAt in refl in
+    (e, λ os. e ∙ sym (free-in ns (s .args .p) os))
 
 pub is-free-spec : {M : Type 1} → statement M
-is-free-spec = tie.close (tie.spec add-m mul-m shared-slice-read-m returns returns-2)
+is-free-spec = tie.close (tie.spec add-result mul-result shared-slice-read-result returns)

@@ -49,8 +49,8 @@ loop-again : tie.Need-loop-again Inv-loop μ-loop
 loop-again c =
     let l = c .before .before .before .before in
     ⊎-elim
-    (λ w. (omega arith, omega arith, (λ os. rw (w .1) (l .loop .inv .2 os ∙ count-hit isFree 256 (labelIn _ os) _ _ (omega arith) (sym (c .before .is-free .ensures os) ∙ w .0 .taken)))))
-    (λ w. (omega arith, omega arith, (λ os. rw (w .1) (l .loop .inv .2 os ∙ count-miss isFree 256 (labelIn _ os) _ _ (omega arith) (sym (c .before .is-free .ensures os) ∙ w .0 .left)))))
+    (λ w. (omega arith, omega arith, (λ os. rw (w .1) (l .loop .inv .2 os ∙ count-hit isFree 256 (labelIn _ os) _ _ (omega arith) (sym (c .before .is-free .ensures .1 os) ∙ w .0 .taken)))))
+    (λ w. (omega arith, omega arith, (λ os. rw (w .1) (l .loop .inv .2 os ∙ count-miss isFree 256 (labelIn _ os) _ _ (omega arith) (sym (c .before .is-free .ensures .1 os) ∙ w .0 .left)))))
     (c .if2 .came)
 
 returns-2 : tie.Need-returns-2 Inv-loop μ-loop

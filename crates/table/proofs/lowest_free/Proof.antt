@@ -28,7 +28,7 @@ is-free-requires c κs = search needs
 returns : tie.Need-returns Inv-loop μ-loop
 returns c =
     let l = c .before .before in
-    ((λ os. sym (l .before .loop .inv .1 os ∙ place-hit isFree 256 (labelIn _ os) _ (l .loop-test .taken) (sym (c .before .is-free .ensures os) ∙ c .if1 .taken))), omega arith)
+    ((λ os. sym (l .before .loop .inv .1 os ∙ place-hit isFree 256 (labelIn _ os) _ (l .loop-test .taken) (sym (c .before .is-free .ensures .1 os) ∙ c .if1 .taken))), omega arith, (λ _. sym (c .before .is-free .ensures .0) ∙ c .if1 .taken))
 
 add-p : tie.Need-add-p Inv-loop μ-loop
 add-p c = search needs
@@ -39,10 +39,10 @@ loop-less c = search needs
 loop-again : tie.Need-loop-again Inv-loop μ-loop
 loop-again c =
     let l = c .before .before in
-    (omega arith, (λ os. l .before .loop .inv .1 os ∙ place-miss isFree 256 (labelIn _ os) _ (l .loop-test .taken) (sym (c .before .is-free .ensures os) ∙ c .if1 .left)))
+    (omega arith, (λ os. l .before .loop .inv .1 os ∙ place-miss isFree 256 (labelIn _ os) _ (l .loop-test .taken) (sym (c .before .is-free .ensures .1 os) ∙ c .if1 .left)))
 
 returns-2 : tie.Need-returns-2 Inv-loop μ-loop
-returns-2 c = ((λ os. sym (c .before .loop .inv .1 os ∙ place-none isFree 256 (labelIn _ os) _ (c .loop-test .left) (c .before .loop .inv .0))), omega arith)
+returns-2 c = ((λ os. sym (c .before .loop .inv .1 os ∙ place-none isFree 256 (labelIn _ os) _ (c .loop-test .left) (c .before .loop .inv .0))), omega arith, (λ h. absurd (omega arith)))
 
 pub lowest-free-spec : {M : Type 1} → statement M
 lowest-free-spec =

@@ -1,25 +1,28 @@
-use native.Mathlib.Omega.{arith}
 use mathlib.Core.Path.{sym, ap, _∙_}
-use borrow.Author.Needs.{needs}
+use native.Mathlib.Omega.{arith}
 use Rattle.meaning.specs.Card.{mappedTo}
-use Rattle.table.proofs.Laws.{mapped-none, mapped-some, mapped-other}
+use Rattle.table.proofs.Laws.{use-at, maps-under, maps-above}
+use borrow.Author.Needs.{needs}
 use Rattle.table.proofs.mapped_to.Statement.{statement}
 use Rattle.table.proofs.mapped_to.Tie as tie
 
-mark-requires : tie.Need-mark-requires
-mark-requires c κs = search needs
+base-requires : tie.Need-base-requires
+base-requires c κs = search needs
 
 returns : tie.Need-returns
-returns c = ((λ os. mapped-none _ _ (c .if1 .taken) ∙ ap mappedTo (sym (c .before .mark .ensures os))), omega arith)
-
-sub-result : tie.Need-sub-result
-sub-result c = search needs
+returns c = ((λ os. maps-under _ os _ _ (c .before .base .ensures .0) (c .if1 .taken)), omega arith)
 
 returns-2 : tie.Need-returns-2
-returns-2 c = ((λ os. mapped-some _ _ (c .before .if1 .left) (c .if2 .taken) ∙ ap mappedTo (sym (c .before .before .mark .ensures os))), omega arith)
+returns-2 c = ((λ os. maps-above _ os _ _ (c .before .before .base .ensures .0) (c .before .if1 .left) (c .if2 .taken)), omega arith)
+
+mapped-at-requires : tie.Need-mapped-at-requires
+mapped-at-requires c κs = search needs
 
 returns-3 : tie.Need-returns-3
-returns-3 c = ((λ os. mapped-other _ _ (c .before .if1 .left) (c .if2 .left) ∙ ap mappedTo (sym (c .before .before .mark .ensures os))), omega arith)
+returns-3 c =
+    let t = c .before in
+    let b = t .before .before in
+    ((λ os. c .mapped-at .ensures .0 os ∙ ap mappedTo (sym (use-at _ os _ _ (b .base .ensures .0) (t .before .if1 .left) (t .if2 .left)))), c .mapped-at .ensures .1)
 
 pub mapped-to-spec : {M : Type 1} → statement M
-mapped-to-spec = tie.close (tie.spec mark-requires returns sub-result returns-2 returns-3)
+mapped-to-spec = tie.close (tie.spec base-requires returns returns-2 mapped-at-requires returns-3)

@@ -8,7 +8,7 @@ is-awaited-requires : tie.Need-is-awaited-requires
 is-awaited-requires c κs = search needs
 
 free-label-requires : tie.Need-free-label-requires
-free-label-requires c κs = let b = c .before .before .is-awaited .ensures .1 (c .before .if1 .taken) in (search needs, b .0, b .1)
+free-label-requires c κs = let b = c .before .before .is-awaited .ensures .1 (c .before .if1 .taken) in (search needs, b .0, b .1, b .2)
 
 same-length : tie.Need-same-length
 same-length c = search needs

@@ -1,0 +1,123 @@
+-- Trees that are made ready to stand one place lower: the marks of their labels name the lower place. Assumes nothing.
+use Prim.Native.Nat.{ℕ, _+_, _*_, _-_, _≤_, _<_}
+use native.Mathlib.Omega.{arith}
+use mathlib.Core.Path.{_≡_, refl, sym, _∙_}
+use mathlib.Core.Bool.{true, false}
+use mathlib.Core.List.{List}
+use lib.ListN.{length, set, length-set}
+use lib.Seq.{getD-set-same, getD-set-other}
+use lib.Dec.{eqb}
+use borrow.Author.Tests.{eqb-true, eqb-false}
+use Rattle.meaning.specs.Lists.{by-test}
+use Rattle.table.specs.Memory.{markAt, markUse, markPlace, isFreeAt, isMappedAt, labelIn, ownPlace, carriesAt}
+use Rattle.table.proofs.Memory.{base-same, own-same, label-same, agree-refl, agree-set}
+use Rattle.table.proofs.Marks.{mapped-at, mapped-use, carried-in, carried-out, not-far, not-named, own-some, own-none, own-beside}
+use Rattle.rows.specs.Parts.{Lowered, LoweredOne}
+
+-- the same use, whatever place the mark names
+use-kept : (ns ms os : List ℕ) (p : ℕ) → markUse (markAt ms p) ≡ markUse (markAt ns p) → labelIn ms os p ≡ labelIn ns os p
+unfolding labelIn isFreeAt
+use-kept ns ms os p e = rw e refl
+
+module _ (ns : List ℕ) (j : ℕ) (l : length ns ≡ 1444) (h : j + 1 < 64) where
+  -- the tree carries its label
+  module _ (c : carriesAt ns (j + 1) (ownPlace ns (j + 1)) ≡ true) where
+    pub own-inside : ownPlace ns (j + 1) < 256
+    own-inside = carried-out ns (j + 1) (ownPlace ns (j + 1)) c .0
+
+    pub own-named : 256 ≤ markAt ns (ownPlace ns (j + 1))
+    own-named = let e : markPlace (markAt ns (ownPlace ns (j + 1))) ≡ j + 1 = carried-out ns (j + 1) (ownPlace ns (j + 1)) c .2 in omega arith
+
+    pub lower-carried : LoweredOne j ns (set ns (1188 + ownPlace ns (j + 1)) (markAt ns (ownPlace ns (j + 1)) - 256))
+    lower-carried = record {
+      long = length-set ns (1188 + p) v;
+      rest = λ k x y. getD-set-other ns (1188 + p) k v 0 (λ e. y (omega (arith, own-inside)) (omega (arith, own-inside)));
+      uses = uses;
+      moved = rw (own-at (j + 1) h, own-some ms j p (carried-in ms j p own-inside now-mapped now-place), own-some ns (j + 1) p c, base-same ns ms ns ns (agree-set 0 1 ns (1188 + p) v (λ a b. omega arith))) refl;
+      others = λ q a q64 ne n0 n1. rw (own-at q q64) (own-beside ns p v a (ownPlace ns q) (λ e. rw e (not-named ns a p (λ z. n1 (sym z ∙ place)), not-named ms a p (λ z. n0 (sym z ∙ now-place)))));
+    }
+      where
+        p : ℕ
+        p = ownPlace ns (j + 1)
+
+        v : ℕ
+        v = markAt ns p - 256
+
+        ms : List ℕ
+        ms = set ns (1188 + p) v
+
+        place : markPlace (markAt ns p) ≡ j + 1
+        place = carried-out ns (j + 1) p c .2
+
+        now : markAt ms p ≡ v
+        now = getD-set-same ns (1188 + p) v 0 (omega (arith, own-inside))
+
+        now-use : markUse (markAt ms p) ≡ markUse (markAt ns p)
+        now-use = let e = now in let q = own-named in omega arith
+
+        now-place : markPlace (markAt ms p) ≡ j
+        now-place = let e = now in let q = place in omega arith
+
+        now-mapped : isMappedAt ms p ≡ true
+        now-mapped =
+            let u = mapped-use ns p (carried-out ns (j + 1) p c .1) in
+            let e = now-use in
+            mapped-at ms p (omega arith) (omega arith)
+
+        own-at : (q : ℕ) → q < 64 → ownPlace ms q ≡ ownPlace ns q
+        own-at q q64 = getD-set-other ns (1188 + p) (36 + q) v 0 (λ e. omega arith)
+
+        uses : (os : List ℕ) (q : ℕ) → q < 256 → labelIn ms os q ≡ labelIn ns os q
+        uses os q lt =
+            by-test (eqb q p)
+            (λ t. let e : q ≡ p = eqb-true q p t in rw e (use-kept ns ms os p now-use))
+            (λ t. label-same ns ms os os q (agree-set (1188 + q) 1 ns (1188 + p) v (λ a b. eqb-false q p t (omega arith))) (agree-refl (3520 + q * 55) 55 os))
+
+  -- it does not: it has none for its own
+  pub lower-cleared : carriesAt ns (j + 1) (ownPlace ns (j + 1)) ≡ false → LoweredOne j ns (set ns (36 + (j + 1)) 256)
+  lower-cleared c = record {
+    long = length-set ns (36 + (j + 1)) 256;
+    rest = λ k x y. getD-set-other ns (36 + (j + 1)) k 256 0 (λ e. x (omega arith) (omega arith));
+    uses = λ os q lt. label-same ns ms os os q (agree-set (1188 + q) 1 ns (36 + (j + 1)) 256 (λ a b. omega arith)) (agree-refl (3520 + q * 55) 55 os);
+    moved = own-none ms j (ownPlace ms (j + 1)) (not-far ms j (ownPlace ms (j + 1)) (omega (arith, now))) ∙ sym (own-none ns (j + 1) (ownPlace ns (j + 1)) c);
+    others = λ q a q64 ne n0 n1.
+        rw (getD-set-other ns (36 + (j + 1)) (36 + q) 256 0 (λ e. ne (omega arith)))
+        (own-same ns ms ns ns a (ownPlace ns q) (agree-set 0 1 ns (36 + (j + 1)) 256 (λ x y. omega arith)) (λ lt. getD-set-other ns (36 + (j + 1)) (1188 + ownPlace ns q) 256 0 (λ e. omega arith)));
+  }
+    where
+      ms : List ℕ
+      ms = set ns (36 + (j + 1)) 256
+
+      now : ownPlace ms (j + 1) ≡ 256
+      now = getD-set-same ns (36 + (j + 1)) 256 0 (omega arith)
+
+-- ---- all behind a place, one after the other
+
+pub lowered-none : (i : ℕ) (ns : List ℕ) → Lowered i i ns ns
+lowered-none i ns = record {
+  long = refl;
+  rest = λ k x y. refl;
+  uses = λ os p h. refl;
+  before = λ q h k. refl;
+  moved = λ q h k. absurd (omega arith);
+  behind = λ q h k. refl;
+}
+
+pub lowered-more : (i j : ℕ) (ns ms ks : List ℕ) → i ≤ j → j + 1 < 64 → Lowered i j ns ms → LoweredOne j ms ks → Lowered i (j + 1) ns ks
+lowered-more i j ns ms ks h k w o = record {
+  long = o .long ∙ w .long;
+  rest = λ k x y. o .rest k x y ∙ w .rest k x y;
+  uses = λ os p lt. o .uses os p lt ∙ w .uses os p lt;
+  before = λ q lt q64. o .others q q q64 (λ e. omega arith) (λ e. omega arith) (λ e. omega arith) ∙ w .before q lt q64;
+  moved = λ q le lt.
+      by-test (eqb q j)
+      (λ t. let e : q ≡ j = eqb-true q j t in rw e (o .moved ∙ w .behind (j + 1) (omega arith) k))
+      (λ t.
+      let ne = eqb-false q j t in
+      let less : q < j = sharper q j (omega arith) ne in
+      o .others (q + 1) q (omega arith) (λ e. ne (omega arith)) ne (λ e. omega arith) ∙ w .moved q le less);
+  behind = λ q lt q64. o .others q q q64 (λ e. omega arith) (λ e. omega arith) (λ e. omega arith) ∙ w .behind q (omega arith) q64;
+}
+  where
+    sharper : (q j : ℕ) → q ≤ j → (q ≡ j → ⊥) → q < j
+    sharper q j le ne = omega arith
