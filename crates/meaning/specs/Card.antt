@@ -2,12 +2,12 @@
 -- Places do for absence: a search gives the list's length where it finds nothing, and reading there gives "no route", an empty tree, a free label.
 -- Assumes nothing: every definition means something on any table.
 use Prim.Native.Nat.{ℕ, suc, _+_, _-_}
-use mathlib.Core.Bool.{Bool, true, false, not, _&&_}
+use mathlib.Core.Bool.{Bool, true, false, not, _&&_, _||_}
 use mathlib.Core.List.{List, [], _∷_}
 use lib.ListN.{getD, length, set, replicate}
 use lib.Dec.{eqb, leb, ltb}
 use Rattle.meaning.specs.Octets.{pick, place, count, any, same}
-use Rattle.meaning.specs.Wire.{elementRefusal}
+use Rattle.meaning.specs.Wire.{rootIn, elementRefusal}
 
 -- ---- sizes
 
@@ -123,6 +123,15 @@ isBranch l = ltb 0 l
 unfoldable pub isEmpty : Tree → Bool
 isEmpty t = not (any isBranch (t .branches)) && not (t .leaf)
 
+-- A branch from the upstream is HELD: it stays in the table, and leads nowhere, since a feed would go back to whom it came from.
+-- These are the branches that are not held where u is the upstream (16 or 17: no neighbour is).
+unfoldable pub notHeld : ℕ → Tree → List ℕ
+notHeld u t = set (t .branches) u 0
+
+-- whether the tree has a leaf, or a branch from a neighbour other than u
+unfoldable pub leadsOn : ℕ → Tree → Bool
+leadsOn u t = any isBranch (notHeld u t) || t .leaf
+
 -- ---- labels
 
 unfoldable pub isFree : Use → Bool
@@ -177,8 +186,9 @@ branchesFrom n (l ∷ ls) =
     let here : List Branch = record { neighbour = n; label = l } ∷ later in
     pick (isBranch l) here later
 
-unfoldable pub feedOf : Tree → Feed
-feedOf t = record { branches = branchesFrom 0 (t .branches); leaf = t .leaf }
+-- where the tree leads while u is its upstream
+unfoldable pub feedOf : ℕ → Tree → Feed
+feedOf u t = record { branches = branchesFrom 0 (notHeld u t); leaf = t .leaf }
 
 -- the first tree that carries the label
 unfoldable pub carries : ℕ → Tree → Bool
@@ -187,9 +197,10 @@ carries l t = eqb (t .label) l
 unfoldable pub carrier : ℕ → Card → Tree
 carrier l c = treeAt (place (carries l) (c .trees)) c
 
+-- who sends on a mapped label is the neighbour that it is mapped to
 unfoldable pub feedOfUse : ℕ → Card → Use → Feed
 feedOfUse l c free = nothing
-feedOfUse l c (mapped n a) = feedOf (carrier l c)
+feedOfUse l c (mapped n a) = feedOf n (carrier l c)
 feedOfUse l c (awaiting n a) = nothing
 
 unfoldable pub lookupLabel : ℕ → Card → Feed
@@ -197,4 +208,4 @@ lookupLabel l c = feedOfUse l c (useOf l c)
 
 -- by the octets of an element
 unfoldable pub lookupName : List ℕ → Card → Feed
-lookupName e c = pick (eqb (elementRefusal e) 0) (feedOf (treeOf e c)) nothing
+lookupName e c = pick (eqb (elementRefusal e) 0) (feedOf (routeOf (rootIn e) c) (treeOf e c)) nothing

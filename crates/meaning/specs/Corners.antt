@@ -104,29 +104,30 @@ readings =
     anew (heard 5 withdraw A 100) 0 (wrote 1 5 release 100) 256 16 [] ∷
     maps (heard 1 mapping A 100) ∷
     then (heard 1 withdraw A 101) 0 (wrote 2 1 release 101) 255 16 (1 ∷ 100 ∷ []) ∷
-    -- 10: the branch stands with another label; with the same: nothing; a Mapping from the upstream is a branch
+    -- 10: the branch stands with another label; with the same: nothing; a Mapping from the upstream is a branch, and held
     then (heard 1 mapping A 101) 10 [] 255 16 (1 ∷ 100 ∷ []) ∷
     then (heard 1 mapping A 100) 0 [] 255 16 (1 ∷ 100 ∷ []) ∷
-    then (heard 0 mapping A 100) 0 [] 255 16 (0 ∷ 100 ∷ 1 ∷ 100 ∷ []) ∷
+    then (heard 0 mapping A 100) 0 [] 255 16 (1 ∷ 100 ∷ []) ∷
+    then (heard 0 mapping A 101) 10 [] 255 16 (1 ∷ 100 ∷ []) ∷
     -- 13 (reading 8): a label that is still mapped; one that is free; one outside the block
-    then (heard 0 release A 16) 13 [] 255 16 (0 ∷ 100 ∷ 1 ∷ 100 ∷ []) ∷
-    then (heard 0 release A 17) 13 [] 255 16 (0 ∷ 100 ∷ 1 ∷ 100 ∷ []) ∷
+    then (heard 0 release A 16) 13 [] 255 16 (1 ∷ 100 ∷ []) ∷
+    then (heard 0 release A 17) 13 [] 255 16 (1 ∷ 100 ∷ []) ∷
     then (heard 0 release A 272) 13 [] 255 272 [] ∷
     -- a leaf joins, twice, and leaves, twice: 14
-    then (join A) 0 [] 255 16 (0 ∷ 100 ∷ 1 ∷ 100 ∷ 1 ∷ []) ∷
-    then (join A) 0 [] 255 16 (0 ∷ 100 ∷ 1 ∷ 100 ∷ 1 ∷ []) ∷
-    then (leave A) 0 [] 255 16 (0 ∷ 100 ∷ 1 ∷ 100 ∷ []) ∷
-    then (leave A) 14 [] 255 16 (0 ∷ 100 ∷ 1 ∷ 100 ∷ []) ∷
+    then (join A) 0 [] 255 16 (1 ∷ 100 ∷ 1 ∷ []) ∷
+    then (join A) 0 [] 255 16 (1 ∷ 100 ∷ 1 ∷ []) ∷
+    then (leave A) 0 [] 255 16 (1 ∷ 100 ∷ []) ∷
+    then (leave A) 14 [] 255 16 (1 ∷ 100 ∷ []) ∷
     -- the route goes to this node, the branches stay, the label awaits; the same route again; no route; the same again (reading 6)
     then (route (rootIn A) 16) 0 (wrote 3 0 withdraw 16) 255 16 [] ∷
     then (route (rootIn A) 16) 0 [] 255 16 [] ∷
     then (route (rootIn A) 17) 0 [] 255 16 [] ∷
     then (route (rootIn A) 17) 0 [] 255 16 [] ∷
     -- back to neighbour 0: a new label, while 16 still awaits (reading 10)
-    then (route (rootIn A) 0) 0 (wrote 4 0 mapping 17) 254 17 (0 ∷ 100 ∷ 1 ∷ 100 ∷ []) ∷
+    then (route (rootIn A) 0) 0 (wrote 4 0 mapping 17) 254 17 (1 ∷ 100 ∷ []) ∷
     -- 13 (reading 8): the Release names another tree; then the tree itself: taken
     then (heard 0 release (wide 7) 16) 13 [] 254 16 [] ∷
-    then (heard 0 release A 16) 0 [] 255 17 (0 ∷ 100 ∷ 1 ∷ 100 ∷ []) ∷
+    then (heard 0 release A 16) 0 [] 255 17 (1 ∷ 100 ∷ []) ∷
     -- a leaf alone, no route known: the tree stands without a label, and needs none (reading 5)
     anew (join other) 0 [] 256 16 [] ∷
     -- its route comes, and it gets one; it leaves, and the label is withdrawn
@@ -149,6 +150,38 @@ readings =
     inRoom 40 (then (heard 2 withdraw A 200) 16 [] 255 16 (1 ∷ 100 ∷ 2 ∷ 200 ∷ [])) ∷
     -- 16 comes last
     inRoom 0 (then (heard 2 mapping A 201) 10 [] 255 16 (1 ∷ 100 ∷ 2 ∷ 200 ∷ [])) ∷
+    []
+
+-- ---- branches that are held
+
+unfoldable pub heldRows : List Row
+heldRows =
+    -- a new tree with a branch from its upstream alone stands without a label
+    anew (heard 0 mapping A 100) 0 [] 256 16 [] ∷
+    -- a branch from another neighbour: it needs one now, and does not lead back; the branch goes, and the label, and the tree stays
+    then (heard 1 mapping A 200) 0 (wrote 1 0 mapping 16) 255 16 (1 ∷ 200 ∷ []) ∷
+    then (heard 1 withdraw A 200) 0 (wrote 2 1 release 200 ++ wrote 3 0 withdraw 16) 255 16 [] ∷
+    then (heard 0 mapping A 101) 10 [] 255 16 [] ∷
+    -- so with a leaf
+    then (join A) 0 (wrote 4 0 mapping 17) 254 17 (1 ∷ []) ∷
+    then (leave A) 0 (wrote 5 0 withdraw 17) 254 17 [] ∷
+    then (join A) 0 (wrote 6 0 mapping 18) 253 18 (1 ∷ []) ∷
+    -- another upstream: the branch comes alive
+    then (route (rootIn A) 1) 0 (wrote 7 0 withdraw 18 ++ wrote 8 1 mapping 19) 252 19 (0 ∷ 100 ∷ 1 ∷ []) ∷
+    -- the leaf leaves, and the label stays; a branch from the new upstream is held
+    then (leave A) 0 [] 252 19 (0 ∷ 100 ∷ []) ∷
+    then (heard 1 mapping A 300) 0 [] 252 19 (0 ∷ 100 ∷ []) ∷
+    -- back: the one wakes and the other falls silent
+    then (route (rootIn A) 0) 0 (wrote 9 1 withdraw 19 ++ wrote 10 0 mapping 20) 251 20 (1 ∷ 300 ∷ []) ∷
+    -- its own branch goes: only the held one remains, the label ends
+    then (heard 1 withdraw A 300) 0 (wrote 11 1 release 300 ++ wrote 12 0 withdraw 20) 251 20 [] ∷
+    -- a route order for a tree that held no label: to this node nothing is sent, and then to neighbour 2 a Mapping
+    then (route (rootIn A) 16) 0 [] 251 20 [] ∷
+    then (route (rootIn A) 2) 0 (wrote 13 2 mapping 21) 250 21 (0 ∷ 100 ∷ []) ∷
+    -- to its only branch: the label ends, and no other is given; the branch goes, and the tree, which sends nothing of its own
+    then (route (rootIn A) 0) 0 (wrote 14 2 withdraw 21) 250 21 [] ∷
+    then (heard 0 withdraw A 100) 0 (wrote 15 0 release 100) 250 21 [] ∷
+    then (leave A) 14 [] 250 21 [] ∷
     []
 
 -- ---- few labels, many trees, many roots
@@ -219,6 +252,32 @@ lastRows =
     then (join other) 0 [] 0 19 (1 ∷ []) ∷
     []
 
+-- a tree of A's root that stands with a branch from neighbour 0 alone, and one with a branch from neighbour 3 alone
+unfoldable pub paired : Card
+paired = event enough (event enough (grown 1) (heard 0 mapping (kin 8) 100) .card) (heard 3 mapping (kin 9) 100) .card
+
+-- no label is left
+unfoldable pub needyRows : List Row
+needyRows =
+    -- 12: the standing tree would need a label, for a branch, for a leaf; a further held or other branch to a tree that has one needs none
+    anew (heard 1 mapping (kin 8) 200) 12 [] 0 16 (1 ∷ []) ∷
+    anew (join (kin 8)) 12 [] 0 16 (1 ∷ []) ∷
+    anew (heard 0 mapping (kin 0) 200) 0 [] 0 16 (1 ∷ []) ∷
+    anew (heard 1 mapping (kin 0) 200) 0 [] 0 16 (1 ∷ 200 ∷ 1 ∷ []) ∷
+    -- a new tree with a held branch needs none
+    anew (heard 0 mapping (kin 7) 200) 0 [] 0 16 (1 ∷ []) ∷
+    -- a Withdraw is taken
+    anew (heard 3 withdraw (kin 9) 100) 0 (recordOf 3 (tell 3 release (kin 9) 100) ++ recordOf 4 (tell 0 withdraw (kin 9) 17)) 0 17 [] ∷
+    []
+
+-- two are left
+unfoldable pub countedRows : List Row
+countedRows =
+    -- 12: to neighbour 5 all three trees need a label afterwards; to neighbour 3 two of them do, since the third has its only branch there
+    anew (route (rootIn A) 5) 12 [] 2 16 (1 ∷ []) ∷
+    anew (route (rootIn A) 3) 0 (recordOf 3 (tell 0 withdraw (kin 0) 16) ++ (recordOf 4 (tell 3 mapping (kin 0) 18) ++ (recordOf 5 (tell 3 mapping (kin 8) 19) ++ recordOf 6 (tell 0 withdraw (kin 9) 17)))) 0 19 (0 ∷ 100 ∷ []) ∷
+    []
+
 -- a root of four octets
 unfoldable pub root : ℕ → List ℕ
 root k = 10 ∷ 0 ∷ 0 ∷ k ∷ []
@@ -264,6 +323,11 @@ others =
     -- Reading 11: a lookup by name; octets that 6 or 7 refuse name none
     && same (feed (lookupName (kin 0) (grown 2))) (1 ∷ []) && same (feed (lookupName A (grown 2))) []
     && same (feed (lookupName [] (grown 2))) [] && same (feed (lookupName (wide 0) (grown 2))) []
+    -- a branch that is held stays out of a lookup by name too, until the upstream is another
+    && same (feed (lookupName (kin 8) paired)) [] && same (feed (lookupName (kin 9) paired)) (3 ∷ 100 ∷ [])
+    && same (feed (lookupName (kin 8) (event enough paired (route (rootIn A) 3) .card))) (0 ∷ 100 ∷ [])
+    && same (feed (lookupName (kin 9) (event enough paired (route (rootIn A) 3) .card))) []
+    && same (feed (lookupName (kin 9) (event enough paired (route (rootIn A) 16) .card))) (3 ∷ 100 ∷ [])
 
 -- ---- the one statement
 
@@ -272,6 +336,9 @@ pub corners-shown : NoneWrong (wrong 1 firstCard firstCard readings)
     × NoneWrong (wrong 1 (left 2 (grown 3)) firstCard scarceRows)
     × NoneWrong (wrong 1 (left 1 (grown 3)) firstCard lastRows)
     × NoneWrong (wrong 1 (rooted 32) firstCard rootRows)
+    × NoneWrong (wrong 1 firstCard firstCard heldRows)
+    × NoneWrong (wrong 1 (left 0 paired) firstCard needyRows)
+    × NoneWrong (wrong 1 (left 2 paired) firstCard countedRows)
     × T others
-unfolding computing readings other packed fec label said odd wrong firstCard agrees flat feed A wide heard wrote kin grown scarce left crowd usedBy fullCard fullRows scarceRows lastRows root rooted rootRows rootsOf rerouted startsAs others
-corners-shown = (tt, tt, tt, tt, tt, tt)
+unfolding computing readings other packed fec label said odd wrong firstCard agrees flat feed A wide heard wrote kin grown scarce left crowd usedBy fullCard fullRows scarceRows lastRows root rooted rootRows heldRows paired needyRows countedRows rootsOf rerouted startsAs others
+corners-shown = (tt, tt, tt, tt, tt, tt, tt, tt, tt)

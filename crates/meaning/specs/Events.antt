@@ -7,7 +7,7 @@ use lib.ListN.{getD, length, set}
 use lib.Dec.{eqb, leb, ltb}
 use Rattle.meaning.specs.Octets.{pick, same, put, cut, _when_else_}
 use Rattle.meaning.specs.Wire.{rootIn, elementRefusal, Message, messageIn, messageRefusal, mapping, withdraw, release, Sent, records, idsAfter}
-use Rattle.meaning.specs.Card.{noRoute, Route, Tree, Use, free, mapped, awaiting, Card, fresh, withNext, withRoutes, withTrees, withLabels, withBranch, withLeaf, withLabel, routePlace, routeOf, treePlace, treeOf, treeAt, stands, isEmpty, isAwaiting, useOf, heldFor, lowestFree, freeLabels, treeLimit, routeLimit}
+use Rattle.meaning.specs.Card.{noRoute, Route, Tree, Use, free, mapped, awaiting, Card, fresh, withNext, withRoutes, withTrees, withLabels, withBranch, withLeaf, withLabel, routePlace, routeOf, treePlace, treeOf, treeAt, stands, isEmpty, leadsOn, isAwaiting, useOf, heldFor, lowestFree, freeLabels, treeLimit, routeLimit}
 
 -- ---- what an event hands back
 
@@ -119,11 +119,14 @@ labelsShort c needed = ltb (freeLabels c) needed
 unfoldable pub upstream : ℕ → ℕ
 upstream via = pick (ltb via 16) via noRoute
 
+-- A tree holds a label exactly while its route is a neighbour u and it has a leaf or a branch from another neighbour: u, or 17 for none.
+unfoldable pub holder : ℕ → Tree → ℕ
+holder u t = pick (leadsOn u t) u noRoute
+
 -- ---- an event of one tree
 
--- an empty tree holds no label
 unfoldable pub upstreamOf : Card → Tree → ℕ
-upstreamOf c t = pick (isEmpty t) noRoute (upstream (routeOf (rootIn (t .name)) c))
+upstreamOf c t = holder (upstream (routeOf (rootIn (t .name)) c)) t
 
 -- t in place of the tree of its name, or after the others
 unfoldable pub entered : Card → Tree → Card
@@ -218,7 +221,7 @@ ofRoot r t = same (rootIn (t .name)) r
 
 -- the tree at place i, if it is of root r: its label was held for the old route, which is another
 unfoldable pub moveOne : List ℕ → ℕ → ℕ → Card → Moved
-moveOne r u i c = pick (ofRoot r (treeAt i c)) (moveLabel i u c) (still c)
+moveOne r u i c = pick (ofRoot r (treeAt i c)) (moveLabel i (holder u (treeAt i c)) c) (still c)
 
 -- the n trees from place i on, one after the other
 unfoldable pub moveFrom : List ℕ → ℕ → ℕ → ℕ → Card → Moved
@@ -231,7 +234,7 @@ moveAll r u c = moveFrom r u (length (c .trees)) 0 c
 
 -- how many free labels that takes
 unfoldable pub needOne : List ℕ → ℕ → Tree → ℕ
-needOne r u t = pick (ofRoot r t) (needMove u) 0
+needOne r u t = pick (ofRoot r t) (needMove (holder u t)) 0
 
 -- the sum of a number that each tree has, over the n trees from place i on
 unfoldable pub sumFrom : (Tree → ℕ) → ℕ → ℕ → Card → ℕ

@@ -14,3 +14,4 @@ pub mod Handed
 pub mod Notice
 pub mod NoticeExamples
 pub mod NoticeLaws
+pub mod RoutesStay
