@@ -17,8 +17,8 @@ use Rattle.meaning.specs.Lists.{by-test, picked, same-eq, count-new, no-when}
 use Rattle.meaning.specs.RoundTrip.{Heard, heard, AllSendable, sendable-append}
 use Rattle.promise.specs.LiveLaws.{linked-eq, upd, free-linked, books-eq, books-remove, books-removed}
 use Rattle.promise.specs.CardLaws.{use-after, in-block, shape, Proper, tree-name, tree-sized, entered-is, entered-tidy, put-within, swept-is, swept-tidy, swept-use, swept-labels, swept-base, swept-routes}
-use Rattle.promise.specs.RuleLaws.{Ruled, shape-empty, upstream-same, route-ruled, put-in, put-more, cut-in, put-other-at, swept-at}
-use Rattle.promise.specs.LabelLaws.{at-other, held-other, relabel-own, Sound, Fine, relabel-fine, relabel-none, none-append, note-append, Kept, all-kept, use-place}
+use Rattle.promise.specs.RuleLaws.{empty-asked, Ruled, shape-empty, upstream-same, route-ruled, put-in, put-more, cut-in, put-other-at, swept-at}
+use Rattle.promise.specs.LabelLaws.{holder-near, at-other, held-other, relabel-own, Sound, Fine, relabel-fine, relabel-none, none-append, note-append, Kept, all-kept, use-place}
 
 -- ---- what an event that is taken makes of the tree named a
 
@@ -83,7 +83,7 @@ release-quiet gs n a l g = (
   (record { near = g .near; says = record { kind = refl; kind-fits = omega arith; name = g .name; low = g .low; high = g .high } }, tt),
 )
 
-upstream-near : (via : ℕ) → eqb (upstream via) noRoute ≡ false → upstream via < 16
+pub upstream-near : (via : ℕ) → eqb (upstream via) noRoute ≡ false → upstream via < 16
 unfolding upstream
 upstream-near via =
     by-test (ltb via 16)
@@ -92,10 +92,7 @@ upstream-near via =
 
 with-near : (c : Card) (t : Tree) → eqb (upstreamOf c t) noRoute ≡ false → upstreamOf c t < 16
 unfolding upstreamOf
-with-near c t =
-    by-test (isEmpty t)
-    (λ e. rw e (λ z. absurd (let z′ : _≡_ {A = ℕ} 0 1 = cc in omega arith)))
-    (λ e. rw e (upstream-near _))
+with-near c t = holder-near _ t (upstream-near _)
 
 -- ---- one tree's event
 
@@ -174,7 +171,7 @@ module _ (c : Card) (gs : List Given) (S : Sound c gs) (a : List ℕ) (good : el
     unfolding upstreamOf relabelled
     bare-label e =
         let empty : isEmpty its ≡ true = sym (shape-empty _ _ (fine .at its-place ∙ ap shape its-at)) ∙ e in
-        relabel-none (entered c its) gs entered-sound its-place its-within (upstreamOf c its) (with-near c its) entered-enough (rw empty refl)
+        relabel-none (entered c its) gs entered-sound its-place its-within (upstreamOf c its) (with-near c its) entered-enough (empty-asked c its empty)
 
     within-after : its-place < length (relabelled .card .trees)
     within-after = rw (fine .size) its-within

@@ -11,8 +11,8 @@ use lib.Dec.{eqb}
 use borrow.Author.Tests.{eqb-true, eqb-false, eq-eqb, le-leb, lt-leb}
 use Rattle.meaning.specs.Octets.{pick, place, same}
 use Rattle.meaning.specs.Wire.{elementRefusal, isKind, withdraw, Sent}
-use Rattle.meaning.specs.Card.{Tree, Use, free, mapped, awaiting, Card, noRoute, withTrees, withLabels, withLabel, treePlace, treeOf, treeAt, isFree, mappedTo, useOf, heldFor, lowestFree, freeLabels}
-use Rattle.meaning.specs.Events.{Moved, still, followedBy, setUse, setLabel, ended, giveUp, give, letGo, takeUp, moveLabel, relabel, needMove, need, ofRoot, moveOne, moveFrom, moveAll, needOne, sumFrom, needAll}
+use Rattle.meaning.specs.Card.{Tree, Use, free, mapped, awaiting, Card, noRoute, withTrees, withLabels, withLabel, treePlace, treeOf, treeAt, leadsOn, isFree, mappedTo, useOf, heldFor, lowestFree, freeLabels}
+use Rattle.meaning.specs.Events.{Moved, still, followedBy, setUse, setLabel, ended, giveUp, give, letGo, takeUp, moveLabel, relabel, needMove, need, holder, ofRoot, moveOne, moveFrom, moveAll, needOne, sumFrom, needAll}
 use Rattle.promise.specs.Promise.{Given, noteSent, noteAll, NoneLive}
 use Rattle.meaning.specs.Lists.{by-test, picked, same-eq, count-set, count-set-place}
 use Rattle.meaning.specs.RoundTrip.{AllSendable, sendable-append}
@@ -405,12 +405,17 @@ module _ (c : Card) (gs : List Given) (S : Sound c gs) (i : ℕ) (h : i < length
   unfolding heldFor
   held-other j k n = ap mappedTo (rw (at-named c (S .tidy) j k) at (p .uses (treeAt j c .name) (names-apart j k n)))
 
+-- whoever is to hold the label is a neighbour, where u is one
+pub holder-near : (u : ℕ) (t : Tree) → (eqb u noRoute ≡ false → u < 16) → eqb (holder u t) noRoute ≡ false → holder u t < 16
+unfolding holder
+holder-near u t near = picked (λ (x : ℕ). eqb x noRoute ≡ false → x < 16) (leadsOn u t) (λ _. near) (λ _ e. absurd (eqb-false noRoute noRoute e refl))
+
 module _ (r : List ℕ) (u : ℕ) (near : eqb u noRoute ≡ false → u < 16) where
   pub one-fine : (c : Card) (gs : List Given) → Sound c gs → (i : ℕ) → i < length (c .trees) → needOne r u (treeAt i c) ≤ freeLabels c → Fine i c gs (moveOne r u i c)
   unfolding moveOne needOne
   one-fine c gs S i h enough =
       by-test (ofRoot r (treeAt i c))
-      (λ e. rw e (move-fine c gs S i h u near (rw e at enough)))
+      (λ e. rw e (move-fine c gs S i h (holder u (treeAt i c)) (holder-near u (treeAt i c) near) (rw e at enough)))
       (λ e. rw e (still-fine i c gs S))
 
   pub one-free : (c : Card) (gs : List Given) → Sound c gs → (i : ℕ) → i < length (c .trees) → needOne r u (treeAt i c) ≤ freeLabels c
@@ -418,7 +423,7 @@ module _ (r : List ℕ) (u : ℕ) (near : eqb u noRoute ≡ false → u < 16) wh
   unfolding moveOne needOne still
   one-free c gs S i h enough =
       by-test (ofRoot r (treeAt i c))
-      (λ e. rw e (move-free c gs S i h u near (rw e at enough)))
+      (λ e. rw e (move-free c gs S i h (holder u (treeAt i c)) (holder-near u (treeAt i c) near) (rw e at enough)))
       (λ e. rw e (omega arith))
 
   module _ (c : Card) (gs : List Given) (S : Sound c gs) (i : ℕ) (h : i < length (c .trees)) (m : Moved) (p : Fine i c gs m) where
@@ -450,11 +455,11 @@ module _ (r : List ℕ) (u : ℕ) (near : eqb u noRoute ≡ false → u < 16) wh
   -- ---- for whom the trees hold their labels afterwards
 
   one-held : (c : Card) (gs : List Given) → Sound c gs → (i : ℕ) → i < length (c .trees) → needOne r u (treeAt i c) ≤ freeLabels c
-      → heldFor (moveOne r u i c .card) (treeAt i (moveOne r u i c .card)) ≡ pick (ofRoot r (treeAt i c)) u (heldFor c (treeAt i c))
+      → heldFor (moveOne r u i c .card) (treeAt i (moveOne r u i c .card)) ≡ pick (ofRoot r (treeAt i c)) (holder u (treeAt i c)) (heldFor c (treeAt i c))
   unfolding moveOne needOne still
   one-held c gs S i h enough =
       by-test (ofRoot r (treeAt i c))
-      (λ e. rw e (move-own c gs S i h u near (rw e at enough)))
+      (λ e. rw e (move-own c gs S i h (holder u (treeAt i c)) (holder-near u (treeAt i c) near) (rw e at enough)))
       (λ e. rw e refl)
 
   -- another tree, over one step
@@ -479,9 +484,9 @@ module _ (r : List ℕ) (u : ℕ) (near : eqb u noRoute ≡ false → u < 16) wh
       from-before n (suc i) (moveOne r u i c .card) _ (p .sound) (omega arith) (omega arith) j (omega arith) (omega arith)
       ∙ one-other c gs S i within first j k (λ e. omega arith)
 
-  -- those from place i on hold theirs for u, where they are of the root
+  -- those from place i on hold theirs as the new route asks, where they are of the root
   from-held : (n i : ℕ) (c : Card) (gs : List Given) → Sound c gs → i + n ≤ length (c .trees) → sumFrom (needOne r u) n i c ≤ freeLabels c → (j : ℕ) → i ≤ j → j < i + n
-      → heldFor (moveFrom r u n i c .card) (treeAt j (moveFrom r u n i c .card)) ≡ pick (ofRoot r (treeAt j c)) u (heldFor c (treeAt j c))
+      → heldFor (moveFrom r u n i c .card) (treeAt j (moveFrom r u n i c .card)) ≡ pick (ofRoot r (treeAt j c)) (holder u (treeAt j c)) (heldFor c (treeAt j c))
   unfolding moveFrom sumFrom followedBy still
   from-held zero i c gs S h enough j le lt = absurd (omega arith)
   from-held (suc n) i c gs S h enough j le lt =
@@ -492,13 +497,13 @@ module _ (r : List ℕ) (u : ℕ) (near : eqb u noRoute ≡ false → u < 16) wh
       let spent = one-free c gs S i within first in
       let size : length (moveOne r u i c .card .trees) ≡ length (c .trees) = p .size in
       by-test (eqb i j)
-      (λ e. subst (λ (x : ℕ). heldFor (moveFrom r u n (suc i) (moveOne r u i c .card) .card) (treeAt x (moveFrom r u n (suc i) (moveOne r u i c .card) .card)) ≡ pick (ofRoot r (treeAt x c)) u (heldFor c (treeAt x c))) (eqb-true i j e)
+      (λ e. subst (λ (x : ℕ). heldFor (moveFrom r u n (suc i) (moveOne r u i c .card) .card) (treeAt x (moveFrom r u n (suc i) (moveOne r u i c .card) .card)) ≡ pick (ofRoot r (treeAt x c)) (holder u (treeAt x c)) (heldFor c (treeAt x c))) (eqb-true i j e)
       (from-before n (suc i) (moveOne r u i c .card) _ (p .sound) (omega arith) (omega arith) i (le-refl _) (omega arith) ∙ one-held c gs S i within first))
       (λ e. let d : i ≡ j → ⊥ = eqb-false i j e in
       from-held n (suc i) (moveOne r u i c .card) _ (p .sound) (omega arith) (omega arith) j (omega arith) (omega arith)
-      ∙ ap₂ (λ (t : Tree) (x : ℕ). pick (ofRoot r t) u x) (at-other c gs S i within (moveOne r u i c) p j (omega arith) d) (one-other c gs S i within first j (omega arith) d))
+      ∙ ap₂ (λ (t : Tree) (x : ℕ). pick (ofRoot r t) (holder u t) x) (at-other c gs S i within (moveOne r u i c) p j (omega arith) d) (one-other c gs S i within first j (omega arith) d))
 
   pub all-held : (c : Card) (gs : List Given) → Sound c gs → needAll r u c ≤ freeLabels c → (j : ℕ) → j < length (c .trees)
-      → heldFor (moveAll r u c .card) (treeAt j (moveAll r u c .card)) ≡ pick (ofRoot r (treeAt j c)) u (heldFor c (treeAt j c))
+      → heldFor (moveAll r u c .card) (treeAt j (moveAll r u c .card)) ≡ pick (ofRoot r (treeAt j c)) (holder u (treeAt j c)) (heldFor c (treeAt j c))
   unfolding moveAll needAll
   all-held c gs S enough j k = from-held (length (c .trees)) 0 c gs S (omega arith) enough j (omega arith) (omega arith)

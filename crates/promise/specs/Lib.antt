@@ -4,7 +4,9 @@ pub mod CardLaws
 pub mod LabelLaws
 pub mod RuleLaws
 pub mod EventLaws
+pub mod RouteLaws
 pub mod PromiseProof
 pub mod RulesKept
 pub mod Sizes
+pub mod NoWayBack
 pub mod PromiseExample

@@ -4,11 +4,11 @@ use Prim.Native.Nat.{ℕ, zero, suc, _+_, _≤_}
 use mathlib.Core.Path.{_≡_}
 use mathlib.Core.Bool.{Bool, true, false, _&&_}
 use mathlib.Core.List.{List, [], _∷_}
-use lib.ListN.{length}
+use lib.ListN.{length, set}
 use lib.Dec.{eqb}
 use Rattle.meaning.specs.Octets.{pick, count, same}
-use Rattle.meaning.specs.Wire.{mapping, withdraw, release, Message, messageIn, Sent, records, recordsIn}
-use Rattle.meaning.specs.Card.{Card, treeOf, freeLabels, Feed, nothing, branchesFrom, lookupLabel}
+use Rattle.meaning.specs.Wire.{rootIn, mapping, withdraw, release, Message, messageIn, Sent, records, recordsIn}
+use Rattle.meaning.specs.Card.{noRoute, Card, treeOf, freeLabels, Feed, nothing, branchesFrom, lookupLabel}
 use Rattle.meaning.specs.Events.{Event, receive, join, leave, route, Out, event, start}
 
 -- ---- live labels, from the messages alone
@@ -83,9 +83,17 @@ unfoldable pub branchesBy : List ℕ → ℕ → ℕ → List Event → List ℕ
 branchesBy a n zero es = []
 branchesBy a n (suc k) es = branchBy a n es ∷ branchesBy a (suc n) k es
 
--- by rising neighbour number
+-- the route of a root: that of its latest order; no route where there is none
+unfoldable pub routeBy : List ℕ → List Event → ℕ
+routeBy r [] = noRoute
+routeBy r (receive from s ∷ es) = routeBy r es
+routeBy r (join e ∷ es) = routeBy r es
+routeBy r (leave e ∷ es) = routeBy r es
+routeBy r (route q via ∷ es) = let before = routeBy r es in pick (same q r) via before
+
+-- by rising neighbour number; a branch of the neighbour that is now the upstream, by the route in force, is held and left out
 unfoldable pub feedBy : List ℕ → List Event → Feed
-feedBy a es = record { branches = branchesFrom 0 (branchesBy a 0 16 es); leaf = leafBy a es }
+feedBy a es = record { branches = branchesFrom 0 (set (branchesBy a 0 16 es) (routeBy (rootIn a) es) 0); leaf = leafBy a es }
 
 -- ---- histories
 
@@ -153,7 +161,7 @@ pub record Promise (p : Past) : Type 0 where
   pub one : (l : ℕ) → count (ofLabel l) (p .live) ≤ 1
   -- No live label is given out again.
   pub anew : (s : Step) → NoneLive (sends (p .card) s) (noteTaken (s .does) (p .live))
-  -- While mapped it leads exactly to the leaf, if joined, and the branches whose accepted Mapping no accepted Withdraw has since ended under its label; once withdrawn, to nobody.
+  -- While mapped it leads exactly to the leaf, if joined, and the branches, those held left out, whose accepted Mapping no accepted Withdraw has since ended under its label; once withdrawn, to nobody.
   pub leads : Each (Leads p) (p .live)
   -- (any other number leads to nobody)
   pub others : (l : ℕ) → count (ofLabel l) (p .live) ≡ 0 → lookupLabel l (p .card) ≡ nothing

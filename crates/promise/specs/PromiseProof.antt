@@ -11,16 +11,17 @@ use lib.Seq.{ext-getD, set-getD, getD-set-same, getD-set-other}
 use lib.Dec.{eqb, leb, ltb}
 use borrow.Author.Tests.{eqb-true, eqb-false, eq-eqb, ne-eqb, ltb-true, ltb-false, leb-true}
 use Rattle.meaning.specs.Octets.{pick, place, count, same}
-use Rattle.meaning.specs.Wire.{mapping, withdraw, Message, messageIn, Sent, records, recordsF, recordsIn}
-use Rattle.meaning.specs.Card.{Tree, Use, free, mapped, awaiting, Card, fresh, withNext, withBranch, withLeaf, withLabel, bare, treePlace, treeOf, treeAt, isFree, isAwaiting, useOf, freeLabels, heldFor, routeOf, routePlace, branchesFrom, feedOf, carries, carrier, feedOfUse, lookupLabel}
-use Rattle.meaning.specs.Events.{Out, Outcome, refused, taken, refuse, accept, roomShort, finish, upstreamOf, branch, lessBranch, Event, receive, join, leave, route, outcome, event, baseOutside, start}
-use Rattle.promise.specs.Promise.{Given, ofLabel, isAbout, isWithdrawn, Demand3, noteAll, noteTaken, branchSaid, branchBy, leafBy, branchesBy, feedBy, Step, Past, answerTo, sends, thenStep, thenSteps, history, Each, NoneLive, Leads, Promise}
+use Rattle.meaning.specs.Wire.{rootIn, mapping, withdraw, Message, messageIn, Sent, records, recordsF, recordsIn}
+use Rattle.meaning.specs.Card.{Tree, Use, free, mapped, awaiting, Card, fresh, withNext, withBranch, withLeaf, withLabel, bare, treePlace, treeOf, treeAt, isFree, isAwaiting, mappedTo, notHeld, leadsOn, useOf, freeLabels, heldFor, routeOf, routePlace, branchesFrom, feedOf, carries, carrier, feedOfUse, lookupLabel}
+use Rattle.meaning.specs.Events.{Out, Outcome, refused, taken, refuse, accept, roomShort, finish, upstream, holder, upstreamOf, branch, lessBranch, Event, receive, join, leave, route, outcome, event, baseOutside, start}
+use Rattle.promise.specs.Promise.{Given, ofLabel, isAbout, isWithdrawn, Demand3, noteAll, noteTaken, branchSaid, branchBy, leafBy, branchesBy, routeBy, feedBy, Step, Past, answerTo, sends, thenStep, thenSteps, history, Each, NoneLive, Leads, Promise}
 use Rattle.meaning.specs.Lists.{getD-same, by-test, picked, place-finds, place-count, same-eq, same-refl, getD-out, count-some}
 use Rattle.meaning.specs.RoundTrip.{both, AllSendable, records-back}
-use Rattle.promise.specs.LiveLaws.{isMapped, stray, Linked, mapped-one, mapped-not-free, Books, only, givens, count-only, books-one, books-none, each-only}
-use Rattle.promise.specs.CardLaws.{shape, Tidy, AllProper, at-named}
+use Rattle.promise.specs.LiveLaws.{isMapped, mapped-near, stray, Linked, mapped-one, mapped-not-free, Books, only, givens, count-only, books-one, books-none, each-only}
+use Rattle.promise.specs.CardLaws.{shape, tree-name, Tidy, AllProper, at-named}
 use Rattle.promise.specs.LabelLaws.{Sound}
-use Rattle.promise.specs.RuleLaws.{Ruled}
+use Rattle.promise.specs.RuleLaws.{Ruled, held-named}
+use Rattle.promise.specs.RouteLaws.{routeNow, Routed, event-routed}
 use Rattle.promise.specs.EventLaws.{Awaited, heard-awaited, awaiting-eq, byMessage, became, names, Keeps, event-keeps}
 
 -- ---- the tree that the accepted events make
@@ -129,6 +130,15 @@ pub record Upheld (p : Past) : Type 0 where
   pub sound : Sound (p .card) (p .live)
   pub reads : (a : List ℕ) → Reads a (p .accepted) (treeOf a (p .card))
   pub ruled : Ruled (p .card)
+  pub routed : (q : List ℕ) → routeOf q (p .card) ≡ routeBy q (p .accepted)
+
+-- the routes that the accepted events make
+route-by : (e : Event) (q : List ℕ) (es : List Event) → routeBy q (e ∷ es) ≡ routeNow e q (routeBy q es)
+unfolding routeBy routeNow
+route-by (receive n s) q es = refl
+route-by (join e) q es = refl
+route-by (leave e) q es = refl
+route-by (route r via) q es = refl
 
 module _ (c : Card) (gs : List Given) (es : List Event) (e : Event) where
   -- what a step makes of the past, by its outcome
@@ -138,16 +148,17 @@ module _ (c : Card) (gs : List Given) (es : List Event) (e : Event) where
       (record { card = out .card; live = noteAll (pick (eqb (out .answer) 0) (messagesOf o) []) (noteTaken e gs); accepted = e ∷ es })
       (record { card = out .card; live = gs; accepted = es })
 
-  step-upheld : (room : ℕ) (o : Outcome) → Keeps c (noteTaken e gs) (became e) (names e) o → Upheld (record { card = c; live = gs; accepted = es }) → Upheld (pastWith (finish room c o) o)
-  unfolding finish refuse accept messagesOf Keeps
-  step-upheld room (refused n) k u = rw (ne-eqb n 0 k) u
-  step-upheld room (taken ms after) k u =
+  step-upheld : (room : ℕ) (o : Outcome) → Keeps c (noteTaken e gs) (became e) (names e) o → Routed c e o → Upheld (record { card = c; live = gs; accepted = es }) → Upheld (pastWith (finish room c o) o)
+  unfolding finish refuse accept messagesOf Keeps Routed
+  step-upheld room (refused n) k w u = rw (ne-eqb n 0 k) u
+  step-upheld room (taken ms after) k w u =
       by-test (roomShort room (records (c .next) ms))
       (λ t. rw t u)
       (λ t. rw t (unfold withNext treeOf treePlace useOf freeLabels in record {
         sound = record { tidy = k .sound .tidy; low = k .sound .low; high = k .sound .high; many = k .sound .many; linked = k .sound .linked; books = k .sound .books; sum = k .sound .sum };
         reads = λ a. reads-shape a (e ∷ es) _ _ (k .shapes a) (became-reads a es (treeOf a c) (u .reads a) e);
         ruled = unfold treeAt heldFor upstreamOf routeOf routePlace in record { roots = k .ruled (u .ruled) .roots; full = k .ruled (u .ruled) .full; held = k .ruled (u .ruled) .held; trees = k .ruled (u .ruled) .trees; routes = k .ruled (u .ruled) .routes };
+        routed = λ q. unfold routeOf routePlace in w q ∙ ap (routeNow e q) (u .routed q) ∙ sym (route-by e q es);
       }))
 
   step-fair : (room : ℕ) (o : Outcome) → Keeps c (noteTaken e gs) (became e) (names e) o → NoneLive (pick (eqb (finish room c o .answer) 0) (messagesOf o) []) (noteTaken e gs)
@@ -195,7 +206,7 @@ sends-said p s u =
 
 pub then-upheld : (p : Past) (s : Step) → Upheld p → Upheld (thenStep p s)
 unfolding thenStep
-then-upheld p s u = rw (sends-is p s u) (unfold answerTo event in step-upheld (p .card) (p .live) (p .accepted) (s .does) (s .room) (outcome (p .card) (s .does)) (event-keeps (p .card) (p .live) (u .sound) (s .does)) u)
+then-upheld p s u = rw (sends-is p s u) (unfold answerTo event in step-upheld (p .card) (p .live) (p .accepted) (s .does) (s .room) (outcome (p .card) (s .does)) (event-keeps (p .card) (p .live) (u .sound) (s .does)) (event-routed (p .card) (p .live) (u .sound) (u .ruled) (s .does)) u)
 
 pub steps-upheld : (p : Past) (ss : List Step) → Upheld p → Upheld (thenSteps p ss)
 unfolding thenSteps
@@ -231,6 +242,7 @@ fresh-upheld b low high = record {
   };
   reads = λ a. unfold treeOf treePlace place fresh bare branchesBy branchBy leafBy in record { name = refl; branches = refl; leaf = refl };
   ruled = unfold fresh count in record { roots = λ r. zero-le; full = λ j h. absurd (not-suc-le-zero h); held = λ j h. absurd (not-suc-le-zero h); trees = zero-le; routes = zero-le };
+  routed = λ q. unfold routeOf routePlace place fresh routeBy in refl;
 }
 
 -- ---- where labels lead
@@ -275,6 +287,22 @@ count-about′ n m (g ∷ gs) =
     (λ e. rw e (rw (count-about′ n m gs) refl))
     (λ e. rw (e, not-withdrawn n m g e) (count-about′ n m gs))
 
+mapped-own : (n : ℕ) (a : List ℕ) → isMapped a (mapped n a) ≡ true
+unfolding isMapped
+mapped-own n a = same-refl a
+
+to-whom : (n : ℕ) (a : List ℕ) → mappedTo (mapped n a) ≡ n
+unfolding mappedTo
+to-whom n a = refl
+
+-- a label that is held is held for the root's route
+held-route : (c : Card) (t : Tree) (n : ℕ) → n < 16 → upstreamOf c t ≡ n → n ≡ routeOf (rootIn (t .name)) c
+unfolding upstreamOf holder upstream
+held-route c t n near =
+    picked (λ (x : ℕ). x ≡ n → n ≡ routeOf (rootIn (t .name)) c) (leadsOn _ t)
+    (λ _. picked (λ (x : ℕ). x ≡ n → n ≡ routeOf (rootIn (t .name)) c) (ltb (routeOf (rootIn (t .name)) c) 16) (λ _ e. sym e) (λ _ e. absurd (omega arith)))
+    (λ _ e. absurd (omega arith))
+
 module _ (p : Past) (u : Upheld p) where
   carrier-is : (l n : ℕ) (a : List ℕ) → useOf l (p .card) ≡ mapped n a → carrier l (p .card) ≡ treeOf a (p .card)
   carrier-is l n a us =
@@ -283,18 +311,29 @@ module _ (p : Past) (u : Upheld p) where
       let nz : l ≡ 0 → ⊥ = λ z. mapped-not-free a (useOf l (p .card)) ma (ap (λ (k : ℕ). useOf k (p .card)) z ∙ L .zero-free) in
       carried (p .card) (u .sound .tidy) l a (L .led a l ma) nz
       (λ b lb. mapped-one b a (useOf l (p .card)) (subst (λ (k : ℕ). isMapped b (useOf k (p .card)) ≡ true) lb (L .own b (λ z. nz (sym lb ∙ z)))) ma)
-    where
-      mapped-own : (n : ℕ) (a : List ℕ) → isMapped a (mapped n a) ≡ true
-      mapped-own n a = unfold isMapped in same-refl a
 
-  feed-is : (a : List ℕ) → feedOf (treeOf a (p .card)) ≡ feedBy a (p .accepted)
-  unfolding feedOf feedBy
-  feed-is a = λ i. record { branches = branchesFrom 0 (u .reads a .branches i); leaf = u .reads a .leaf i }
+  -- who sends on a mapped label is the upstream of the route in force
+  sender-is : (l n : ℕ) (a : List ℕ) → useOf l (p .card) ≡ mapped n a → n ≡ routeBy (rootIn a) (p .accepted)
+  unfolding heldFor
+  sender-is l n a us =
+      let L : Linked (λ (b : List ℕ). treeOf b (p .card) .label) (λ (k : ℕ). useOf k (p .card)) = u .sound .linked in
+      let ma : isMapped a (useOf l (p .card)) ≡ true = ap (isMapped a) us ∙ mapped-own n a in
+      let sent : mappedTo (useOf l (p .card)) ≡ n = ap mappedTo us ∙ to-whom n a in
+      let near : n < 16 = subst (λ (k : ℕ). k < 16) sent (mapped-near a (useOf l (p .card)) ma (L .real l)) in
+      let held : heldFor (p .card) (treeOf a (p .card)) ≡ n = ap (λ (k : ℕ). mappedTo (useOf k (p .card))) (L .led a l ma) ∙ sent in
+      let asked : upstreamOf (p .card) (treeOf a (p .card)) ≡ n = sym (held-named (p .card) (p .live) (u .sound) (u .ruled) a) ∙ held in
+      held-route (p .card) (treeOf a (p .card)) n near asked
+      ∙ ap (λ (b : List ℕ). routeOf (rootIn b) (p .card)) (tree-name a (p .card))
+      ∙ u .routed (rootIn a)
+
+  feed-is : (n : ℕ) (a : List ℕ) → n ≡ routeBy (rootIn a) (p .accepted) → feedOf n (treeOf a (p .card)) ≡ feedBy a (p .accepted)
+  unfolding feedOf feedBy notHeld
+  feed-is n a e = λ i. record { branches = branchesFrom 0 (set (u .reads a .branches i) (e i) 0); leaf = u .reads a .leaf i }
 
   use-leads : (l : ℕ) (x : Use) → useOf l (p .card) ≡ x → Each (Leads p) (givens l x)
   unfolding Each Leads givens lookupLabel feedOfUse
   use-leads l free e = tt
-  use-leads l (mapped n a) e = (rw e (ap feedOf (carrier-is l n a e) ∙ feed-is a), tt)
+  use-leads l (mapped n a) e = (rw e (ap (feedOf n) (carrier-is l n a e) ∙ feed-is n a (sender-is l n a e)), tt)
   use-leads l (awaiting n a) e = (rw e refl, tt)
 
   by-label : (l : ℕ) → only l (p .live) ≡ givens l (useOf l (p .card))

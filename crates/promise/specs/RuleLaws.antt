@@ -1,4 +1,4 @@
--- The table's rules: a tree stands while it has a branch or a leaf, and holds a label exactly while its root's route is a neighbour; its sizes.
+-- The table's rules: a tree stands while it has a branch or a leaf, and holds a label exactly while its root's route is a neighbour and it has a leaf or a branch from another; its sizes.
 -- Assumes nothing.
 use Prim.Native.Nat.{ℕ, zero, suc, _≤_, _<_, suc-le-suc, zero-le}
 use native.Mathlib.Nat.{le-of-suc-le-suc, not-suc-le-zero, le-trans}
@@ -6,13 +6,13 @@ use native.Mathlib.Omega.{arith}
 use mathlib.Core.Path.{_≡_, refl, sym, ap, _∙_, subst}
 use mathlib.Core.Bool.{Bool, true, false}
 use mathlib.Core.List.{List, [], _∷_}
-use lib.ListN.{getD, length, length-append, length-take, length-drop}
+use lib.ListN.{getD, length, set, length-append, length-take, length-drop}
 use lib.Dec.{eqb, ltb}
-use borrow.Author.Tests.{eqb-true, eqb-false, ltb-true, ltb-false, leb-false}
+use borrow.Author.Tests.{eqb-true, eqb-false, ltb-true, ltb-false, leb-false, not-true}
 use Rattle.meaning.specs.Octets.{pick, place, count, any, same, put, cut}
 use Rattle.meaning.specs.Wire.{rootIn}
-use Rattle.meaning.specs.Card.{Tree, Route, free, Card, noRoute, withRoutes, withTrees, withLabel, treeLimit, routeLimit, isFor, routePlace, routeOf, bare, treePlace, treeOf, treeAt, isBranch, isEmpty, mappedTo, useOf, heldFor, freeLabels}
-use Rattle.meaning.specs.Events.{upstream, upstreamOf, swept, ofRoot, moveAll, needAll, routesWith, routesFull}
+use Rattle.meaning.specs.Card.{Tree, Route, free, Card, noRoute, withRoutes, withTrees, withLabel, treeLimit, routeLimit, isFor, routePlace, routeOf, bare, treePlace, treeOf, treeAt, isBranch, isEmpty, notHeld, leadsOn, mappedTo, useOf, heldFor, freeLabels}
+use Rattle.meaning.specs.Events.{upstream, holder, upstreamOf, swept, ofRoot, moveAll, needAll, routesWith, routesFull}
 use Rattle.promise.specs.Promise.{Given}
 use Rattle.meaning.specs.Lists.{getD-same, by-test, same-eq, same-refl, same-flip, getD-out, found-put, found-cut, other-put, other-cut, count-put, count-cut, count-other-put}
 use Rattle.promise.specs.CardLaws.{shape}
@@ -29,10 +29,14 @@ pub shape-empty : (t s : Tree) → shape t ≡ shape s → isEmpty t ≡ isEmpty
 unfolding isEmpty shape withLabel
 shape-empty t s e = ap (λ (x : Tree). isEmpty x) e
 
+pub shape-holder : (u : ℕ) (t s : Tree) → shape t ≡ shape s → holder u t ≡ holder u s
+unfolding holder leadsOn notHeld shape withLabel
+shape-holder u t s e = ap (λ (x : Tree). holder u x) e
+
 -- the upstream depends on the routes, and on all of the tree but its label
 pub upstream-same : (c d : Card) (t s : Tree) → c .routes ≡ d .routes → shape t ≡ shape s → upstreamOf c t ≡ upstreamOf d s
-unfolding upstreamOf routeOf routePlace
-upstream-same c d t s e k = rw (e, shape-empty t s k, shape-name t s k) refl
+unfolding upstreamOf routeOf routePlace holder leadsOn notHeld
+upstream-same c d t s e k = rw (e, shape-name t s k) (shape-holder _ t s k)
 
 pub bare-empty : (a : List ℕ) → isEmpty (bare a) ≡ true
 unfolding isEmpty bare any isBranch
@@ -50,9 +54,27 @@ bare-held : (c : Card) (a : List ℕ) → useOf 0 c ≡ free → heldFor c (bare
 unfolding heldFor bare mappedTo
 bare-held c a z = ap mappedTo z
 
+-- ---- an empty tree leads nowhere, and holds no label
+
+pub any-set-zero : (bs : List ℕ) (n : ℕ) → any isBranch bs ≡ false → any isBranch (set bs n 0) ≡ false
+unfolding any isBranch
+any-set-zero [] n h = refl
+any-set-zero (b ∷ bs) zero h = by-test (ltb 0 b) (λ e. let z : true ≡ false = rw e at h in cc) (λ e. rw e at h)
+any-set-zero (b ∷ bs) (suc n) h = by-test (ltb 0 b) (λ e. let z : true ≡ false = rw e at h in cc) (λ e. rw e (any-set-zero bs n (rw e at h)))
+
+empty-leads : (u : ℕ) (t : Tree) → isEmpty t ≡ true → leadsOn u t ≡ false
+unfolding isEmpty leadsOn notHeld
+empty-leads u t e =
+    by-test (any isBranch (t .branches))
+    (λ k. let z : false ≡ true = rw k at e in cc)
+    (λ k. rw (any-set-zero (t .branches) u k) (not-true (t .leaf) (rw k at e)))
+
+pub empty-asked : (c : Card) (t : Tree) → isEmpty t ≡ true → upstreamOf c t ≡ noRoute
+unfolding upstreamOf holder
+empty-asked c t e = rw (empty-leads _ t e) refl
+
 bare-asked : (c : Card) (a : List ℕ) → upstreamOf c (bare a) ≡ noRoute
-unfolding upstreamOf
-bare-asked c a = rw (bare-empty a) refl
+bare-asked c a = empty-asked c (bare a) (bare-empty a)
 
 -- by name
 pub held-named : (c : Card) (gs : List Given) → Sound c gs → Ruled c → (a : List ℕ) → heldFor c (treeOf a c) ≡ upstreamOf c (treeOf a c)
@@ -90,17 +112,17 @@ unfolding isFor
 own-for r via = same-refl r
 
 module _ (c : Card) (gs : List Given) (S : Sound c gs) (R : Ruled c) (r : List ℕ) (via : ℕ) (near : eqb (upstream via) noRoute ≡ false → upstream via < 16) (enough : needAll r (upstream via) c ≤ freeLabels c) where
-  abbrev routed : Card
+  abbrev pub routed : Card
   routed = withRoutes (routesWith c r via) (moveAll r (upstream via) c .card)
 
-  own-route : routeOf r routed ≡ via
+  pub own-route : routeOf r routed ≡ via
   unfolding routeOf routePlace routesWith withRoutes
   own-route =
       by-test (eqb via noRoute)
       (λ e. rw e (ap (λ (x : Route). x .via) (found-cut (isFor r) (c .routes) (record { root = r; via = noRoute }) (R .roots r)) ∙ sym (eqb-true via noRoute e)))
       (λ e. rw e (ap (λ (x : Route). x .via) (found-put (isFor r) (c .routes) (record { root = r; via = via }) (record { root = r; via = noRoute }) (own-for r via))))
 
-  other-route : (q : List ℕ) → same r q ≡ false → routeOf q routed ≡ routeOf q c
+  pub other-route : (q : List ℕ) → same r q ≡ false → routeOf q routed ≡ routeOf q c
   unfolding routeOf routePlace routesWith withRoutes
   other-route q n =
       by-test (eqb via noRoute)
@@ -136,12 +158,12 @@ module _ (c : Card) (gs : List Given) (S : Sound c gs) (R : Ruled c) (r : List �
   moved-now : Kept c gs (moveAll r (upstream via) c)
   moved-now = all-kept r (upstream via) near c gs S enough
 
-  asked : (j : ℕ) → j < length (c .trees) → pick (ofRoot r (treeAt j c)) (upstream via) (heldFor c (treeAt j c)) ≡ upstreamOf routed (treeAt j c)
+  asked : (j : ℕ) → j < length (c .trees) → pick (ofRoot r (treeAt j c)) (holder (upstream via) (treeAt j c)) (heldFor c (treeAt j c)) ≡ upstreamOf routed (treeAt j c)
   unfolding upstreamOf ofRoot
   asked j k =
       by-test (same (rootIn (treeAt j c .name)) r)
-      (λ e. rw (e, R .full j k) (ap upstream (sym (ap (λ (q : List ℕ). routeOf q routed) (same-eq _ r e) ∙ own-route))))
-      (λ e. rw e (R .held j k ∙ unfold upstreamOf in rw (R .full j k) (ap upstream (sym (other-route _ (same-flip _ r e))))))
+      (λ e. rw e (ap (λ (q : ℕ). holder (upstream q) (treeAt j c)) (sym (ap (λ (q : List ℕ). routeOf q routed) (same-eq _ r e) ∙ own-route))))
+      (λ e. rw e (R .held j k ∙ unfold upstreamOf in ap (λ (q : ℕ). holder (upstream q) (treeAt j c)) (sym (other-route _ (same-flip _ r e)))))
 
   within : (j : ℕ) → j < length (routed .trees) → j < length (c .trees)
   unfolding withRoutes

@@ -3,21 +3,21 @@
 use Prim.Native.Nat.{ℕ, zero, suc, _≤_, zero-le}
 use native.Mathlib.Omega.{arith}
 use mathlib.Core.Path.{_≡_, refl, sym, ap, ap₂, _∙_}
-use mathlib.Core.Bool.{Bool, true, false, not}
+use mathlib.Core.Bool.{Bool, true, false, not, _||_}
 use mathlib.Core.List.{List, [], _∷_, _++_}
 use lib.ListN.{length, set}
 use lib.Dec.{eqb, ltb}
 use borrow.Author.Tests.{eq-eqb, ne-eqb, ltb-true, ltb-false, le-ltb}
 use Rattle.meaning.specs.Octets.{pick, count, any, _when_else_}
 use Rattle.meaning.specs.Wire.{rootIn, elementRefusal, mapping, withdraw, release, Message, messageIn, messageRefusal, Sent}
-use Rattle.meaning.specs.Card.{withTrees, named, treeAt, useOf, routeOf, Tree, Card, noRoute, withBranch, withLeaf, isFor, treePlace, treeOf, stands, bare, isBranch, isEmpty, heldFor, freeLabels}
-use Rattle.meaning.specs.Events.{taken, unless, Moved, still, upstream, tell, relabel, entered, swept, needMove, need, labelsShort, upstreamOf, treesFull, treeRefusal, enter, become, branch, lessBranch, onWithdraw, onMessage, noNeighbour, onOctets, notLeaf, onLeave, receive, leave, outcome}
+use Rattle.meaning.specs.Card.{withTrees, named, treeAt, useOf, routeOf, Tree, Card, noRoute, withBranch, withLeaf, isFor, treePlace, treeOf, stands, bare, isBranch, isEmpty, notHeld, leadsOn, heldFor, freeLabels}
+use Rattle.meaning.specs.Events.{taken, unless, Moved, still, upstream, holder, tell, relabel, entered, swept, needMove, need, labelsShort, upstreamOf, treesFull, treeRefusal, enter, become, branch, lessBranch, onWithdraw, onMessage, noNeighbour, onOctets, notLeaf, onLeave, receive, leave, outcome}
 use Rattle.promise.specs.Promise.{Given, Step, history}
 use Rattle.meaning.specs.Lists.{by-test, picked}
 use Rattle.meaning.specs.RoundTrip.{both}
 use Rattle.promise.specs.CardLaws.{tree-name}
 use Rattle.promise.specs.LabelLaws.{Sound}
-use Rattle.promise.specs.RuleLaws.{Ruled, held-named, standing-at, not-standing, bare-empty}
+use Rattle.promise.specs.RuleLaws.{Ruled, held-named, standing-at, not-standing, bare-empty, any-set-zero}
 use Rattle.promise.specs.EventLaws.{getD-put, less-name, less-label}
 use Rattle.promise.specs.PromiseProof.{history-upheld}
 
@@ -43,7 +43,7 @@ stands-exactly base steps a = standing (history base steps .card) (history-uphel
         (λ k. rw (k, standing-at c a (ltb-true _ _ k), R .full (treePlace a c) (ltb-true _ _ k)) refl)
         (λ k. rw (k, not-standing c a (ltb-false _ _ k), bare-empty a) refl)
 
--- A tree holds a label exactly while it stands and its root's route is a neighbour, for that neighbour.
+-- A tree holds a label exactly while its root's route is a neighbour and it has a leaf or a branch from another, for that neighbour.
 pub holds-exactly : (base : ℕ) (steps : List Step) (a : List ℕ) → heldFor (history base steps .card) (treeOf a (history base steps .card)) ≡ upstreamOf (history base steps .card) (treeOf a (history base steps .card))
 holds-exactly base steps a = let u = history-upheld base steps in held-named (history base steps .card) _ (u .sound) (u .ruled) a
 
@@ -61,12 +61,12 @@ same-held : (c : Card) (t s : Tree) → t .label ≡ s .label → heldFor c t �
 unfolding heldFor
 same-held c t s e = rw e refl
 
-same-up : (c : Card) (t : Tree) → isEmpty t ≡ isEmpty (treeOf (t .name) c) → upstreamOf c (treeOf (t .name) c) ≡ upstreamOf c t
-unfolding upstreamOf
-same-up c t e = ap₂ (λ (x : Bool) (a : List ℕ). pick x noRoute (upstream (routeOf (rootIn a) c))) (sym e) (tree-name (t .name) c)
+same-up : (c : Card) (t : Tree) → ((u : ℕ) → leadsOn u t ≡ leadsOn u (treeOf (t .name) c)) → upstreamOf c (treeOf (t .name) c) ≡ upstreamOf c t
+unfolding upstreamOf holder treeOf
+same-up c t e = rw (tree-name (t .name) c) (rw (e _) refl)
 
--- a Mapping to a standing tree, a join of one, a Withdraw that leaves something
-pub nothing-moves : (c : Card) (gs : List Given) → Sound c gs → Ruled c → (t : Tree) → t .label ≡ treeOf (t .name) c .label → isEmpty t ≡ isEmpty (treeOf (t .name) c)
+-- an event that leaves it as it was whether the tree leads on
+pub nothing-moves : (c : Card) (gs : List Given) → Sound c gs → Ruled c → (t : Tree) → t .label ≡ treeOf (t .name) c .label → ((u : ℕ) → leadsOn u t ≡ leadsOn u (treeOf (t .name) c))
     → relabel (treePlace (t .name) c) (upstreamOf c t) (entered c t) ≡ still (entered c t)
 unfolding relabel
 nothing-moves c gs S R t l e =
@@ -75,11 +75,24 @@ nothing-moves c gs S R t l e =
 
 -- ---- a Withdraw is always answered
 
-any-set-zero : (bs : List ℕ) (n : ℕ) → any isBranch bs ≡ false → any isBranch (set bs n 0) ≡ false
+any-set-two : (bs : List ℕ) (n u : ℕ) → any isBranch (set bs u 0) ≡ false → any isBranch (set (set bs n 0) u 0) ≡ false
 unfolding any isBranch
-any-set-zero [] n h = refl
-any-set-zero (b ∷ bs) zero h = by-test (ltb 0 b) (λ e. let z : true ≡ false = rw e at h in cc) (λ e. rw e at h)
-any-set-zero (b ∷ bs) (suc n) h = by-test (ltb 0 b) (λ e. let z : true ≡ false = rw e at h in cc) (λ e. rw e (any-set-zero bs n (rw e at h)))
+any-set-two [] n u h = refl
+any-set-two (b ∷ bs) zero zero h = h
+any-set-two (b ∷ bs) zero (suc u) h = by-test (ltb 0 b) (λ e. let z : true ≡ false = rw e at h in cc) (λ e. rw e at h)
+any-set-two (b ∷ bs) (suc n) zero h = any-set-zero bs n h
+any-set-two (b ∷ bs) (suc n) (suc u) h = by-test (ltb 0 b) (λ e. let z : true ≡ false = rw e at h in cc) (λ e. rw e (any-set-two bs n u (rw e at h)))
+
+neither : (x y : Bool) → (x || y) ≡ false → (x ≡ false) × (y ≡ false)
+neither true y e = absurd (let z : _≡_ {A = ℕ} 0 1 = cc in omega arith)
+neither false y e = (refl, e)
+
+less-leads : (n l u : ℕ) (t : Tree) → leadsOn u t ≡ false → leadsOn u (lessBranch n l t) ≡ false
+unfolding lessBranch
+less-leads n l u t e = picked (λ (x : Tree). leadsOn u x ≡ false) (eqb (branch t n) l) (λ _. unfold leadsOn notHeld withBranch in gone) (λ _. e)
+  where
+    gone : (any isBranch (set (set (t .branches) n 0) u 0) || t .leaf) ≡ false
+    gone = let r = neither (any isBranch (set (t .branches) u 0)) (t .leaf) (unfold leadsOn notHeld in e) in rw (any-set-two (t .branches) n u (r .0)) (r .1)
 
 with-branch-empty : (n : ℕ) (t : Tree) → isEmpty t ≡ true → isEmpty (withBranch n 0 t) ≡ true
 unfolding isEmpty withBranch
@@ -101,21 +114,31 @@ not-empty-stands c a e =
 
 -- the tree named a, with less than it had
 module _ (c : Card) (gs : List Given) (S : Sound c gs) (R : Ruled c) (a : List ℕ) (rest : Tree)
-    (named-so : rest .name ≡ a) (labelled-so : rest .label ≡ treeOf a c .label) (less : isEmpty (treeOf a c) ≡ true → isEmpty rest ≡ true) where
+    (named-so : rest .name ≡ a) (labelled-so : rest .label ≡ treeOf a c .label) (less : isEmpty (treeOf a c) ≡ true → isEmpty rest ≡ true)
+    (fewer : (u : ℕ) → leadsOn u (treeOf a c) ≡ false → leadsOn u rest ≡ false) where
   rest-was : isEmpty rest ≡ false → isEmpty (treeOf a c) ≡ false
   rest-was e =
       by-test (isEmpty (treeOf a c))
       (λ k. let z : true ≡ false = sym (less k) ∙ e in cc)
       (λ k. k)
 
+  abbrev up : ℕ
+  up = upstream (routeOf (rootIn a) c)
+
+  led-on : leadsOn up rest ≡ true → leadsOn up (treeOf a c) ≡ true
+  led-on e =
+      by-test (leadsOn up (treeOf a c))
+      (λ k. k)
+      (λ k. let z : false ≡ true = sym (fewer up k) ∙ e in cc)
+
   -- it needs no label
   rest-need : need c rest (upstreamOf c rest) ≡ 0
-  unfolding need
+  unfolding need leadsOn any notHeld
   rest-need =
-      by-test (isEmpty rest)
-      (λ e. let none : upstreamOf c rest ≡ noRoute = unfold upstreamOf in rw e refl in rw none (picked (λ (k : ℕ). k ≡ 0) (eqb (heldFor c rest) noRoute) (λ _. refl) (λ _. unfold needMove in refl)))
-      (λ e. let same-up : upstreamOf c (treeOf a c) ≡ upstreamOf c rest = unfold upstreamOf in rw (e, rest-was e, named-so, tree-name a c) refl in
+      by-test (leadsOn up rest)
+      (λ e. let same-up : upstreamOf c (treeOf a c) ≡ upstreamOf c rest = unfold upstreamOf holder in rw (named-so, tree-name a c) (rw (e, led-on e) refl) in
       rw (eq-eqb (heldFor c rest) (upstreamOf c rest) (same-held c rest (treeOf a c) labelled-so ∙ held-named c gs S R a ∙ same-up)) refl)
+      (λ e. let none : upstreamOf c rest ≡ noRoute = unfold upstreamOf holder in rw named-so (rw e refl) in rw none (picked (λ (k : ℕ). k ≡ 0) (eqb (heldFor c rest) noRoute) (λ _. refl) (λ _. unfold needMove in refl)))
 
   -- neither 11 nor 12 applies
   rest-fits : treeRefusal c rest ≡ 0
@@ -130,7 +153,7 @@ pub withdraw-fits : (base : ℕ) (steps : List Step) (n : ℕ) (a : List ℕ) (l
 withdraw-fits base steps n a l =
     let c = history base steps .card in
     let u = history-upheld base steps in
-    rest-fits c _ (u .sound) (u .ruled) a (lessBranch n l (treeOf a c)) (less-name n l (treeOf a c) ∙ tree-name a c) (less-label n l (treeOf a c)) (less-empty n l (treeOf a c))
+    rest-fits c _ (u .sound) (u .ruled) a (lessBranch n l (treeOf a c)) (less-name n l (treeOf a c) ∙ tree-name a c) (less-label n l (treeOf a c)) (less-empty n l (treeOf a c)) (λ u. less-leads n l u (treeOf a c))
 
 -- Nor to a leave.
 pub leave-fits : (base : ℕ) (steps : List Step) (e : List ℕ) → treeRefusal (history base steps .card) (withLeaf false (treeOf e (history base steps .card))) ≡ 0
@@ -138,8 +161,11 @@ unfolding withLeaf
 leave-fits base steps e =
     let c = history base steps .card in
     let u = history-upheld base steps in
-    rest-fits c _ (u .sound) (u .ruled) e (withLeaf false (treeOf e c)) (tree-name e c) refl (leaf-empty (treeOf e c))
+    rest-fits c _ (u .sound) (u .ruled) e (withLeaf false (treeOf e c)) (tree-name e c) refl (leaf-empty (treeOf e c)) (λ u. leaf-leads u (treeOf e c))
   where
+    leaf-leads : (u : ℕ) (t : Tree) → leadsOn u t ≡ false → leadsOn u (withLeaf false t) ≡ false
+    leaf-leads u t k = unfold leadsOn notHeld withLeaf in rw (neither (any isBranch (set (t .branches) u 0)) (t .leaf) (unfold leadsOn notHeld in k) .0) refl
+
     leaf-empty : (t : Tree) → isEmpty t ≡ true → isEmpty (withLeaf false t) ≡ true
     leaf-empty t k = unfold isEmpty withLeaf in rw (both (not (any isBranch (t .branches))) (not (t .leaf)) (unfold isEmpty in k) .0) refl
 

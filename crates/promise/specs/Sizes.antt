@@ -9,7 +9,7 @@ use lib.Dec.{eqb}
 use Rattle.meaning.specs.Octets.{two}
 use Rattle.meaning.specs.Wire.{Sent, recordOf, nextId, records}
 use Rattle.meaning.specs.Card.{Card, noRoute, treeLimit, routeLimit, labelCount, treeAt, routeOf}
-use Rattle.meaning.specs.Events.{Outcome, refused, taken, unless, refuse, accept, roomShort, finish, Moved, still, followedBy, giveUp, give, letGo, takeUp, moveLabel, upstream, ofRoot, moveOne, moveFrom, moveAll, reRoute, onRoute, Event, route, outcome, event}
+use Rattle.meaning.specs.Events.{Outcome, refused, taken, unless, refuse, accept, roomShort, finish, Moved, still, followedBy, giveUp, give, letGo, takeUp, moveLabel, upstream, holder, ofRoot, moveOne, moveFrom, moveAll, reRoute, onRoute, Event, route, outcome, event}
 use Rattle.meaning.specs.Lists.{by-test, picked}
 use Rattle.meaning.specs.RoundTrip.{AllSendable, Sendable, message-length, name-fits}
 use Rattle.promise.specs.Promise.{Given, noteTaken, Step, sends, history}
@@ -65,7 +65,7 @@ one-two : (r : List ℕ) (u i : ℕ) (c : Card) → length (moveOne r u i c .sen
 unfolding moveOne moveLabel followedBy still
 one-two r u i c =
     picked (λ (m : Moved). length (m .sent) ≤ 2) (ofRoot r (treeAt i c))
-    (λ _. omega (arith, length-append (letGo i c .sent) (takeUp i u (letGo i c .card) .sent), let-go-one i c, take-up-one i u (letGo i c .card)))
+    (λ _. omega (arith, length-append (letGo i c .sent) (takeUp i (holder u (treeAt i c)) (letGo i c .card) .sent), let-go-one i c, take-up-one i (holder u (treeAt i c)) (letGo i c .card)))
     (λ _. omega arith)
 
 from-two : (r : List ℕ) (u n i : ℕ) (c : Card) → length (moveFrom r u n i c .sent) ≤ n * 2

@@ -1,0 +1,92 @@
+-- The routes after each event: a route order sets its root's, and nothing else sets any.
+-- Assumes nothing.
+use Prim.Native.Nat.{ℕ, zero, suc, _≤_}
+use mathlib.Core.Path.{_≡_, refl, sym, ap, _∙_}
+use mathlib.Core.Bool.{Bool, true, false}
+use mathlib.Core.List.{List, []}
+use lib.Dec.{eqb}
+use borrow.Author.Tests.{eqb-true, ltb-false}
+use Rattle.meaning.specs.Octets.{pick, same}
+use Rattle.meaning.specs.Wire.{Message, messageIn, mapping, withdraw, release, Sent}
+use Rattle.meaning.specs.Card.{Tree, Card, noRoute, free, withRoutes, withTrees, withLabels, routeOf, routePlace, treePlace, treeAt, heldFor, freeLabels}
+use Rattle.meaning.specs.Events.{Outcome, refused, taken, unless, Moved, still, followedBy, setUse, setLabel, giveUp, give, letGo, takeUp, moveLabel, relabel, labelsShort, upstream, upstreamOf, entered, swept, enter, become, onMapping, lessBranch, onWithdraw, onRelease, onMessage, onOctets, onJoin, onLeave, moveAll, needAll, routesWith, routeRefusal, reRoute, onRoute, Event, receive, join, leave, route, outcome}
+use Rattle.meaning.specs.Lists.{by-test, picked, same-eq, no-when}
+use Rattle.meaning.specs.RoutesStay.{relabel-routes}
+use Rattle.promise.specs.Promise.{Given}
+use Rattle.promise.specs.CardLaws.{swept-routes}
+use Rattle.promise.specs.LabelLaws.{Sound}
+use Rattle.promise.specs.RuleLaws.{Ruled, own-route, other-route}
+use Rattle.promise.specs.EventLaws.{upstream-near}
+
+-- what an event makes of the route of the root q
+unfoldable pub routeNow : Event → List ℕ → ℕ → ℕ
+routeNow (receive n s) q before = before
+routeNow (join e) q before = before
+routeNow (leave e) q before = before
+routeNow (route r via) q before = pick (same r q) via before
+
+unfoldable pub Routed : Card → Event → Outcome → Type 0
+Routed c e (refused n) = Unit {0}
+Routed c e (taken ms after) = (q : List ℕ) → routeOf q after ≡ routeNow e q (routeOf q c)
+
+unless-routed : (c : Card) (e : Event) (k : ℕ) (o : Outcome) → (k ≡ 0 → Routed c e o) → Routed c e (unless k o)
+unfolding unless Routed
+unless-routed c e zero o h = h refl
+unless-routed c e (suc k) o h = tt
+
+same-route : (c d : Card) (q : List ℕ) → c .routes ≡ d .routes → routeOf q c ≡ routeOf q d
+unfolding routeOf routePlace
+same-route c d q e = rw e refl
+
+-- ---- each event
+
+module _ (c : Card) (e : Event) (plain : (q : List ℕ) (before : ℕ) → routeNow e q before ≡ before) where
+  enter-routed : (first : List Sent) (t : Tree) → Routed c e (enter c first t)
+  unfolding enter Routed
+  enter-routed first t q =
+      let i : ℕ = treePlace (t .name) c in
+      let m : Moved = relabel i (upstreamOf c t) (entered c t) in
+      same-route (swept i (m .card)) c q (swept-routes (m .card) i ∙ relabel-routes i (upstreamOf c t) (entered c t) ∙ unfold entered withTrees in refl) ∙ sym (plain q _)
+
+  become-routed : (first : List Sent) (t : Tree) → Routed c e (become c first t)
+  unfolding become
+  become-routed first t = unless-routed c e _ _ (λ _. enter-routed first t)
+
+  freed-routed : (l : ℕ) → Routed c e (taken [] (setUse l free c))
+  unfolding Routed
+  freed-routed l q = same-route (setUse l free c) c q (unfold setUse withLabels in refl) ∙ sym (plain q _)
+
+  message-routed : (n : ℕ) (m : Message) → Routed c e (onMessage c n m)
+  unfolding onMessage onMapping onWithdraw onRelease
+  message-routed n m =
+      picked (Routed c e) (eqb (m .kind) mapping)
+      (λ _. unless-routed c e _ _ (λ _. become-routed _ _))
+      (λ _. picked (Routed c e) (eqb (m .kind) withdraw)
+      (λ _. become-routed _ _)
+      (λ _. picked (Routed c e) (eqb (m .kind) release)
+      (λ _. unless-routed c e _ _ (λ _. freed-routed (m .label)))
+      (λ _. unfold Routed in tt)))
+
+module _ (c : Card) (gs : List Given) (S : Sound c gs) (R : Ruled c) where
+  moved-routed : (r : List ℕ) (via : ℕ) → routeRefusal c r via ≡ 0 → Routed c (route r via) (reRoute c r via)
+  unfolding reRoute Routed routeNow routeRefusal labelsShort
+  moved-routed r via e q =
+      let enough : needAll r (upstream via) c ≤ freeLabels c = ltb-false _ _ (no-when 11 _ 0 (no-when 14 _ _ e .1) .0) in
+      by-test (same r q)
+      (λ k. rw k (ap (λ (x : List ℕ). routeOf x (withRoutes (routesWith c r via) (moveAll r (upstream via) c .card))) (sym (same-eq r q k)) ∙ own-route c gs S R r via (upstream-near via) enough))
+      (λ k. rw k (other-route c gs S R r via (upstream-near via) enough q k))
+
+  route-routed : (r : List ℕ) (via : ℕ) → Routed c (route r via) (onRoute c r via)
+  unfolding onRoute
+  route-routed r via =
+      unless-routed c (route r via) _ _
+      (λ _. picked (Routed c (route r via)) (eqb (routeOf r c) via)
+      (λ e. unfold Routed routeNow in λ q. by-test (same r q) (λ k. rw k (ap (λ (x : List ℕ). routeOf x c) (sym (same-eq r q k)) ∙ eqb-true _ _ e)) (λ k. rw k refl))
+      (λ _. unless-routed c (route r via) _ _ (moved-routed r via)))
+
+  pub event-routed : (e : Event) → Routed c e (outcome c e)
+  unfolding outcome onOctets onJoin onLeave routeNow
+  event-routed (receive n s) = unless-routed c _ _ _ (λ _. unless-routed c _ _ _ (λ _. message-routed c (receive n s) (λ q b. refl) n (messageIn s)))
+  event-routed (join e) = unless-routed c _ _ _ (λ _. become-routed c (join e) (λ q b. refl) _ _)
+  event-routed (leave e) = unless-routed c _ _ _ (λ _. unless-routed c _ _ _ (λ _. unless-routed c _ _ _ (λ _. enter-routed c (leave e) (λ q b. refl) _ _)))
+  event-routed (route r via) = route-routed r via
