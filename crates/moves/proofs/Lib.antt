@@ -1,3 +1,4 @@
 pub mod Laws
 pub mod Trees
 pub mod Steps
+pub mod Held

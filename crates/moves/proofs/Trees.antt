@@ -12,7 +12,7 @@ use Rattle.meaning.specs.Octets.{place}
 use Rattle.meaning.specs.Lists.{append-nil, by-test, picked, count-set, count-set-place}
 use Rattle.meaning.specs.Wire.{Sent, records}
 use Rattle.meaning.specs.Card.{Tree, Card, Use, free, mapped, awaiting, withTrees, withLabels, bare, treeAt, isFree, useOf, freeLabels, lowestFree, noRoute}
-use Rattle.meaning.specs.Events.{Moved, still, followedBy, setUse, setLabel, ended, giveUp, give, letGo, takeUp, moveLabel, ofRoot, moveOne, moveFrom, sumFrom}
+use Rattle.meaning.specs.Events.{Moved, still, followedBy, setUse, setLabel, ended, giveUp, give, letGo, takeUp, moveLabel, holder, ofRoot, moveOne, moveFrom, sumFrom}
 use Rattle.moves.specs.Move.{sizeOne}
 use Rattle.moves.proofs.Laws.{move-stays, move-size}
 
@@ -55,17 +55,17 @@ module _ (i j : ℕ) (ne : j ≡ i → ⊥) where
 
   pub one-other : (r : List ℕ) (u : ℕ) (c : Card) → treeAt j (moveOne r u i c .card) ≡ treeAt j c
   unfolding moveOne moveLabel still followedBy
-  one-other r u c = picked (λ (m : Moved). treeAt j (m .card) ≡ treeAt j c) (ofRoot r (treeAt i c)) (λ _. take-up-other u (letGo i c .card) ∙ let-go-other c) (λ _. refl)
+  one-other r u c = picked (λ (m : Moved). treeAt j (m .card) ≡ treeAt j c) (ofRoot r (treeAt i c)) (λ _. take-up-other (holder u (treeAt i c)) (letGo i c .card) ∙ let-go-other c) (λ _. refl)
 
 pub one-many : (r : List ℕ) (u i : ℕ) (c : Card) → i < length (c .trees) → length (moveOne r u i c .card .trees) ≡ length (c .trees)
 unfolding moveOne still
-one-many r u i c h = picked (λ (m : Moved). length (m .card .trees) ≡ length (c .trees)) (ofRoot r (treeAt i c)) (λ _. move-stays i u c h .many) (λ _. refl)
+one-many r u i c h = picked (λ (m : Moved). length (m .card .trees) ≡ length (c .trees)) (ofRoot r (treeAt i c)) (λ _. move-stays i (holder u (treeAt i c)) c h .many) (λ _. refl)
 
 pub one-size : (r : List ℕ) (u i id : ℕ) (c : Card) → i < length (c .trees) → length (records id (moveOne r u i c .sent)) ≡ sizeOne r u (treeAt i c)
 unfolding moveOne sizeOne still
 one-size r u i id c h =
     by-test (ofRoot r (treeAt i c))
-    (λ e. rw e (move-size id i u c h))
+    (λ e. rw e (move-size id i (holder u (treeAt i c)) c h))
     (λ e. rw e (unfold records in refl))
 
 -- ---- the first of them

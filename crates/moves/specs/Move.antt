@@ -7,7 +7,7 @@ use lib.Dec.{eqb}
 use Rattle.meaning.specs.Octets.{pick}
 use Rattle.meaning.specs.Wire.{records, idsAfter}
 use Rattle.meaning.specs.Card.{Tree, Card, heldFor}
-use Rattle.meaning.specs.Events.{Moved, needMove, ofRoot, sumFrom}
+use Rattle.meaning.specs.Events.{Moved, needMove, holder, ofRoot, sumFrom}
 use Rattle.octets.specs.Part.{mid}
 
 -- The move m was made: its records, the first of them with identifier id, were written from place `at` on; the next one goes to `end` with identifier `next`.
@@ -26,7 +26,7 @@ relabelSize c t u = pick (eqb (heldFor c t) u) 0 (moveSize t u)
 
 -- of one tree, if it is of the root, and of all
 unfoldable pub sizeOne : List ℕ → ℕ → Tree → ℕ
-sizeOne r u t = pick (ofRoot r t) (moveSize t u) 0
+sizeOne r u t = pick (ofRoot r t) (moveSize t (holder u t)) 0
 
 unfoldable pub sizeAll : List ℕ → ℕ → Card → ℕ
 sizeAll r u c = sumFrom (sizeOne r u) (length (c .trees)) 0 c

@@ -4,8 +4,8 @@ ghost use mathlib.Core.List.{List};
 ghost use Prim.Native.Nat.{ℕ, _+_, _*_, _-_, _≤_, _<_};
 ghost use lib.ListN.{length};
 ghost use Rattle.meaning.specs.Wire.{rootIn, records};
-ghost use Rattle.meaning.specs.Card.{Card, treeAt, routeOf, heldFor, freeLabels, noRoute};
-ghost use Rattle.meaning.specs.Events.{Moved, giveUp, give, letGo, takeUp, moveLabel, relabel, needMove, need, labelsShort, upstream};
+ghost use Rattle.meaning.specs.Card.{Card, withBranch, withLeaf, treeAt, routeOf, heldFor, freeLabels, noRoute};
+ghost use Rattle.meaning.specs.Events.{Moved, giveUp, give, letGo, takeUp, moveLabel, relabel, needMove, need, labelsShort, upstream, holder};
 ghost use Rattle.table.specs.Memory.{cardOf, treeCount};
 ghost use Rattle.moves.specs.Move.{Wrote, moveSize, relabelSize};
 
@@ -195,4 +195,27 @@ pub fn upstream_of(numbers: &[u64], names: &[u8], name: &[u8]) -> u64
 {
     let via = table::route_of(numbers, names, reader::root_of(name));
     if via < 16 { via } else { 17 }
+}
+
+// The neighbour for which the tree at place i holds a label where u is its upstream, once neighbour n's branch is x (16: nobody's
+// changes) and its leaf mark is `leaf`; 17 for none.
+pub fn holder_then(numbers: &[u64], i: usize, n: usize, x: u64, leaf: bool, u: u64) -> u64
+    requires { ⌜ (length (now numbers) ≡ 1444) × (i < treeCount (now numbers)) × (i < 64) ⌝ }
+    ensures { λ r. ⌜ ((os : List ℕ) → r ≡ holder u (withLeaf leaf (withBranch n x (treeAt i (cardOf (now (numbers .entry)) os))))) ⌝ }
+{
+    if leaf {
+        return u;
+    }
+    if table::any_branch(numbers, i, n, x, u as usize) {
+        return u;
+    }
+    17
+}
+
+// The same of the tree as it is.
+pub fn holder(numbers: &[u64], i: usize, u: u64) -> u64
+    requires { ⌜ (length (now numbers) ≡ 1444) × (i < treeCount (now numbers)) × (i < 64) ⌝ }
+    ensures { λ r. ⌜ ((os : List ℕ) → r ≡ holder u (treeAt i (cardOf (now (numbers .entry)) os))) ⌝ }
+{
+    holder_then(numbers, i, 16, 0, table::is_leaf(numbers, i), u)
 }

@@ -8,7 +8,7 @@ use lib.ListN.{length}
 use Rattle.meaning.specs.Octets.{same}
 use Rattle.meaning.specs.Wire.{rootIn, records}
 use Rattle.meaning.specs.Card.{Tree, Card, treeAt, freeLabels}
-use Rattle.meaning.specs.Events.{still, moveLabel, needMove, ofRoot, moveOne, moveFrom, moveAll, needOne, sumFrom, needAll}
+use Rattle.meaning.specs.Events.{still, moveLabel, needMove, holder, ofRoot, moveOne, moveFrom, moveAll, needOne, sumFrom, needAll}
 use Rattle.table.specs.Memory.{cardOf, treeCount}
 use Rattle.table.proofs.Memory.{trees-length}
 use Rattle.moves.specs.Move.{Wrote, moveSize, sizeOne, sizeAll}
@@ -23,7 +23,7 @@ module _ (r : List ℕ) (t : Tree) where
   unfolding ofRoot
   of-root b a x e f g = e ∙ ap (λ (y : List ℕ). same y r) (f ∙ ap rootIn g)
 
-  pub need-of : (u : ℕ) → true ≡ ofRoot r t → needOne r u t ≡ needMove u
+  pub need-of : (u : ℕ) → true ≡ ofRoot r t → needOne r u t ≡ needMove (holder u t)
   unfolding needOne
   need-of u e = rw (← e) refl
 
@@ -31,7 +31,7 @@ module _ (r : List ℕ) (t : Tree) where
   unfolding needOne
   need-not u e = rw (← e) refl
 
-  pub size-of : (u : ℕ) → true ≡ ofRoot r t → sizeOne r u t ≡ moveSize t u
+  pub size-of : (u : ℕ) → true ≡ ofRoot r t → sizeOne r u t ≡ moveSize t (holder u t)
   unfolding sizeOne
   size-of u e = rw (← e) refl
 
@@ -39,7 +39,7 @@ module _ (r : List ℕ) (t : Tree) where
   unfolding sizeOne
   size-not u e = rw (← e) refl
 
-pub one-of : (r : List ℕ) (u i : ℕ) (c : Card) → true ≡ ofRoot r (treeAt i c) → moveOne r u i c ≡ moveLabel i u c
+pub one-of : (r : List ℕ) (u i : ℕ) (c : Card) → true ≡ ofRoot r (treeAt i c) → moveOne r u i c ≡ moveLabel i (holder u (treeAt i c)) c
 unfolding moveOne
 one-of r u i c e = rw (← e) refl
 
@@ -50,7 +50,7 @@ one-not r u i c e = rw (← e) refl
 pub one-nothing : (r : List ℕ) (u i id at : ℕ) (c : Card) (s : List ℕ) → false ≡ ofRoot r (treeAt i c) → Wrote (moveOne r u i c) id at s s c at id × (freeLabels c + needOne r u (treeAt i c) ≡ freeLabels c)
 one-nothing r u i id at c s e = (rw (one-not r u i c e) (wrote-nothing c id at s), rw (need-not r (treeAt i c) u e) (omega arith))
 
-pub one-fills : (r : List ℕ) (u i id : ℕ) (c : Card) → i < length (c .trees) → true ≡ ofRoot r (treeAt i c) → length (records id (moveOne r u i c .sent)) ≡ moveSize (treeAt i c) u
+pub one-fills : (r : List ℕ) (u i id : ℕ) (c : Card) → i < length (c .trees) → true ≡ ofRoot r (treeAt i c) → length (records id (moveOne r u i c .sent)) ≡ moveSize (treeAt i c) (holder u (treeAt i c))
 one-fills r u i id c h e = one-size r u i id c h ∙ size-of r (treeAt i c) u e
 
 -- ---- sums

@@ -18,12 +18,16 @@ fn is_of_root(names: &[u8], i: usize, root: &[u8]) -> bool
 }
 
 // How many free labels the move of one tree takes, and how many octets its records have.
-fn need_one(names: &[u8], i: usize, root: &[u8], u: u64) -> usize
-    requires { ⌜ (length (now names) ≡ 18144) × (i < 64) ⌝ }
-    ensures { λ r. ⌜ ((ns : List ℕ) → i < treeCount ns → r ≡ needOne (now (root .entry)) u (treeAt i (cardOf ns (now (names .entry))))) × (r ≤ 1) ⌝ }
+fn need_one(numbers: &[u64], names: &[u8], i: usize, root: &[u8], u: u64) -> usize
+    requires { ⌜ (length (now numbers) ≡ 1444) × (length (now names) ≡ 18144) × (i < treeCount (now numbers)) × (i < 64) ⌝ }
+    ensures { λ r. ⌜ (r ≡ needOne (now (root .entry)) u (treeAt i (cardOf (now (numbers .entry)) (now (names .entry))))) × (r ≤ 1) ⌝ }
 {
     if is_of_root(names, i, root) {
-        if u == 17 { 0 } else { 1 }
+        if moves::holder(numbers, i, u) == 17 {
+            0
+        } else {
+            1
+        }
     } else {
         0
     }
@@ -34,7 +38,7 @@ fn size_one(numbers: &[u64], names: &[u8], i: usize, root: &[u8], u: u64) -> usi
     ensures { λ r. ⌜ (r ≡ sizeOne (now (root .entry)) u (treeAt i (cardOf (now (numbers .entry)) (now (names .entry))))) × (r ≤ 156) ⌝ }
 {
     if is_of_root(names, i, root) {
-        moves::move_size(numbers, names, i, u)
+        moves::move_size(numbers, names, i, moves::holder(numbers, i, u))
     } else {
         0
     }
@@ -49,7 +53,7 @@ pub fn need_all(numbers: &[u64], names: &[u8], root: &[u8], u: u64) -> usize
     let mut sum = 0;
     let mut i = 0;
     while i < n {
-        sum += need_one(names, i, root, u);
+        sum += need_one(numbers, names, i, root, u);
         i += 1;
     }
     sum
@@ -88,7 +92,8 @@ fn move_one(
 {
     let ours = is_of_root(names, i, root);
     if ours {
-        return moves::move_label(numbers, names, i, u, out, at, id);
+        let h = moves::holder(numbers, i, u);
+        return moves::move_label(numbers, names, i, h, out, at, id);
     }
     Written { at, id }
 }

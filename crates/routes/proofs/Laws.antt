@@ -12,6 +12,7 @@ use Rattle.meaning.specs.Lists.{by-test, picked, getD-out}
 use Rattle.meaning.specs.Wire.{Sent, records, idsAfter}
 use Rattle.meaning.specs.Card.{Route, Tree, Card, Use, noRoute, withNext, withRoutes, withTrees, withLabels, isFor, routePlace, routeOf, treeAt, freeLabels}
 use Rattle.meaning.specs.Events.{Outcome, refused, taken, unless, finish, Moved, still, followedBy, setUse, setLabel, giveUp, give, letGo, takeUp, moveLabel, labelsShort, upstream, ofRoot, moveOne, moveFrom, moveAll, sumFrom, needOne, needAll, routesWith, routesFull, routeRefusal, reRoute}
+use Rattle.meaning.specs.RoutesStay.{all-routes}
 use Rattle.meaning.specs.Calls.{Does}
 use Rattle.octets.proofs.Laws.{mid-none}
 use Rattle.table.specs.Memory.{cardOf, routeCount}
@@ -43,31 +44,6 @@ module _ (r : List ℕ) (u : ℕ) where
   pub all-size : (id : ℕ) (c : Card) → length (records id (moveAll r u c .sent)) ≡ sizeAll r u c
   unfolding moveAll sizeAll
   all-size id c = from-size (length (c .trees)) 0 id c (omega arith)
-
-  one-routes : (i : ℕ) (c : Card) → moveOne r u i c .card .routes ≡ c .routes
-  unfolding moveOne moveLabel followedBy letGo takeUp still
-  one-routes i c =
-      picked (λ (m : Moved). m .card .routes ≡ c .routes) (ofRoot r (treeAt i c))
-      (λ _. taken-up (letGo-card i c) ∙ gone i c)
-      (λ _. refl)
-    where
-      letGo-card : ℕ → Card → Card
-      letGo-card i c = letGo i c .card
-
-      gone : (i : ℕ) (c : Card) → letGo i c .card .routes ≡ c .routes
-      gone i c = unfold letGo still in picked (λ (m : Moved). m .card .routes ≡ c .routes) (eqb (treeAt i c .label) 0) (λ _. refl) (λ _. unfold giveUp setLabel setUse withLabels withTrees in refl)
-
-      taken-up : (d : Card) → takeUp i u d .card .routes ≡ d .routes
-      taken-up d = unfold takeUp still in picked (λ (m : Moved). m .card .routes ≡ d .routes) (eqb u noRoute) (λ _. refl) (λ _. unfold give setLabel setUse withLabels withTrees in refl)
-
-  from-routes : (n i : ℕ) (c : Card) → moveFrom r u n i c .card .routes ≡ c .routes
-  unfolding moveFrom followedBy still
-  from-routes zero i c = refl
-  from-routes (suc n) i c = from-routes n (suc i) (moveOne r u i c .card) ∙ one-routes i c
-
-  pub all-routes : (c : Card) → moveAll r u c .card .routes ≡ c .routes
-  unfolding moveAll
-  all-routes c = from-routes (length (c .trees)) 0 c
 
 -- ---- the routes alone
 

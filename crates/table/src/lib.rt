@@ -155,19 +155,30 @@ pub fn branches(numbers: &[u64], i: usize) -> [u64; 16]
     ]
 }
 
-// Whether the tree has a branch, apart from that of neighbour `but` (16: none apart).
-pub fn any_branch(numbers: &[u64], i: usize, but: usize) -> bool
-    requires { ⌜ (length (now numbers) ≡ 1444) × (i < treeCount (now numbers)) × (i < 64) ⌝ }
-    ensures { λ r. ⌜ ((os : List ℕ) → r ≡ any isBranch (set (treeAt i (cardOf (now (numbers .entry)) os) .branches) but 0)) ⌝ }
+// The branch of neighbour k, once that of neighbour n is x (16: nobody's changes).
+fn branch_then(numbers: &[u64], i: usize, n: usize, x: u64, k: usize) -> u64
+    requires { ⌜ (length (now numbers) ≡ 1444) × (i < treeCount (now numbers)) × (i < 64) × (k < 16) ⌝ }
+    ensures { λ r. ⌜ ((os : List ℕ) → r ≡ getD (set (treeAt i (cardOf (now (numbers .entry)) os) .branches) n x) k 0) ⌝ }
 {
-    let mut n = 0;
-    while n < 16 {
-        if n != but {
-            if branch(numbers, i, n) != 0 {
+    if k == n {
+        return x;
+    }
+    branch(numbers, i, k)
+}
+
+// Whether the tree then has a branch, apart from that of neighbour `but` (16: none apart).
+pub fn any_branch(numbers: &[u64], i: usize, n: usize, x: u64, but: usize) -> bool
+    requires { ⌜ (length (now numbers) ≡ 1444) × (i < treeCount (now numbers)) × (i < 64) ⌝ }
+    ensures { λ r. ⌜ ((os : List ℕ) → r ≡ any isBranch (set (set (treeAt i (cardOf (now (numbers .entry)) os) .branches) n x) but 0)) ⌝ }
+{
+    let mut k = 0;
+    while k < 16 {
+        if k != but {
+            if branch_then(numbers, i, n, x, k) != 0 {
                 return true;
             }
         }
-        n += 1;
+        k += 1;
     }
     false
 }

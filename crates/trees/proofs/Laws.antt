@@ -7,18 +7,19 @@ use mathlib.Core.Path.{_≡_, refl, sym, ap, ap₂, _∙_, subst}
 use mathlib.Core.Bool.{Bool, true, false, not, _&&_, _||_, and-false, and-true}
 use mathlib.Core.List.{List, [], _∷_, _++_, append-assoc}
 use lib.ListN.{take, drop, getD, length, set, replicate, length-set, length-append, length-drop}
-use lib.Seq.{take-append-seam, getD-set-same}
+use lib.Seq.{take-append-seam, getD-set-same, set-set, set-comm, set-out}
 use lib.Dec.{eqb, leb, ltb}
 use borrow.Author.Tests.{eq-eqb, ne-eqb, eqb-true, eqb-false, le-leb, lt-leb, le-ltb, lt-ltb, ltb-true, ltb-false, leb-true, leb-false}
 use Rattle.meaning.specs.Octets.{pick, place, count, any, same, put, cut, two, four, _when_else_}
 use Rattle.meaning.specs.Lists.{append-nil, positive, by-test, picked, same-eq, same-refl, place-finds, place-count, getD-out, getD-same}
 use Rattle.meaning.specs.Wire.{tlv, octetsOf, Message, Sent, recordOf, nextId, records, idsAfter, mapping, withdraw, release, rootIn, messageIn, messageRefusal, elementRefusal}
-use Rattle.meaning.specs.Card.{Tree, Card, Use, free, mapped, awaiting, noRoute, withNext, withTrees, withLabels, withRoutes, withBranch, withLeaf, withLabel, named, bare, treePlace, treeOf, treeAt, stands, isBranch, isEmpty, isFree, isAwaiting, mappedTo, useOf, heldFor, freeLabels, lowestFree, treeLimit, routeOf}
-use Rattle.meaning.specs.Events.{Out, Outcome, refused, taken, unless, refuse, accept, roomShort, finish, Moved, still, followedBy, tell, setUse, setLabel, giveUp, give, letGo, takeUp, moveLabel, relabel, needMove, need, labelsShort, upstream, upstreamOf, entered, swept, treesFull, treeRefusal, enter, become, branch, otherLabel, onMapping, lessBranch, onWithdraw, notLeaf, onRelease, notAwaited}
+use Rattle.meaning.specs.Card.{Tree, Card, Use, free, mapped, awaiting, noRoute, withNext, withTrees, withLabels, withRoutes, withBranch, withLeaf, withLabel, named, bare, treePlace, treeOf, treeAt, stands, isBranch, isEmpty, notHeld, leadsOn, isFree, isAwaiting, mappedTo, useOf, heldFor, freeLabels, lowestFree, treeLimit, routeOf}
+use Rattle.meaning.specs.Events.{Out, Outcome, refused, taken, unless, refuse, accept, roomShort, finish, Moved, still, followedBy, tell, setUse, setLabel, giveUp, give, letGo, takeUp, moveLabel, relabel, needMove, need, labelsShort, upstream, holder, upstreamOf, entered, swept, treesFull, treeRefusal, enter, become, branch, otherLabel, onMapping, lessBranch, onWithdraw, notLeaf, onRelease, notAwaited}
 use Rattle.meaning.specs.Calls.{over, Does, Hands}
 use Rattle.octets.specs.Part.{mid}
 use Rattle.octets.proofs.Laws.{mid-mid, mid-none, mid-length}
 use Rattle.octets.proofs.Tab.{put-in, put-end, cut-end}
+use Rattle.moves.proofs.Held.{holder-range, with-none}
 use Rattle.moves.specs.Move.{Wrote, moveSize, relabelSize}
 use Rattle.moves.proofs.Laws.{records-append, record-size, records-one, wrote-one, wrote-then, relabel-stays, take-up-stays, take-up-size, alike-empty, relabel-size}
 use Rattle.table.specs.Memory.{cardOf, treeCount, baseIn}
@@ -172,12 +173,26 @@ module _ (c : Card) (first : List Sent) (t : Tree) (i u : ℕ) (ei : i ≡ treeP
       kept : swept i (takeUp i u (withTrees (c .trees ++ (t ∷ [])) c) .card) ≡ takeUp i u (withTrees (c .trees ++ (t ∷ [])) c) .card
       kept = unfold swept in rw (alike-empty _ _ (take-up-stays i (withTrees (c .trees ++ (t ∷ [])) c) (new-within c t i h) u .tree), new-at c t i h, e) refl
 
+any-zeros : (k u : ℕ) → any isBranch (set (replicate k 0) u 0) ≡ false
+unfolding any isBranch
+any-zeros zero u = refl
+any-zeros (suc k) zero = any-none k
+  where
+    any-none : (k : ℕ) → any isBranch (replicate k 0) ≡ false
+    any-none zero = refl
+    any-none (suc k) = any-none k
+any-zeros (suc k) (suc u) = any-zeros k u
+
+bare-upstream : (c : Card) (a : List ℕ) → noRoute ≡ upstreamOf c (bare a)
+unfolding upstreamOf holder leadsOn notHeld bare
+bare-upstream c a = rw (any-zeros 16 (upstream (routeOf (rootIn a) c))) refl
+
 -- a Withdraw for an unknown tree: nothing but what goes first
 bare-refusal : (c : Card) (a : List ℕ) → useOf 0 c ≡ free → treeRefusal c (bare a) ≡ 0
 bare-refusal c a z = unfold treeRefusal in rw (never-full, no-need) (unfold labelsShort _when_else_ in rw (le-ltb (freeLabels c) 0 zero-le) refl)
   where
     no-upstream : noRoute ≡ upstreamOf c (bare a)
-    no-upstream = unfold upstreamOf bare isEmpty any isBranch in refl
+    no-upstream = bare-upstream c a
 
     no-need : need c (bare a) (upstreamOf c (bare a)) ≡ 0
     no-need = rw (← no-upstream) (need-none c (bare a) noRoute z (unfold bare in refl) ∙ unfold needMove in refl)
@@ -190,7 +205,7 @@ unfolding become unless
 become-nothing c first a e z = ap₂ (λ (n : ℕ) (o : Outcome). unless n o) (bare-refusal c a z) entered-swept
   where
     no-upstream : noRoute ≡ upstreamOf c (bare a)
-    no-upstream = unfold upstreamOf bare isEmpty any isBranch in refl
+    no-upstream = bare-upstream c a
 
     gone : pick (isEmpty (bare a)) (withTrees (cut (withTrees (c .trees ++ (bare a ∷ [])) c .trees) (treePlace a c)) (withTrees (c .trees ++ (bare a ∷ [])) c)) (withTrees (c .trees ++ (bare a ∷ [])) c) ≡ c
     gone = unfold isEmpty bare any isBranch withTrees in ap (λ (l : List Tree). withTrees l c) (cut-end (c .trees) (bare a) (treePlace a c) e)
@@ -398,13 +413,36 @@ pub leaf-full : (t : Tree) → isEmpty (withLeaf true t) ≡ false
 unfolding isEmpty withLeaf
 leaf-full t = and-false (not (any isBranch (t .branches)))
 
-pub full-upstream : (c : Card) (t : Tree) (a : List ℕ) → isEmpty t ≡ false → t .name ≡ a → upstream (routeOf (rootIn a) c) ≡ upstreamOf c t
-unfolding upstreamOf
-full-upstream c t a e n = rw (e, n) refl
+-- a tree with a leaf leads on, whoever is its upstream
+leaf-upstream : (c : Card) (a : List ℕ) → upstream (routeOf (rootIn a) c) ≡ upstreamOf c (withLeaf true (bare a))
+unfolding upstreamOf holder leadsOn withLeaf bare
+leaf-upstream c a = by-test (any isBranch (notHeld (upstream (routeOf (rootIn a) c)) (withLeaf true (bare a)))) (λ e. rw e refl) (λ e. rw e refl)
 
-pub empty-upstream : (c : Card) (t : Tree) → isEmpty t ≡ true → noRoute ≡ upstreamOf c t
+-- a new tree with one branch: held, where that is the upstream's own
+module _ (c : Card) (a : List ℕ) (n l u : ℕ) (near : n < 16) (some : 0 < l) (eu : u ≡ upstream (routeOf (rootIn a) c)) where
+  pub new-held : u ≡ n → noRoute ≡ upstreamOf c (withBranch n l (bare a))
+  unfolding upstreamOf holder leadsOn notHeld withBranch bare
+  new-held e = rw (← eu, e) (rw (set-set (replicate 16 0) n l 0, any-zeros 16 n) refl)
+
+  pub new-led : (u ≡ n → ⊥) → u ≡ upstreamOf c (withBranch n l (bare a))
+  unfolding upstreamOf holder leadsOn notHeld withBranch bare
+  new-led d = rw (← eu) (rw (set-comm (replicate 16 0) n u l 0 (λ e. d (sym e)), any-set (set (replicate 16 0) u 0) n l (rw (length-set {A = ℕ} (replicate 16 0) u 0) near) some) refl)
+
+-- what the code finds for a tree t, by its name's upstream
+held-range : (c : Card) (t : Tree) (a : List ℕ) (u r : ℕ) → a ≡ t .name → u ≡ upstream (routeOf (rootIn a) c) → u ≤ 17 → (u ≡ 16 → ⊥) → r ≡ holder u t → (r ≡ upstreamOf c t) × (r ≤ 17) × (r ≡ 16 → ⊥)
 unfolding upstreamOf
-empty-upstream c t e = rw e refl
+held-range c t a u r ea eu low here e =
+    let range = holder-range u t low here in
+    (e ∙ ap (λ (x : ℕ). holder x t) (eu ∙ ap (λ (b : List ℕ). upstream (routeOf (rootIn b) c)) ea), rw e (range .0), (λ z. range .1 (sym e ∙ z)))
+
+pub branch-held : (c : Card) (t : Tree) (n x : ℕ) (leaf : Bool) (a : List ℕ) (u r : ℕ) → a ≡ t .name → leaf ≡ t .leaf → u ≡ upstream (routeOf (rootIn a) c) → u ≤ 17 → (u ≡ 16 → ⊥) → r ≡ holder u (withLeaf leaf (withBranch n x t))
+    → (r ≡ upstreamOf c (withBranch n x t)) × (r ≤ 17) × (r ≡ 16 → ⊥)
+unfolding withLeaf withBranch
+branch-held c t n x leaf a u r ea el eu low here e = held-range c (withBranch n x t) a u r ea eu low here (e ∙ ap (λ (b : Bool). holder u (record { name = t .name; branches = set (t .branches) n x; leaf = b; label = t .label })) el)
+
+pub leaf-held : (c : Card) (t : Tree) (leaf : Bool) (a : List ℕ) (u r : ℕ) → a ≡ t .name → length (t .branches) ≡ 16 → u ≡ upstream (routeOf (rootIn a) c) → u ≤ 17 → (u ≡ 16 → ⊥) → r ≡ holder u (withLeaf leaf (withBranch 16 0 t))
+    → (r ≡ upstreamOf c (withLeaf leaf t)) × (r ≤ 17) × (r ≡ 16 → ⊥)
+leaf-held c t leaf a u r ea sized eu low here e = held-range c (withLeaf leaf t) a u r (ea ∙ unfold withLeaf in refl) eu low here (e ∙ ap (holder u) (with-none t leaf 0 sized))
 
 -- what a Withdraw leaves: the branch that stands is set to what is left of it
 pub less-is : (n l : ℕ) (t : Tree) → withBranch n (pick (eqb (branch t n) l) 0 (branch t n)) t ≡ lessBranch n l t
@@ -468,45 +506,11 @@ module _ (c : Card) (a : List ℕ) (i : ℕ) (ei : i ≡ treePlace a c) where
 -- ---- what each event makes of a standing tree
 
 module _ (c : Card) (i : ℕ) (ei : i ≡ treePlace (treeAt i c .name) c) (h : i < length (c .trees)) (u : ℕ) where
-  pub mapped-stands : (n l : ℕ) → n < length (treeAt i c .branches) → 0 < l → u ≡ upstream (routeOf (rootIn (treeAt i c .name)) c) → Standing c (withBranch n l (treeAt i c)) i u
-  mapped-stands n l k p eu = record {
-    place = unfold withBranch in ei;
-    within = h;
-    label = unfold withBranch in refl;
-    name = unfold withBranch in refl;
-    upstream = eu ∙ full-upstream c (withBranch n l (treeAt i c)) (treeAt i c .name) (branch-full (treeAt i c) n l k p) (unfold withBranch in refl);
-  }
+  pub branch-stands : (n l : ℕ) → u ≡ upstreamOf c (withBranch n l (treeAt i c)) → Standing c (withBranch n l (treeAt i c)) i u
+  branch-stands n l eu = record { place = unfold withBranch in ei; within = h; label = unfold withBranch in refl; name = unfold withBranch in refl; upstream = eu }
 
-  pub joined-stands : u ≡ upstream (routeOf (rootIn (treeAt i c .name)) c) → Standing c (withLeaf true (treeAt i c)) i u
-  joined-stands eu = record {
-    place = unfold withLeaf in ei;
-    within = h;
-    label = unfold withLeaf in refl;
-    name = unfold withLeaf in refl;
-    upstream = eu ∙ full-upstream c (withLeaf true (treeAt i c)) (treeAt i c .name) (leaf-full (treeAt i c)) (unfold withLeaf in refl);
-  }
-
-  either-upstream : (t : Tree) (empty : Bool) → empty ≡ isEmpty t → t .name ≡ treeAt i c .name → u ≡ pick empty noRoute (upstream (routeOf (rootIn (treeAt i c .name)) c)) → u ≡ upstreamOf c t
-  either-upstream t true e n eu = eu ∙ empty-upstream c t (sym e)
-  either-upstream t false e n eu = eu ∙ full-upstream c t (treeAt i c .name) (sym e) n
-
-  pub left-stands : (empty : Bool) → empty ≡ isEmpty (withLeaf false (treeAt i c)) → u ≡ pick empty noRoute (upstream (routeOf (rootIn (treeAt i c .name)) c)) → Standing c (withLeaf false (treeAt i c)) i u
-  left-stands empty e eu = record {
-    place = unfold withLeaf in ei;
-    within = h;
-    label = unfold withLeaf in refl;
-    name = unfold withLeaf in refl;
-    upstream = either-upstream (withLeaf false (treeAt i c)) empty e (unfold withLeaf in refl) eu;
-  }
-
-  pub less-stands : (n l : ℕ) (empty : Bool) → empty ≡ isEmpty (withBranch n l (treeAt i c)) → u ≡ pick empty noRoute (upstream (routeOf (rootIn (treeAt i c .name)) c)) → Standing c (withBranch n l (treeAt i c)) i u
-  less-stands n l empty e eu = record {
-    place = unfold withBranch in ei;
-    within = h;
-    label = unfold withBranch in refl;
-    name = unfold withBranch in refl;
-    upstream = either-upstream (withBranch n l (treeAt i c)) empty e (unfold withBranch in refl) eu;
-  }
+  pub leaf-stands : (leaf : Bool) → u ≡ upstreamOf c (withLeaf leaf (treeAt i c)) → Standing c (withLeaf leaf (treeAt i c)) i u
+  leaf-stands leaf eu = record { place = unfold withLeaf in ei; within = h; label = unfold withLeaf in refl; name = unfold withLeaf in refl; upstream = eu }
 
 -- ---- tests on a branch
 
@@ -536,22 +540,19 @@ module _ (t : Tree) (n : ℕ) where
   pub branch-left : (l : ℕ) → n < length (t .branches) → (l ≡ 0 → ⊥) → false ≡ isEmpty (withBranch n l t)
   branch-left l h z = sym (branch-full t n l h (positive l z))
 
-  pub leaf-left : t .leaf ≡ true → false ≡ isEmpty (withBranch n 0 t)
+  pub leaf-left : (l : ℕ) → t .leaf ≡ true → false ≡ isEmpty (withBranch n l t)
   unfolding isEmpty withBranch
-  leaf-left e = rw e (sym (and-false (not (any isBranch (set (t .branches) n 0)))))
+  leaf-left l e = rw e (sym (and-false (not (any isBranch (set (t .branches) n l)))))
 
-  pub none-left : (x : Bool) → x ≡ any isBranch (set (t .branches) n 0) → t .leaf ≡ false → not x ≡ isEmpty (withBranch n 0 t)
+  pub none-left : (x : Bool) (l : ℕ) → length (t .branches) ≡ 16 → x ≡ any isBranch (set (set (t .branches) n l) 16 0) → t .leaf ≡ false → not x ≡ isEmpty (withBranch n l t)
   unfolding isEmpty withBranch
-  none-left x e k = rw (k, ← e) (sym (and-true (not x)))
+  none-left x l h e k =
+      let past : set (set (t .branches) n l) 16 0 ≡ set (t .branches) n l = set-out (set (t .branches) n l) 16 0 (omega (arith, length-set (t .branches) n l)) in
+      rw (k, e, past) (sym (and-true (not (any isBranch (set (t .branches) n l)))))
 
--- the leaf goes: no branch is set apart
-pub leaf-gone : (t : Tree) (x : Bool) → length (t .branches) ≡ 16 → x ≡ any isBranch (set (t .branches) 16 0) → not x ≡ isEmpty (withLeaf false t)
-leaf-gone t x l e = rw (e, set-past (t .branches) 16 (rw l (le-refl 16))) (unfold isEmpty withLeaf in sym (and-true (not (any isBranch (t .branches)))))
-  where
-    set-past : (bs : List ℕ) (k : ℕ) → length bs ≤ k → set bs k 0 ≡ bs
-    set-past [] k h = refl
-    set-past (b ∷ bs) zero h = absurd (not-suc-le-zero h)
-    set-past (b ∷ bs) (suc k) h = ap (λ (x : List ℕ). b ∷ x) (set-past bs k (le-of-suc-le-suc h))
+-- the leaf goes: no branch changes, and none is set apart
+pub leaf-gone : (t : Tree) (x : Bool) → length (t .branches) ≡ 16 → x ≡ any isBranch (set (set (t .branches) 16 0) 16 0) → not x ≡ isEmpty (withLeaf false t)
+leaf-gone t x l e = rw (e, set-set (t .branches) 16 0 0, set-out (t .branches) 16 0 (omega arith)) (unfold isEmpty withLeaf in sym (and-true (not (any isBranch (t .branches)))))
 
 pub not-true : (b : Bool) → not b ≡ true → b ≡ false
 not-true true e = sym e
@@ -717,32 +718,28 @@ entered-changed c d a i f h e =
     rw (e, new-at c (bare a) i h)
     (unfold withTrees in ap (λ (l : List Tree). withTrees l c) (rw h (set-snoc (c .trees) (bare a) (f (bare a)))))
 
-module _ (c : Card) (a : List ℕ) (i u : ℕ) (ei : i ≡ treePlace a c) (h : i ≡ length (c .trees)) (z : useOf 0 c ≡ free) (eu : u ≡ upstream (routeOf (rootIn a) c)) where
-  pub mapped-new : (n l : ℕ) → n < 16 → 0 < l → Newcomer c (withBranch n l (bare a)) a i u
-  mapped-new n l k p =
-      let full = branch-full (bare a) n l (unfold bare in k) p in
-      record {
-        name = unfold withBranch bare in refl;
-        place = unfold withBranch bare in ei;
-        last = h;
-        zero = z;
-        label = unfold withBranch bare in refl;
-        upstream = eu ∙ full-upstream c (withBranch n l (bare a)) a full (unfold withBranch bare in refl);
-        full = full;
-      }
+module _ (c : Card) (a : List ℕ) (i u : ℕ) (ei : i ≡ treePlace a c) (h : i ≡ length (c .trees)) (z : useOf 0 c ≡ free) where
+  pub mapped-new : (n l : ℕ) → n < 16 → 0 < l → u ≡ upstreamOf c (withBranch n l (bare a)) → Newcomer c (withBranch n l (bare a)) a i u
+  mapped-new n l k p eu = record {
+    name = unfold withBranch bare in refl;
+    place = unfold withBranch bare in ei;
+    last = h;
+    zero = z;
+    label = unfold withBranch bare in refl;
+    upstream = eu;
+    full = branch-full (bare a) n l (unfold bare in k) p;
+  }
 
-  pub joined-new : Newcomer c (withLeaf true (bare a)) a i u
-  joined-new =
-      let full = leaf-full (bare a) in
-      record {
-        name = unfold withLeaf bare in refl;
-        place = unfold withLeaf bare in ei;
-        last = h;
-        zero = z;
-        label = unfold withLeaf bare in refl;
-        upstream = eu ∙ full-upstream c (withLeaf true (bare a)) a full (unfold withLeaf bare in refl);
-        full = full;
-      }
+  pub joined-new : u ≡ upstream (routeOf (rootIn a) c) → Newcomer c (withLeaf true (bare a)) a i u
+  joined-new eu = record {
+    name = unfold withLeaf bare in refl;
+    place = unfold withLeaf bare in ei;
+    last = h;
+    zero = z;
+    label = unfold withLeaf bare in refl;
+    upstream = eu ∙ leaf-upstream c a;
+    full = leaf-full (bare a);
+  }
 
 -- ---- a leave of a tree that does not stand
 

@@ -6,10 +6,10 @@ ghost use mathlib.Core.List.{List, [], _∷_, _++_};
 ghost use Prim.Native.Nat.{ℕ, _+_, _*_, _≤_, _<_};
 ghost use lib.ListN.{length};
 ghost use lib.Dec.{leb, ltb};
-ghost use Rattle.meaning.specs.Octets.{pick, _when_else_};
-ghost use Rattle.meaning.specs.Wire.{rootIn, records};
-ghost use Rattle.meaning.specs.Card.{noRoute, treeAt, treePlace, withBranch, isEmpty, freeLabels, routeOf};
-ghost use Rattle.meaning.specs.Events.{finish, relabel, takeUp, needMove, need, labelsShort, upstream, otherLabel, lessBranch, onMapping, onWithdraw, onRelease};
+ghost use Rattle.meaning.specs.Octets.{_when_else_};
+ghost use Rattle.meaning.specs.Wire.{records};
+ghost use Rattle.meaning.specs.Card.{treeAt, treePlace, withBranch, withLeaf, bare, isEmpty, freeLabels};
+ghost use Rattle.meaning.specs.Events.{finish, relabel, takeUp, needMove, need, labelsShort, upstreamOf, otherLabel, lessBranch, onMapping, onWithdraw, onRelease};
 ghost use Rattle.meaning.specs.Calls.{Does};
 ghost use Rattle.table.specs.Memory.{cardOf, treeCount};
 ghost use Rattle.moves.specs.Move.{relabelSize};
@@ -17,15 +17,22 @@ ghost use Rattle.trees.specs.End.{Ended, thenCut, joinOf, leaveOf};
 
 // ---- a tree that stands
 
-// The neighbour that the tree at place i holds a label for, where it is empty or not.
-fn upstream_at(numbers: &[u64], names: &[u8], i: usize, empty: bool) -> u64
+// The neighbour that the tree at place i holds a label for, once neighbour n's branch is x; 17 for none.
+fn branch_holder(numbers: &[u64], names: &[u8], i: usize, n: usize, x: u64) -> u64
     requires { ⌜ (length (now numbers) ≡ 1444) × (length (now names) ≡ 18144) × (i < treeCount (now numbers)) × (i < 64) ⌝ }
-    ensures { λ r. ⌜ (r ≡ pick empty noRoute (upstream (routeOf (rootIn (treeAt i (cardOf (now (numbers .entry)) (now (names .entry))) .name)) (cardOf (now (numbers .entry)) (now (names .entry)))))) × (r ≤ 17) × (r ≡ 16 → ⊥) ⌝ }
+    ensures { λ r. ⌜ (r ≡ upstreamOf (cardOf (now (numbers .entry)) (now (names .entry))) (withBranch n x (treeAt i (cardOf (now (numbers .entry)) (now (names .entry)))))) × (r ≤ 17) × (r ≡ 16 → ⊥) ⌝ }
 {
-    if empty {
-        return 17;
-    }
-    moves::upstream_of(numbers, names, table::tree_name(names, i))
+    let u = moves::upstream_of(numbers, names, table::tree_name(names, i));
+    moves::holder_then(numbers, i, n, x, table::is_leaf(numbers, i), u)
+}
+
+// The same, once its leaf mark is `leaf`.
+fn leaf_holder(numbers: &[u64], names: &[u8], i: usize, leaf: bool) -> u64
+    requires { ⌜ (length (now numbers) ≡ 1444) × (length (now names) ≡ 18144) × (i < treeCount (now numbers)) × (i < 64) ⌝ }
+    ensures { λ r. ⌜ (r ≡ upstreamOf (cardOf (now (numbers .entry)) (now (names .entry))) (withLeaf leaf (treeAt i (cardOf (now (numbers .entry)) (now (names .entry)))))) × (r ≤ 17) × (r ≡ 16 → ⊥) ⌝ }
+{
+    let u = moves::upstream_of(numbers, names, table::tree_name(names, i));
+    moves::holder_then(numbers, i, 16, 0, leaf, u)
 }
 
 // 12 and 16 for the tree at place i, which is to hold a label for u; `first` octets are written before its own records.
@@ -109,7 +116,7 @@ fn map_standing(
         *answer = 10;
         return 0;
     }
-    let u = upstream_at(numbers, names, i, false);
+    let u = branch_holder(numbers, names, i, n, label);
     let refusal = standing_refusal(numbers, names, i, u, 0, out.len());
     if refusal != 0 {
         *answer = refusal;
@@ -134,7 +141,7 @@ fn join_standing(
     ensures { λ r. ⌜ Does (finish (length (now (out .entry))) (cardOf (now (numbers .entry)) (now (names .entry))) (joinOf (cardOf (now (numbers .entry)) (now (names .entry))) (treeAt i (cardOf (now (numbers .entry)) (now (names .entry))) .name)))
         (now (answer .exit)) r (now (out .entry)) (now (out .exit)) (cardOf (now (numbers .exit)) (now (names .exit))) ⌝ }
 {
-    let u = upstream_at(numbers, names, i, false);
+    let u = leaf_holder(numbers, names, i, true);
     let refusal = standing_refusal(numbers, names, i, u, 0, out.len());
     if refusal != 0 {
         *answer = refusal;
@@ -159,8 +166,8 @@ fn leave_standing(
     ensures { λ r. ⌜ Does (finish (length (now (out .entry))) (cardOf (now (numbers .entry)) (now (names .entry))) (leaveOf (cardOf (now (numbers .entry)) (now (names .entry))) (treeAt i (cardOf (now (numbers .entry)) (now (names .entry))) .name)))
         (now (answer .exit)) r (now (out .entry)) (now (out .exit)) (cardOf (now (numbers .exit)) (now (names .exit))) ⌝ }
 {
-    let empty = !table::any_branch(numbers, i, 16);
-    let u = upstream_at(numbers, names, i, empty);
+    let empty = !table::any_branch(numbers, i, 16, 0, 16);
+    let u = leaf_holder(numbers, names, i, false);
     if !table::is_leaf(numbers, i) {
         *answer = if moves::labels_short(numbers, i, u) {
             12
@@ -193,13 +200,10 @@ fn less_empty(numbers: &[u64], i: usize, n: usize, left: u64) -> bool
     requires { ⌜ (length (now numbers) ≡ 1444) × (i < treeCount (now numbers)) × (i < 64) × (n < 16) ⌝ }
     ensures { λ r. ⌜ ((os : List ℕ) → r ≡ isEmpty (withBranch n left (treeAt i (cardOf (now (numbers .entry)) os)))) ⌝ }
 {
-    if left != 0 {
-        return false;
-    }
     if table::is_leaf(numbers, i) {
         return false;
     }
-    !table::any_branch(numbers, i, n)
+    !table::any_branch(numbers, i, n, left, 16)
 }
 
 // A Withdraw for the tree at place i: the Release goes first.
@@ -219,7 +223,7 @@ fn withdraw_standing(
 {
     let left = less_branch(numbers, i, n, label);
     let empty = less_empty(numbers, i, n, left);
-    let u = upstream_at(numbers, names, i, empty);
+    let u = branch_holder(numbers, names, i, n, left);
     let name = table::tree_name(names, i);
     let first = writer::record_size(name);
     let refusal = standing_refusal(numbers, names, i, u, first, out.len());
@@ -242,6 +246,18 @@ fn withdraw_standing(
 }
 
 // ---- a tree that does not stand
+
+// The neighbour that a new tree holds a label for, whose only branch is that of neighbour n; 17 for none.
+fn new_holder(numbers: &[u64], names: &[u8], name: &[u8], n: usize) -> u64
+    requires { ⌜ (length (now numbers) ≡ 1444) × (length (now names) ≡ 18144) × (n < 16) ⌝ }
+    ensures { λ r. ⌜ ((l : ℕ) → 0 < l → r ≡ upstreamOf (cardOf (now (numbers .entry)) (now (names .entry))) (withBranch n l (bare (now (name .entry))))) × (r ≤ 17) × (r ≡ 16 → ⊥) ⌝ }
+{
+    let u = moves::upstream_of(numbers, names, name);
+    if u == n as u64 {
+        return 17;
+    }
+    u
+}
 
 // 11, 12 and 16 for a new tree that is to hold a label for u.
 fn new_refusal(numbers: &[u64], u: u64, size: usize, room: usize) -> u32
@@ -287,7 +303,7 @@ fn map_new(
     ensures { λ r. ⌜ Does (finish (length (now (out .entry))) (cardOf (now (numbers .entry)) (now (names .entry))) (onMapping (cardOf (now (numbers .entry)) (now (names .entry))) n (now (name .entry)) label))
         (now (answer .exit)) r (now (out .entry)) (now (out .exit)) (cardOf (now (numbers .exit)) (now (names .exit))) ⌝ }
 {
-    let u = moves::upstream_of(numbers, names, name);
+    let u = new_holder(numbers, names, name, n);
     let refusal = new_refusal(numbers, u, writer::record_size(name), out.len());
     if refusal != 0 {
         *answer = refusal;

@@ -35,8 +35,7 @@ loop-less c = search needs
 
 loop-again : tie.Need-loop-again Inv-loop μ-loop
 loop-again c =
-    let k = c .before .before .before in
-    (omega arith, omega arith, sum-next _ _ _ _ _ (c .before .before .loop .inv .2) (c .need-one .ensures .0 _ (omega (arith, k .tree-count .ensures .0))))
+    (omega arith, omega arith, sum-next _ _ _ _ _ (c .before .before .loop .inv .2) (c .need-one .ensures .0))
 
 returns : tie.Need-returns Inv-loop μ-loop
 unfolding needAll

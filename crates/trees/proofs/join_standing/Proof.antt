@@ -8,13 +8,13 @@ use Rattle.meaning.specs.Card.{treeAt, withBranch, withLeaf}
 use Rattle.table.specs.Memory.{cardOf}
 use Rattle.table.proofs.Memory.{trees-length}
 use Rattle.table.proofs.Laws.{branches-length}
-use Rattle.trees.proofs.Laws.{join-standing, joined-stands, no-records, standing-refused, standing-taken, standing-ends, settle-ready, leaf-full}
+use Rattle.trees.proofs.Laws.{join-standing, leaf-stands, no-records, standing-refused, standing-taken, standing-ends, settle-ready, leaf-full}
 use borrow.Author.Needs.{needs}
 use Rattle.trees.proofs.join_standing.Statement.{statement}
 use Rattle.trees.proofs.join_standing.Tie as tie
 
-upstream-at-requires : tie.Need-upstream-at-requires
-upstream-at-requires c κs = search needs
+leaf-holder-requires : tie.Need-leaf-holder-requires
+leaf-holder-requires c κs = search needs
 
 standing-refusal-requires : tie.Need-standing-refusal-requires
 standing-refusal-requires c κs = search needs
@@ -28,10 +28,10 @@ same-length-2 c = search needs
 returns : tie.Need-returns
 returns c =
     let start = c .before .before .before .before .before .before .before .before .before .before in
-    let the-upstream-at = c .before .before .before .before .upstream-at in
+    let the-leaf-holder = c .before .before .before .before .leaf-holder in
     let card = (cardOf (start .args .numbers .now) (start .args .names .now)) in
     let within : start .args .i < length (card .trees) = rw trees-length (start .pre .2) in
-    let S = joined-stands card (start .args .i) (start .pre .4) within _ (the-upstream-at .ensures .0) in
+    let S = leaf-stands card (start .args .i) (start .pre .4) within _ true (the-leaf-holder .ensures .0) in
     rw (join-standing card _ (start .args .i) (start .pre .4) within)
     (standing-refused card [] _ _ _ S _ 0 _ (no-records _) (c .before .standing-refusal .ensures) (c .if1 .taken))
 
@@ -44,13 +44,13 @@ set-leaf-requires c κs = search needs
 settle-requires : tie.Need-settle-requires
 settle-requires c κs =
     let start = c .before .before .before .before .before .before .before .before .before .before .before .before .before .before .before .before .before .before .before in
-    let the-upstream-at = c .before .before .before .before .before .before .before .before .before .before .before .before .before .upstream-at in
+    let the-leaf-holder = c .before .before .before .before .before .before .before .before .before .before .before .before .before .leaf-holder in
     let the-standing-refusal = c .before .before .before .before .before .before .before .before .before .before .standing-refusal in
     let the-if1 = c .before .before .before .before .before .before .before .before .before .if1 in
     let the-set-leaf = c .before .before .before .before .before .set-leaf in
     let card = (cardOf (start .args .numbers .now) (start .args .names .now)) in
     let within : start .args .i < length (card .trees) = rw trees-length (start .pre .2) in
-    let S = joined-stands card (start .args .i) (start .pre .4) within _ (the-upstream-at .ensures .0) in
+    let S = leaf-stands card (start .args .i) (start .pre .4) within _ true (the-leaf-holder .ensures .0) in
     let R = settle-ready card [] _ _ _ S (start .args .out .now) 0 _ (no-records _) (the-standing-refusal .ensures) (the-if1 .left) _ _ (the-set-leaf .ensures _) in
     (search needs, search needs, R .0, search needs, search needs, search needs, R .1, R .2)
 
@@ -66,7 +66,7 @@ same-length-5 c = search needs
 returns-2 : tie.Need-returns-2
 returns-2 c =
     let start = c .before .before .before .before .before .before .before .before .before .before .before .before .before .before .before .before .before .before .before .before .before .before .before .before .before .before in
-    let the-upstream-at = c .before .before .before .before .before .before .before .before .before .before .before .before .before .before .before .before .before .before .before .before .upstream-at in
+    let the-leaf-holder = c .before .before .before .before .before .before .before .before .before .before .before .before .before .before .before .before .before .before .before .before .leaf-holder in
     let the-standing-refusal = c .before .before .before .before .before .before .before .before .before .before .before .before .before .before .before .before .before .standing-refusal in
     let the-if1 = c .before .before .before .before .before .before .before .before .before .before .before .before .before .before .before .before .if1 in
     let the-next-id = c .before .before .before .before .before .before .before .before .before .before .before .before .before .before .next-id in
@@ -74,7 +74,7 @@ returns-2 c =
     let the-settle = c .before .before .before .before .before .before .settle in
     let card = (cardOf (start .args .numbers .now) (start .args .names .now)) in
     let within : start .args .i < length (card .trees) = rw trees-length (start .pre .2) in
-    let S = joined-stands card (start .args .i) (start .pre .4) within _ (the-upstream-at .ensures .0) in
+    let S = leaf-stands card (start .args .i) (start .pre .4) within _ true (the-leaf-holder .ensures .0) in
     rw (join-standing card _ (start .args .i) (start .pre .4) within)
     (standing-taken card [] _ _ _ S (start .args .out .now) 0 _ (no-records _) (the-standing-refusal .ensures) (the-if1 .left) _ _ _
     (standing-ends card [] _ _ _ S (start .args .out .now) _ _ _ _ _ _ (the-next-id .ensures _) (the-set-leaf .ensures _) (sym (leaf-full (treeAt (start .args .i) card))) (the-settle .ensures)))
@@ -83,7 +83,7 @@ pub join-standing-spec : {M : Type 1} → statement M
 join-standing-spec =
     tie.close
     (tie.spec
-    upstream-at-requires
+    leaf-holder-requires
     standing-refusal-requires
     same-length
     same-length-2

@@ -1,5 +1,5 @@
 use borrow.Author.Tests.{not-false}
-use Rattle.trees.proofs.Laws.{not-true, leave-leaf, leave-labels, leave-no-leaf, left-stands, leaf-gone, no-records, standing-refused, standing-taken, standing-ends, settle-ready}
+use Rattle.trees.proofs.Laws.{not-true, leave-leaf, leave-labels, leave-no-leaf, leaf-stands, leaf-gone, no-records, standing-refused, standing-taken, standing-ends, settle-ready}
 use mathlib.Core.Path.{refl, sym, ap, _∙_}
 use mathlib.Core.Bool.{true, false}
 use mathlib.Core.List.{[]}
@@ -10,7 +10,7 @@ use Rattle.meaning.specs.Card.{treeAt, withBranch, withLeaf}
 use Rattle.table.specs.Memory.{cardOf}
 use Rattle.table.proofs.Memory.{trees-length}
 use Rattle.table.proofs.Laws.{branches-length}
-use Rattle.trees.proofs.Laws.{leave-leaf, leave-labels, leave-no-leaf, left-stands, leaf-gone, no-records, standing-refused, standing-taken, standing-ends, settle-ready}
+use Rattle.trees.proofs.Laws.{leave-leaf, leave-labels, leave-no-leaf, leaf-stands, leaf-gone, no-records, standing-refused, standing-taken, standing-ends, settle-ready}
 use borrow.Author.Needs.{needs}
 use Rattle.trees.proofs.leave_standing.Statement.{statement}
 use Rattle.trees.proofs.leave_standing.Tie as tie
@@ -18,8 +18,8 @@ use Rattle.trees.proofs.leave_standing.Tie as tie
 any-branch-requires : tie.Need-any-branch-requires
 any-branch-requires c κs = search needs
 
-upstream-at-requires : tie.Need-upstream-at-requires
-upstream-at-requires c κs = search needs
+leaf-holder-requires : tie.Need-leaf-holder-requires
+leaf-holder-requires c κs = search needs
 
 is-leaf-requires : tie.Need-is-leaf-requires
 is-leaf-requires c κs = search needs
@@ -37,13 +37,13 @@ returns : tie.Need-returns
 returns c =
     let start = c .before .before .before .before .before .before .before .before .before .before .before .before .before .before in
     let the-any-branch = c .before .before .before .before .before .before .before .before .before .any-branch in
-    let the-upstream-at = c .before .before .before .before .before .before .upstream-at in
+    let the-leaf-holder = c .before .before .before .before .before .before .leaf-holder in
     let the-is-leaf = c .before .before .before .before .is-leaf in
     let the-if1 = c .before .before .before .if1 in
     let card = (cardOf (start .args .numbers .now) (start .args .names .now)) in
     let within : start .args .i < length (card .trees) = rw trees-length (start .pre .2) in
     let none = leaf-gone (treeAt (start .args .i) card) _ (branches-length _ _ _ (start .pre .2)) (the-any-branch .ensures _) in
-    let S = left-stands card (start .args .i) (start .pre .4) within _ _ none (the-upstream-at .ensures .0) in
+    let S = leaf-stands card (start .args .i) (start .pre .4) within _ false (the-leaf-holder .ensures .0) in
     leave-labels card _ (start .args .i) _ (start .pre .4) S (sym (the-is-leaf .ensures _) ∙ not-true _ (the-if1 .taken)) _ (sym (c .before .labels-short .ensures _) ∙ c .if2 .taken)
 
 same-length-3 : tie.Need-same-length-3
@@ -56,13 +56,13 @@ returns-2 : tie.Need-returns-2
 returns-2 c =
     let start = c .before .before .before .before .before .before .before .before .before .before .before .before .before .before in
     let the-any-branch = c .before .before .before .before .before .before .before .before .before .any-branch in
-    let the-upstream-at = c .before .before .before .before .before .before .upstream-at in
+    let the-leaf-holder = c .before .before .before .before .before .before .leaf-holder in
     let the-is-leaf = c .before .before .before .before .is-leaf in
     let the-if1 = c .before .before .before .if1 in
     let card = (cardOf (start .args .numbers .now) (start .args .names .now)) in
     let within : start .args .i < length (card .trees) = rw trees-length (start .pre .2) in
     let none = leaf-gone (treeAt (start .args .i) card) _ (branches-length _ _ _ (start .pre .2)) (the-any-branch .ensures _) in
-    let S = left-stands card (start .args .i) (start .pre .4) within _ _ none (the-upstream-at .ensures .0) in
+    let S = leaf-stands card (start .args .i) (start .pre .4) within _ false (the-leaf-holder .ensures .0) in
     leave-no-leaf card _ (start .args .i) _ (start .pre .4) S (sym (the-is-leaf .ensures _) ∙ not-true _ (the-if1 .taken)) _ (sym (c .before .labels-short .ensures _) ∙ c .if2 .left)
 
 standing-refusal-requires : tie.Need-standing-refusal-requires
@@ -78,13 +78,13 @@ returns-3 : tie.Need-returns-3
 returns-3 c =
     let start = c .before .before .before .before .before .before .before .before .before .before .before .before .before .before .before in
     let the-any-branch = c .before .before .before .before .before .before .before .before .before .before .any-branch in
-    let the-upstream-at = c .before .before .before .before .before .before .before .upstream-at in
+    let the-leaf-holder = c .before .before .before .before .before .before .before .leaf-holder in
     let the-is-leaf = c .before .before .before .before .before .is-leaf in
     let the-if1 = c .before .before .before .before .if1 in
     let card = (cardOf (start .args .numbers .now) (start .args .names .now)) in
     let within : start .args .i < length (card .trees) = rw trees-length (start .pre .2) in
     let none = leaf-gone (treeAt (start .args .i) card) _ (branches-length _ _ _ (start .pre .2)) (the-any-branch .ensures _) in
-    let S = left-stands card (start .args .i) (start .pre .4) within _ _ none (the-upstream-at .ensures .0) in
+    let S = leaf-stands card (start .args .i) (start .pre .4) within _ false (the-leaf-holder .ensures .0) in
     rw (leave-leaf card _ (start .args .i) (start .pre .4) within (sym (the-is-leaf .ensures _) ∙ not-false _ (the-if1 .left)))
     (standing-refused card [] _ _ _ S _ 0 _ (no-records _) (c .before .standing-refusal .ensures) (c .if3 .taken))
 
@@ -98,14 +98,14 @@ settle-requires : tie.Need-settle-requires
 settle-requires c κs =
     let start = c .before .before .before .before .before .before .before .before .before .before .before .before .before .before .before .before .before .before .before .before .before .before .before .before in
     let the-any-branch = c .before .before .before .before .before .before .before .before .before .before .before .before .before .before .before .before .before .before .before .any-branch in
-    let the-upstream-at = c .before .before .before .before .before .before .before .before .before .before .before .before .before .before .before .before .upstream-at in
+    let the-leaf-holder = c .before .before .before .before .before .before .before .before .before .before .before .before .before .before .before .before .leaf-holder in
     let the-standing-refusal = c .before .before .before .before .before .before .before .before .before .before .standing-refusal in
     let the-if3 = c .before .before .before .before .before .before .before .before .before .if3 in
     let the-set-leaf = c .before .before .before .before .before .set-leaf in
     let card = (cardOf (start .args .numbers .now) (start .args .names .now)) in
     let within : start .args .i < length (card .trees) = rw trees-length (start .pre .2) in
     let none = leaf-gone (treeAt (start .args .i) card) _ (branches-length _ _ _ (start .pre .2)) (the-any-branch .ensures _) in
-    let S = left-stands card (start .args .i) (start .pre .4) within _ _ none (the-upstream-at .ensures .0) in
+    let S = leaf-stands card (start .args .i) (start .pre .4) within _ false (the-leaf-holder .ensures .0) in
     let R = settle-ready card [] _ _ _ S (start .args .out .now) 0 _ (no-records _) (the-standing-refusal .ensures) (the-if3 .left) _ _ (the-set-leaf .ensures _) in
     (search needs, search needs, R .0, search needs, search needs, search needs, R .1, R .2)
 
@@ -122,7 +122,7 @@ returns-4 : tie.Need-returns-4
 returns-4 c =
     let start = c .before .before .before .before .before .before .before .before .before .before .before .before .before .before .before .before .before .before .before .before .before .before .before .before .before .before .before .before .before .before .before in
     let the-any-branch = c .before .before .before .before .before .before .before .before .before .before .before .before .before .before .before .before .before .before .before .before .before .before .before .before .before .before .any-branch in
-    let the-upstream-at = c .before .before .before .before .before .before .before .before .before .before .before .before .before .before .before .before .before .before .before .before .before .before .before .upstream-at in
+    let the-leaf-holder = c .before .before .before .before .before .before .before .before .before .before .before .before .before .before .before .before .before .before .before .before .before .before .before .leaf-holder in
     let the-is-leaf = c .before .before .before .before .before .before .before .before .before .before .before .before .before .before .before .before .before .before .before .before .before .is-leaf in
     let the-if1 = c .before .before .before .before .before .before .before .before .before .before .before .before .before .before .before .before .before .before .before .before .if1 in
     let the-standing-refusal = c .before .before .before .before .before .before .before .before .before .before .before .before .before .before .before .before .before .standing-refusal in
@@ -133,7 +133,7 @@ returns-4 c =
     let card = (cardOf (start .args .numbers .now) (start .args .names .now)) in
     let within : start .args .i < length (card .trees) = rw trees-length (start .pre .2) in
     let none = leaf-gone (treeAt (start .args .i) card) _ (branches-length _ _ _ (start .pre .2)) (the-any-branch .ensures _) in
-    let S = left-stands card (start .args .i) (start .pre .4) within _ _ none (the-upstream-at .ensures .0) in
+    let S = leaf-stands card (start .args .i) (start .pre .4) within _ false (the-leaf-holder .ensures .0) in
     rw (leave-leaf card _ (start .args .i) (start .pre .4) within (sym (the-is-leaf .ensures _) ∙ not-false _ (the-if1 .left)))
     (standing-taken card [] _ _ _ S (start .args .out .now) 0 _ (no-records _) (the-standing-refusal .ensures) (the-if3 .left) _ _ _
     (standing-ends card [] _ _ _ S (start .args .out .now) _ _ _ _ _ _ (the-next-id .ensures _) (the-set-leaf .ensures _) none (the-settle .ensures)))
@@ -143,7 +143,7 @@ leave-standing-spec =
     tie.close
     (tie.spec
     any-branch-requires
-    upstream-at-requires
+    leaf-holder-requires
     is-leaf-requires
     labels-short-requires
     same-length

@@ -8,7 +8,7 @@ use Rattle.meaning.specs.Card.{treeAt, withBranch, withLeaf}
 use Rattle.table.specs.Memory.{cardOf}
 use Rattle.table.proofs.Memory.{trees-length}
 use Rattle.table.proofs.Laws.{branches-length}
-use Rattle.trees.proofs.Laws.{mapping-other, mapping-standing, mapped-stands, no-records, standing-refused, standing-taken, standing-ends, settle-ready, branch-left}
+use Rattle.trees.proofs.Laws.{mapping-other, mapping-standing, branch-stands, no-records, standing-refused, standing-taken, standing-ends, settle-ready, branch-left}
 use borrow.Author.Needs.{needs}
 use Rattle.trees.proofs.map_standing.Statement.{statement}
 use Rattle.trees.proofs.map_standing.Tie as tie
@@ -26,8 +26,8 @@ returns c =
     let within : start .args .i < length (card .trees) = rw trees-length (start .pre .2) in
     mapping-other card _ (start .args .i) (start .pre .6) within _ _ _ (sym (c .before .other-label .ensures _) ∙ c .if1 .taken)
 
-upstream-at-requires : tie.Need-upstream-at-requires
-upstream-at-requires c κs = search needs
+branch-holder-requires : tie.Need-branch-holder-requires
+branch-holder-requires c κs = search needs
 
 standing-refusal-requires : tie.Need-standing-refusal-requires
 standing-refusal-requires c κs = search needs
@@ -41,12 +41,12 @@ same-length-3 c = search needs
 returns-2 : tie.Need-returns-2
 returns-2 c =
     let start = c .before .before .before .before .before .before .before .before .before .before .before .before .before in
-    let the-upstream-at = c .before .before .before .before .upstream-at in
+    let the-branch-holder = c .before .before .before .before .branch-holder in
     let the-other-label = c .before .before .before .before .before .before .before .before .other-label in
     let the-if1 = c .before .before .before .before .before .before .before .if1 in
     let card = (cardOf (start .args .numbers .now) (start .args .names .now)) in
     let within : start .args .i < length (card .trees) = rw trees-length (start .pre .2) in
-    let S = mapped-stands card (start .args .i) (start .pre .6) within _ (start .args .n) (start .args .label) (rw (branches-length _ _ _ (start .pre .2)) (start .pre .4)) (omega (arith, start .pre .5)) (the-upstream-at .ensures .0) in
+    let S = branch-stands card (start .args .i) (start .pre .6) within _ (start .args .n) (start .args .label) (the-branch-holder .ensures .0) in
     rw (mapping-standing card _ (start .args .i) (start .pre .6) within _ _ (sym (the-other-label .ensures _) ∙ the-if1 .left))
     (standing-refused card [] _ _ _ S _ 0 _ (no-records _) (c .before .standing-refusal .ensures) (c .if2 .taken))
 
@@ -59,13 +59,13 @@ set-branch-requires c κs = search needs
 settle-requires : tie.Need-settle-requires
 settle-requires c κs =
     let start = c .before .before .before .before .before .before .before .before .before .before .before .before .before .before .before .before .before .before .before .before .before .before in
-    let the-upstream-at = c .before .before .before .before .before .before .before .before .before .before .before .before .before .upstream-at in
+    let the-branch-holder = c .before .before .before .before .before .before .before .before .before .before .before .before .before .branch-holder in
     let the-standing-refusal = c .before .before .before .before .before .before .before .before .before .before .standing-refusal in
     let the-if2 = c .before .before .before .before .before .before .before .before .before .if2 in
     let the-set-branch = c .before .before .before .before .before .set-branch in
     let card = (cardOf (start .args .numbers .now) (start .args .names .now)) in
     let within : start .args .i < length (card .trees) = rw trees-length (start .pre .2) in
-    let S = mapped-stands card (start .args .i) (start .pre .6) within _ (start .args .n) (start .args .label) (rw (branches-length _ _ _ (start .pre .2)) (start .pre .4)) (omega (arith, start .pre .5)) (the-upstream-at .ensures .0) in
+    let S = branch-stands card (start .args .i) (start .pre .6) within _ (start .args .n) (start .args .label) (the-branch-holder .ensures .0) in
     let R = settle-ready card [] _ _ _ S (start .args .out .now) 0 _ (no-records _) (the-standing-refusal .ensures) (the-if2 .left) _ _ (the-set-branch .ensures _) in
     (search needs, search needs, R .0, search needs, search needs, search needs, R .1, R .2)
 
@@ -81,7 +81,7 @@ same-length-6 c = search needs
 returns-3 : tie.Need-returns-3
 returns-3 c =
     let start = c .before .before .before .before .before .before .before .before .before .before .before .before .before .before .before .before .before .before .before .before .before .before .before .before .before .before .before .before .before in
-    let the-upstream-at = c .before .before .before .before .before .before .before .before .before .before .before .before .before .before .before .before .before .before .before .before .upstream-at in
+    let the-branch-holder = c .before .before .before .before .before .before .before .before .before .before .before .before .before .before .before .before .before .before .before .before .branch-holder in
     let the-other-label = c .before .before .before .before .before .before .before .before .before .before .before .before .before .before .before .before .before .before .before .before .before .before .before .before .other-label in
     let the-if1 = c .before .before .before .before .before .before .before .before .before .before .before .before .before .before .before .before .before .before .before .before .before .before .before .if1 in
     let the-standing-refusal = c .before .before .before .before .before .before .before .before .before .before .before .before .before .before .before .before .before .standing-refusal in
@@ -91,7 +91,7 @@ returns-3 c =
     let the-settle = c .before .before .before .before .before .before .settle in
     let card = (cardOf (start .args .numbers .now) (start .args .names .now)) in
     let within : start .args .i < length (card .trees) = rw trees-length (start .pre .2) in
-    let S = mapped-stands card (start .args .i) (start .pre .6) within _ (start .args .n) (start .args .label) (rw (branches-length _ _ _ (start .pre .2)) (start .pre .4)) (omega (arith, start .pre .5)) (the-upstream-at .ensures .0) in
+    let S = branch-stands card (start .args .i) (start .pre .6) within _ (start .args .n) (start .args .label) (the-branch-holder .ensures .0) in
     let filled = branch-left (treeAt (start .args .i) card) (start .args .n) (start .args .label) (rw (branches-length _ _ _ (start .pre .2)) (start .pre .4)) (λ z. omega (arith, start .pre .5)) in
     rw (mapping-standing card _ (start .args .i) (start .pre .6) within _ _ (sym (the-other-label .ensures _) ∙ the-if1 .left))
     (standing-taken card [] _ _ _ S (start .args .out .now) 0 _ (no-records _) (the-standing-refusal .ensures) (the-if2 .left) _ _ _
@@ -104,7 +104,7 @@ map-standing-spec =
     other-label-requires
     same-length
     returns
-    upstream-at-requires
+    branch-holder-requires
     standing-refusal-requires
     same-length-2
     same-length-3

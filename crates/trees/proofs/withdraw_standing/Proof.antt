@@ -1,5 +1,5 @@
-use Rattle.trees.proofs.Laws.{withdraw-standing, less-stands, release-size, standing-refused, standing-taken, first-fits, sent-length, withdraw-ends, settle-ready}
-use Rattle.trees.proofs.Laws.{withdraw-standing, less-stands, release-size, standing-refused, standing-taken, first-fits, withdraw-ends, settle-ready}
+use Rattle.trees.proofs.Laws.{withdraw-standing, branch-stands, release-size, standing-refused, standing-taken, first-fits, sent-length, withdraw-ends, settle-ready}
+use Rattle.trees.proofs.Laws.{withdraw-standing, branch-stands, release-size, standing-refused, standing-taken, first-fits, withdraw-ends, settle-ready}
 use mathlib.Core.Path.{refl, sym, ap, _∙_}
 use mathlib.Core.Bool.{true, false}
 use mathlib.Core.List.{List, [], _∷_}
@@ -12,7 +12,7 @@ use Rattle.table.proofs.Memory.{trees-length}
 use Rattle.table.proofs.Laws.{branches-length}
 use Rattle.meaning.specs.Wire.{release}
 use Rattle.meaning.specs.Events.{tell, become}
-use Rattle.trees.proofs.Laws.{withdraw-standing, less-stands, release-size, standing-refused, standing-taken, withdraw-ends, settle-ready}
+use Rattle.trees.proofs.Laws.{withdraw-standing, branch-stands, release-size, standing-refused, standing-taken, withdraw-ends, settle-ready}
 use borrow.Author.Needs.{needs}
 use Rattle.trees.proofs.withdraw_standing.Statement.{statement}
 use Rattle.trees.proofs.withdraw_standing.Tie as tie
@@ -23,8 +23,8 @@ less-branch-requires c κs = search needs
 less-empty-requires : tie.Need-less-empty-requires
 less-empty-requires c κs = search needs
 
-upstream-at-requires : tie.Need-upstream-at-requires
-upstream-at-requires c κs = search needs
+branch-holder-requires : tie.Need-branch-holder-requires
+branch-holder-requires c κs = search needs
 
 tree-name-requires : tie.Need-tree-name-requires
 tree-name-requires c κs = search needs
@@ -45,13 +45,13 @@ returns : tie.Need-returns
 returns c =
     let start = c .before .before .before .before .before .before .before .before .before .before .before .before .before .before .before .before in
     let the-less-empty = c .before .before .before .before .before .before .before .before .before .less-empty in
-    let the-upstream-at = c .before .before .before .before .before .before .upstream-at in
+    let the-branch-holder = c .before .before .before .before .before .before .branch-holder in
     let the-tree-name = c .before .before .before .before .tree-name in
     let the-record-size = c .before .before .before .record-size in
     let the-less-branch = c .before .before .before .before .before .before .before .before .before .before .before .less-branch in
     let card = (cardOf (start .args .numbers .now) (start .args .names .now)) in
     let within : start .args .i < length (card .trees) = rw trees-length (start .pre .2) in
-    let S = less-stands card (start .args .i) (start .pre .5) within _ (start .args .n) _ _ (the-less-empty .ensures _) (the-upstream-at .ensures .0) in
+    let S = branch-stands card (start .args .i) (start .pre .5) within _ (start .args .n) _ (the-branch-holder .ensures .0) in
     let its-name = the-tree-name .ensures .0 _ (start .pre .2) in
     let long = the-record-size .ensures ∙ ap (λ (l : List ℕ). 24 + length l) its-name ∙ release-size card _ (start .args .i) _ (start .args .n) (start .args .label) S (start .args .out .now) in
     let becomes = sym (withdraw-standing card _ (start .args .i) (start .pre .5) within (start .args .n) (start .args .label)) ∙ ap (become card (tell (start .args .n) release (treeAt (start .args .i) card .name) (start .args .label) ∷ [])) (sym (the-less-branch .ensures _)) in
@@ -64,27 +64,27 @@ send-requires : tie.Need-send-requires
 send-requires c κs =
     let start = c .before .before .before .before .before .before .before .before .before .before .before .before .before .before .before .before .before .before .before in
     let the-less-empty = c .before .before .before .before .before .before .before .before .before .before .before .before .less-empty in
-    let the-upstream-at = c .before .before .before .before .before .before .before .before .before .upstream-at in
+    let the-branch-holder = c .before .before .before .before .before .before .before .before .before .branch-holder in
     let the-tree-name = c .before .before .before .before .before .before .before .tree-name in
     let the-record-size = c .before .before .before .before .before .before .record-size in
     let the-standing-refusal = c .before .before .before .before .standing-refusal in
     let the-if1 = c .before .before .before .if1 in
     let card = (cardOf (start .args .numbers .now) (start .args .names .now)) in
     let within : start .args .i < length (card .trees) = rw trees-length (start .pre .2) in
-    let S = less-stands card (start .args .i) (start .pre .5) within _ (start .args .n) _ _ (the-less-empty .ensures _) (the-upstream-at .ensures .0) in
+    let S = branch-stands card (start .args .i) (start .pre .5) within _ (start .args .n) _ (the-branch-holder .ensures .0) in
     let its-name = the-tree-name .ensures .0 _ (start .pre .2) in
     let long = the-record-size .ensures ∙ ap (λ (l : List ℕ). 24 + length l) its-name ∙ release-size card _ (start .args .i) _ (start .args .n) (start .args .label) S (start .args .out .now) in
     let fits = first-fits card _ _ _ _ S (start .args .out .now) _ _ long (the-standing-refusal .ensures) (the-if1 .left) in
     (omega (arith, fits, the-record-size .ensures), omega (arith, the-tree-name .ensures .1))
 
 set-branch-requires : tie.Need-set-branch-requires
-set-branch-requires c κs = search needs
+set-branch-requires c κs = let start = c .before .before .before .before .before .before .before .before .before .before .before .before .before .before .before .before .before .before .before .before .before .before .before in (start .pre .0, start .pre .2, start .pre .3, start .pre .4)
 
 settle-requires : tie.Need-settle-requires
 settle-requires c κs =
     let start = c .before .before .before .before .before .before .before .before .before .before .before .before .before .before .before .before .before .before .before .before .before .before .before .before .before .before .before .before .before in
     let the-less-empty = c .before .before .before .before .before .before .before .before .before .before .before .before .before .before .before .before .before .before .before .before .before .before .less-empty in
-    let the-upstream-at = c .before .before .before .before .before .before .before .before .before .before .before .before .before .before .before .before .before .before .before .upstream-at in
+    let the-branch-holder = c .before .before .before .before .before .before .before .before .before .before .before .before .before .before .before .before .before .before .before .branch-holder in
     let the-tree-name = c .before .before .before .before .before .before .before .before .before .before .before .before .before .before .before .before .before .tree-name in
     let the-record-size = c .before .before .before .before .before .before .before .before .before .before .before .before .before .before .before .before .record-size in
     let the-less-branch = c .before .before .before .before .before .before .before .before .before .before .before .before .before .before .before .before .before .before .before .before .before .before .before .before .less-branch in
@@ -94,7 +94,7 @@ settle-requires c κs =
     let the-send = c .before .before .before .before .before .before .before .before .before .send in
     let card = (cardOf (start .args .numbers .now) (start .args .names .now)) in
     let within : start .args .i < length (card .trees) = rw trees-length (start .pre .2) in
-    let S = less-stands card (start .args .i) (start .pre .5) within _ (start .args .n) _ _ (the-less-empty .ensures _) (the-upstream-at .ensures .0) in
+    let S = branch-stands card (start .args .i) (start .pre .5) within _ (start .args .n) _ (the-branch-holder .ensures .0) in
     let its-name = the-tree-name .ensures .0 _ (start .pre .2) in
     let long = the-record-size .ensures ∙ ap (λ (l : List ℕ). 24 + length l) its-name ∙ release-size card _ (start .args .i) _ (start .args .n) (start .args .label) S (start .args .out .now) in
     let becomes = sym (withdraw-standing card _ (start .args .i) (start .pre .5) within (start .args .n) (start .args .label)) ∙ ap (become card (tell (start .args .n) release (treeAt (start .args .i) card .name) (start .args .label) ∷ [])) (sym (the-less-branch .ensures _)) in
@@ -116,7 +116,7 @@ returns-2 : tie.Need-returns-2
 returns-2 c =
     let start = c .before .before .before .before .before .before .before .before .before .before .before .before .before .before .before .before .before .before .before .before .before .before .before .before .before .before .before .before .before .before .before .before .before .before .before .before in
     let the-less-empty = c .before .before .before .before .before .before .before .before .before .before .before .before .before .before .before .before .before .before .before .before .before .before .before .before .before .before .before .before .before .less-empty in
-    let the-upstream-at = c .before .before .before .before .before .before .before .before .before .before .before .before .before .before .before .before .before .before .before .before .before .before .before .before .before .before .upstream-at in
+    let the-branch-holder = c .before .before .before .before .before .before .before .before .before .before .before .before .before .before .before .before .before .before .before .before .before .before .before .before .before .before .branch-holder in
     let the-tree-name = c .before .before .before .before .before .before .before .before .before .before .before .before .before .before .before .before .before .before .before .before .before .before .before .before .tree-name in
     let the-record-size = c .before .before .before .before .before .before .before .before .before .before .before .before .before .before .before .before .before .before .before .before .before .before .before .record-size in
     let the-less-branch = c .before .before .before .before .before .before .before .before .before .before .before .before .before .before .before .before .before .before .before .before .before .before .before .before .before .before .before .before .before .before .before .less-branch in
@@ -128,7 +128,7 @@ returns-2 c =
     let the-settle = c .before .before .before .before .before .before .settle in
     let card = (cardOf (start .args .numbers .now) (start .args .names .now)) in
     let within : start .args .i < length (card .trees) = rw trees-length (start .pre .2) in
-    let S = less-stands card (start .args .i) (start .pre .5) within _ (start .args .n) _ _ (the-less-empty .ensures _) (the-upstream-at .ensures .0) in
+    let S = branch-stands card (start .args .i) (start .pre .5) within _ (start .args .n) _ (the-branch-holder .ensures .0) in
     let its-name = the-tree-name .ensures .0 _ (start .pre .2) in
     let long = the-record-size .ensures ∙ ap (λ (l : List ℕ). 24 + length l) its-name ∙ release-size card _ (start .args .i) _ (start .args .n) (start .args .label) S (start .args .out .now) in
     let becomes = sym (withdraw-standing card _ (start .args .i) (start .pre .5) within (start .args .n) (start .args .label)) ∙ ap (become card (tell (start .args .n) release (treeAt (start .args .i) card .name) (start .args .label) ∷ [])) (sym (the-less-branch .ensures _)) in
@@ -144,7 +144,7 @@ withdraw-standing-spec =
     (tie.spec
     less-branch-requires
     less-empty-requires
-    upstream-at-requires
+    branch-holder-requires
     tree-name-requires
     record-size-requires
     standing-refusal-requires
