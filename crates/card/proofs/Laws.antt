@@ -4,14 +4,14 @@ use native.Mathlib.Omega.{arith}
 use mathlib.Core.Path.{_≡_, refl, sym, ap, _∙_, subst}
 use mathlib.Core.Bool.{Bool, true, false, not, and-false}
 use mathlib.Core.List.{List, []}
-use lib.ListN.{length, replicate}
+use lib.ListN.{length, set, replicate}
 use lib.Dec.{eqb, leb, ltb}
 use borrow.Author.Tests.{eq-eqb, ne-eqb, eqb-true, le-leb, lt-leb, leb-true, leb-false, le-ltb, lt-ltb, ltb-true, ltb-false}
 use Rattle.meaning.specs.Octets.{place, _when_else_}
 use Rattle.meaning.specs.Lists.{positive, by-test, getD-out}
-use Rattle.meaning.specs.Wire.{Message, mapping, withdraw, release, messageIn, messageRefusal, elementRefusal}
+use Rattle.meaning.specs.Wire.{Message, mapping, withdraw, release, messageIn, messageRefusal, rootIn, elementRefusal}
 use Rattle.meaning.specs.RoundTrip.{heard, name-fits}
-use Rattle.meaning.specs.Card.{Card, Tree, Use, free, mapped, awaiting, Feed, noRoute, fresh, withNext, bare, treePlace, treeAt, isBranch, mappedTo, useOf, nothing, branchesFrom, feedOf, carries, carrier, feedOfUse, lookupLabel, lookupName}
+use Rattle.meaning.specs.Card.{Card, Tree, Use, free, mapped, awaiting, Feed, noRoute, fresh, withNext, bare, treePlace, treeAt, isBranch, notHeld, mappedTo, useOf, routeOf, Branch, nothing, branchesFrom, feedOf, carries, carrier, feedOfUse, lookupLabel, lookupName}
 use Rattle.meaning.specs.Events.{Outcome, refused, unless, refuse, accept, finish, onMapping, onWithdraw, onRelease, onMessage, noNeighbour, onOctets, onJoin, onLeave, notRoute, notRoot, onRoute, receive, join, leave, route, outcome, event, baseOutside, start}
 use Rattle.meaning.specs.Calls.{Does}
 use Rattle.octets.specs.Part.{tab}
@@ -169,16 +169,27 @@ pub empty-feed : feedIn (replicate 16 0) false ≡ nothing
 unfolding nothing branchesFrom isBranch
 empty-feed = refl
 
-bare-feed : (a : List ℕ) → feedOf (bare a) ≡ nothing
-unfolding feedOf bare nothing branchesFrom isBranch
-bare-feed a = refl
+no-branches : (k n : ℕ) → branchesFrom k (replicate n 0) ≡ []
+unfolding branchesFrom isBranch
+no-branches k zero = refl
+no-branches k (suc n) = no-branches (suc k) n
 
-pub feed-is : (t : Tree) (bs : List ℕ) (leaf : Bool) → bs ≡ t .branches → leaf ≡ t .leaf → feedIn bs leaf ≡ feedOf t
-unfolding feedOf
-feed-is t bs leaf p q = rw (p, q) refl
+still-none : (k n u : ℕ) → branchesFrom k (set (replicate n 0) u 0) ≡ []
+unfolding branchesFrom isBranch
+still-none k zero u = refl
+still-none k (suc n) zero = no-branches (suc k) n
+still-none k (suc n) (suc u) = still-none (suc k) n u
+
+bare-feed : (u : ℕ) (a : List ℕ) → feedOf u (bare a) ≡ nothing
+unfolding feedOf notHeld bare nothing
+bare-feed u a = ap (λ (bs : List Branch). record { branches = bs; leaf = false }) (still-none 0 16 u)
+
+pub feed-is : (u : ℕ) (t : Tree) (bs : List ℕ) (leaf : Bool) → bs ≡ set (t .branches) u 0 → leaf ≡ t .leaf → feedIn bs leaf ≡ feedOf u t
+unfolding feedOf notHeld
+feed-is u t bs leaf p q = rw (p, q) refl
 
 -- a label that is mapped leads where its carrier does, any other nowhere
-some-found : (l : ℕ) (c : Card) (u : Use) → (mappedTo u ≡ noRoute → ⊥) → feedOfUse l c u ≡ feedOf (carrier l c)
+some-found : (l : ℕ) (c : Card) (u : Use) → (mappedTo u ≡ noRoute → ⊥) → feedOfUse l c u ≡ feedOf (mappedTo u) (carrier l c)
 unfolding feedOfUse mappedTo
 some-found l c free h = absurd (h refl)
 some-found l c (mapped n a) h = refl
@@ -225,16 +236,16 @@ module _ (ns os : List ℕ) (l : ℕ) where
       (λ x. sym (ap (feedOfUse l (cardOf ns os)) (outside (λ k _. omega (arith, leb-false (baseIn ns) l x))) ∙ unfold feedOfUse in refl))
 
   module _ (h : mappedTo (useOf l (cardOf ns os)) ≡ noRoute → ⊥) (i : ℕ) (ei : i ≡ place (carries l) (cardOf ns os .trees)) where
-    leads : lookupLabel l (cardOf ns os) ≡ feedOf (treeAt i (cardOf ns os))
+    leads : lookupLabel l (cardOf ns os) ≡ feedOf (mappedTo (useOf l (cardOf ns os))) (treeAt i (cardOf ns os))
     unfolding lookupLabel
-    leads = some-found l (cardOf ns os) (useOf l (cardOf ns os)) h ∙ ap feedOf (unfold carrier in rw (← ei) refl)
+    leads = some-found l (cardOf ns os) (useOf l (cardOf ns os)) h ∙ ap (feedOf (mappedTo (useOf l (cardOf ns os)))) (unfold carrier in rw (← ei) refl)
 
-    pub carrier-found : (f : Feed) → f ≡ feedOf (treeAt i (cardOf ns os)) → f ≡ lookupLabel l (cardOf ns os)
-    carrier-found f e = e ∙ sym leads
+    pub carrier-found : (f : Feed) (n : ℕ) → n ≡ mappedTo (useOf l (cardOf ns os)) → f ≡ feedOf n (treeAt i (cardOf ns os)) → f ≡ lookupLabel l (cardOf ns os)
+    carrier-found f n en e = e ∙ ap (λ (x : ℕ). feedOf x (treeAt i (cardOf ns os))) en ∙ sym leads
 
     pub carrier-none : (f : Feed) → f ≡ nothing → treeCount ns ≤ i → f ≡ lookupLabel l (cardOf ns os)
     carrier-none f e k =
-        e ∙ sym (leads ∙ ap feedOf no-tree ∙ bare-feed [])
+        e ∙ sym (leads ∙ ap (feedOf (mappedTo (useOf l (cardOf ns os)))) no-tree ∙ bare-feed _ [])
       where
         no-tree : treeAt i (cardOf ns os) ≡ bare []
         no-tree = unfold treeAt in getD-out (cardOf ns os .trees) i (bare []) (rw (trees-length ns os) k)
@@ -244,12 +255,12 @@ module _ (ns os : List ℕ) (e : List ℕ) where
   unfolding lookupName
   name-refused f k q ek h = rw (ne-eqb (elementRefusal e) 0 (λ z. h (ek ∙ z))) q
 
-  pub name-found : (f : Feed) (k i : ℕ) → k ≡ elementRefusal e → k ≡ 0 → i ≡ treePlace e (cardOf ns os) → i < treeCount ns → f ≡ feedOf (treeAt i (cardOf ns os)) → f ≡ lookupName e (cardOf ns os)
+  pub name-found : (f : Feed) (k i : ℕ) → k ≡ elementRefusal e → k ≡ 0 → i ≡ treePlace e (cardOf ns os) → i < treeCount ns → (via : ℕ) → via ≡ routeOf (rootIn e) (cardOf ns os) → f ≡ feedOf via (treeAt i (cardOf ns os)) → f ≡ lookupName e (cardOf ns os)
   unfolding lookupName
-  name-found f k i ek z ei h q =
-      rw (eq-eqb (elementRefusal e) 0 (sym ek ∙ z)) (q ∙ ap feedOf (sym (standing-at (cardOf ns os) e (rw (← ei, trees-length ns os) h) ∙ ap (λ (j : ℕ). treeAt j (cardOf ns os)) (sym ei))))
+  name-found f k i ek z ei h via ev q =
+      rw (eq-eqb (elementRefusal e) 0 (sym ek ∙ z)) (q ∙ ap (λ (x : ℕ). feedOf x (treeAt i (cardOf ns os))) ev ∙ ap (feedOf (routeOf (rootIn e) (cardOf ns os))) (sym (standing-at (cardOf ns os) e (rw (← ei, trees-length ns os) h) ∙ ap (λ (j : ℕ). treeAt j (cardOf ns os)) (sym ei))))
 
   pub name-unknown : (f : Feed) (k i : ℕ) → k ≡ elementRefusal e → k ≡ 0 → i ≡ treePlace e (cardOf ns os) → treeCount ns ≤ i → f ≡ nothing → f ≡ lookupName e (cardOf ns os)
   unfolding lookupName
   name-unknown f k i ek z ei h q =
-      rw (eq-eqb (elementRefusal e) 0 (sym ek ∙ z)) (q ∙ sym (ap feedOf (not-standing (cardOf ns os) e (rw (← ei, trees-length ns os) h)) ∙ bare-feed e))
+      rw (eq-eqb (elementRefusal e) 0 (sym ek ∙ z)) (q ∙ sym (ap (feedOf (routeOf (rootIn e) (cardOf ns os))) (not-standing (cardOf ns os) e (rw (← ei, trees-length ns os) h)) ∙ bare-feed _ e))

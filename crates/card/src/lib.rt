@@ -252,11 +252,15 @@ pub struct Feed {
     pub branches: [u64; 16],
 }
 
-fn feed_at(numbers: &[u64], i: usize) -> Feed
+// Where the tree at place i leads while u is its upstream, whose own branch is held.
+fn feed_at(numbers: &[u64], i: usize, u: u64) -> Feed
     requires { ⌜ (length (now numbers) ≡ 1444) × (i < treeCount (now numbers)) × (i < 64) ⌝ }
-    ensures { λ r. ⌜ ((os : List ℕ) → feedIn (r .branches) (r .leaf) ≡ feedOf (treeAt i (cardOf (now (numbers .entry)) os))) ⌝ }
+    ensures { λ r. ⌜ ((os : List ℕ) → feedIn (r .branches) (r .leaf) ≡ feedOf u (treeAt i (cardOf (now (numbers .entry)) os))) ⌝ }
 {
-    let branches = table::branches(numbers, i);
+    let mut branches = table::branches(numbers, i);
+    if u < 16 {
+        branches[u as usize] = 0;
+    }
     Feed {
         leaf: table::is_leaf(numbers, i),
         branches,
@@ -276,12 +280,13 @@ fn find_label(numbers: &[u64], label: u64) -> Feed
     requires { ⌜ length (now numbers) ≡ 1444 ⌝ }
     ensures { λ r. ⌜ ((os : List ℕ) → feedIn (r .branches) (r .leaf) ≡ lookupLabel label (cardOf (now (numbers .entry)) os)) ⌝ }
 {
-    if table::mapped_to(numbers, label) == 17 {
+    let sender = table::mapped_to(numbers, label);
+    if sender == 17 {
         return no_feed();
     }
     let i = table::carrier_place(numbers, label);
     if i < table::tree_count(numbers) {
-        return feed_at(numbers, i);
+        return feed_at(numbers, i, sender);
     }
     no_feed()
 }
@@ -295,7 +300,8 @@ fn find_name(numbers: &[u64], names: &[u8], element: &[u8]) -> Feed
     }
     let i = table::tree_place(numbers, names, element);
     if i < table::tree_count(numbers) {
-        return feed_at(numbers, i);
+        let via = table::route_of(numbers, names, reader::root_of(element));
+        return feed_at(numbers, i, via);
     }
     no_feed()
 }

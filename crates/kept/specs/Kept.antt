@@ -54,7 +54,7 @@ pub record KeptByCode (ks : List Call) (ns os : List ℕ) : Type 0 where
   pub one : (l : ℕ) → count (ofLabel l) (liveBy ks) ≤ 1
   -- No live label is given out again.
   pub anew : (k : Call) (ns′ os′ : List ℕ) → Made ns os k ns′ os′ → NoneLive (recordsIn (k .part)) (noteTaken (k .does) (liveBy ks))
-  -- While mapped it leads exactly to the leaf, if joined, and the branches whose accepted Mapping no accepted Withdraw has since ended under its label; once withdrawn, to nobody.
+  -- While mapped it leads exactly to the leaf, if joined, and the branches, those held left out, whose accepted Mapping no accepted Withdraw has since ended under its label; once withdrawn, to nobody.
   pub leads : Each (λ g. lookupLabel (g .label) (cardOf ns os) ≡ pick (g .withdrawn) nothing (feedBy (g .tree) (acceptedBy ks))) (liveBy ks)
   -- (any other number leads to nobody)
   pub others : (l : ℕ) → count (ofLabel l) (liveBy ks) ≡ 0 → lookupLabel l (cardOf ns os) ≡ nothing

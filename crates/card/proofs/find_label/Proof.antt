@@ -34,7 +34,7 @@ returns-2 c =
     let the-if1 = c .before .before .before .before .if1 in
     let the-mapped-to = c .before .before .before .before .before .mapped-to in
     let the-carrier-place = c .before .before .before .carrier-place in
-    λ os. carrier-found _ os _ (λ z. the-if1 .left (the-mapped-to .ensures .0 os ∙ z)) _ (the-carrier-place .ensures .0 os) _ (c .feed-at .ensures os)
+    λ os. carrier-found _ os _ (λ z. the-if1 .left (the-mapped-to .ensures .0 os ∙ z)) _ (the-carrier-place .ensures .0 os) _ _ (the-mapped-to .ensures .0 os) (c .feed-at .ensures os)
 
 no-feed-requires-2 : tie.Need-no-feed-requires-2
 no-feed-requires-2 c κs = search needs

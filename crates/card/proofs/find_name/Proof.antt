@@ -1,5 +1,9 @@
 use mathlib.Core.Path.{refl, sym, ap, _∙_, subst}
 use native.Mathlib.Omega.{arith}
+use Prim.Native.Nat.{ℕ}
+use mathlib.Core.List.{List}
+use Rattle.meaning.specs.Card.{routeOf}
+use Rattle.table.specs.Memory.{cardOf}
 use Rattle.card.proofs.Laws.{name-refused, name-found, name-unknown}
 use borrow.Author.Needs.{needs}
 use Rattle.card.proofs.find_name.Statement.{statement}
@@ -22,16 +26,24 @@ tree-place-requires c κs = search needs
 tree-count-requires : tie.Need-tree-count-requires
 tree-count-requires c κs = search needs
 
+root-of-requires : tie.Need-root-of-requires
+root-of-requires c κs = search needs
+
+route-of-requires : tie.Need-route-of-requires
+route-of-requires c κs = search needs
+
 feed-at-requires : tie.Need-feed-at-requires
 feed-at-requires c κs = search needs
 
 returns-2 : tie.Need-returns-2
 returns-2 c =
-    let the-element-refusal = c .before .before .before .before .before .element-refusal in
-    let the-if1 = c .before .before .before .before .if1 in
-    let the-tree-place = c .before .before .before .tree-place in
-    let the-tree-count = c .before .before .tree-count in
-    name-found _ _ _ _ _ _ (the-element-refusal .ensures) (the-if1 .left) (the-tree-place .ensures .0) (rw (the-tree-count .ensures .0) at (c .before .if2 .taken)) (c .feed-at .ensures _)
+    let start = c .before .before .before .before .before .before .before .before .before .before .before in
+    let the-element-refusal = c .before .before .before .before .before .before .before .element-refusal in
+    let the-if1 = c .before .before .before .before .before .before .if1 in
+    let the-tree-place = c .before .before .before .before .before .tree-place in
+    let the-tree-count = c .before .before .before .before .tree-count in
+    let via = c .before .route-of .ensures ∙ ap (λ (r : List ℕ). routeOf r (cardOf (start .args .numbers .now) (start .args .names .now))) (c .before .before .root-of .ensures) in
+    name-found _ _ _ _ _ _ (the-element-refusal .ensures) (the-if1 .left) (the-tree-place .ensures .0) (rw (the-tree-count .ensures .0) at (c .before .before .before .if2 .taken)) _ via (c .feed-at .ensures _)
 
 no-feed-requires-2 : tie.Need-no-feed-requires-2
 no-feed-requires-2 c κs = search needs
@@ -53,6 +65,8 @@ find-name-spec =
     returns
     tree-place-requires
     tree-count-requires
+    root-of-requires
+    route-of-requires
     feed-at-requires
     returns-2
     no-feed-requires-2
