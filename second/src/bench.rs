@@ -205,8 +205,10 @@ fn event_line(word: &str, answer: &Result<Vec<u8>, Refusal>) -> String {
     }
 }
 
+/// A tree that stands with a held branch alone leads to nobody, and is said
+/// to be nothing like one that does not stand.
 fn found_line(word: &str, found: Option<Found>) -> String {
-    let Some(found) = found else {
+    let Some(found) = found.filter(|f| f.leaf || !f.branches.is_empty()) else {
         return format!("{word} nothing");
     };
     let mut line = word.to_string();

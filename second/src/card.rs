@@ -24,6 +24,24 @@ pub struct Tree {
     pub leaf: bool,
 }
 
+impl Tree {
+    fn is_bare(&self) -> bool {
+        self.branches.is_empty() && !self.leaf
+    }
+
+    /// The branches that are fed. That of the upstream is held: what came
+    /// from there does not go back.
+    pub fn live(&self, upstream: Option<u32>) -> impl Iterator<Item = (u32, u32)> + '_ {
+        let all = self.branches.iter().map(|(&n, &label)| (n, label));
+        all.filter(move |&(neighbour, _)| Some(neighbour) != upstream)
+    }
+
+    /// Whether the tree has anybody to feed.
+    pub fn serves(&self, upstream: Option<u32>) -> bool {
+        self.leaf || self.live(upstream).next().is_some()
+    }
+}
+
 #[derive(Clone, Copy, Debug, PartialEq, Eq)]
 pub enum Route {
     Neighbour(u32),
@@ -93,8 +111,8 @@ impl Card {
     }
 
     pub fn leave(&mut self, element: &[u8], room: usize) -> Result<Vec<u8>, Refusal> {
-        let name = wire::read_element(element)?;
-        self.attempt(room, |draft| draft.leave(&name))
+        let name = Rc::new(wire::read_element(element)?);
+        self.attempt(room, |draft| draft.leave(name))
     }
 
     pub fn route(&mut self, root: &[u8], route: u32, room: usize) -> Result<Vec<u8>, Refusal> {
@@ -148,20 +166,44 @@ impl Card {
 
     pub fn find_label(&self, label: u32) -> Option<Found> {
         match self.label_use(label)? {
-            LabelUse::Mapped(_, name) => self.find_name(name),
+            LabelUse::Mapped(to, name) => self.find_name(name, Some(*to)),
             _ => None,
         }
     }
 
     pub fn find_tree(&self, element: &[u8]) -> Option<Found> {
-        self.find_name(&wire::read_element(element).ok()?)
+        let name = wire::read_element(element).ok()?;
+        self.find_name(&name, self.upstream(&name.root))
     }
 
-    fn find_name(&self, name: &TreeName) -> Option<Found> {
+    fn find_name(&self, name: &TreeName, upstream: Option<u32>) -> Option<Found> {
         let tree = self.tree(name)?;
         Some(Found {
             leaf: tree.leaf,
-            branches: tree.branches.iter().map(|(&n, &l)| (n, l)).collect(),
+            branches: tree.live(upstream).collect(),
+        })
+    }
+
+    /// The neighbour that the root's route names.
+    pub fn upstream(&self, root: &[u8]) -> Option<u32> {
+        match self.routes.get(root)? {
+            Route::Neighbour(neighbour) => Some(*neighbour),
+            Route::ThisNode => None,
+        }
+    }
+
+    /// The neighbour that must have a label of ours for the tree.
+    fn label_due(&self, name: &TreeName) -> Option<u32> {
+        let upstream = self.upstream(&name.root)?;
+        let serves = self.tree(name)?.serves(Some(upstream));
+        serves.then_some(upstream)
+    }
+
+    /// The label that is mapped for the tree, and to whom.
+    pub fn label_of(&self, name: &TreeName) -> Option<(u32, u32)> {
+        self.labels().find_map(|(label, held)| match held {
+            LabelUse::Mapped(to, mapped) if **mapped == *name => Some((label, *to)),
+            _ => None,
         })
     }
 
@@ -211,10 +253,11 @@ struct Draft {
 
 impl Draft {
     fn mapping(&mut self, from: u32, name: Name, label: u32) -> Result<(), Refusal> {
-        match self.tree_to_grow(name)?.branches.insert(from, label) {
-            Some(standing) if standing != label => Err(Refusal::OtherLabel),
-            _ => Ok(()),
+        let standing = self.tree_to_grow(&name)?.branches.insert(from, label);
+        if standing.is_some_and(|standing| standing != label) {
+            return Err(Refusal::OtherLabel);
         }
+        self.settle(&name)
     }
 
     fn withdraw(&mut self, from: u32, name: Name, label: u32) -> Result<(), Refusal> {
@@ -226,7 +269,7 @@ impl Draft {
             tree.branches.remove(&from);
             self.drop_if_bare(&name);
         }
-        Ok(())
+        self.settle(&name)
     }
 
     fn release(&mut self, from: u32, name: Name, label: u32) -> Result<(), Refusal> {
@@ -239,17 +282,17 @@ impl Draft {
     }
 
     fn join(&mut self, name: Name) -> Result<(), Refusal> {
-        self.tree_to_grow(name)?.leaf = true;
-        Ok(())
+        self.tree_to_grow(&name)?.leaf = true;
+        self.settle(&name)
     }
 
-    fn leave(&mut self, name: &TreeName) -> Result<(), Refusal> {
-        match self.standing(name) {
+    fn leave(&mut self, name: Name) -> Result<(), Refusal> {
+        match self.standing(&name) {
             Some(tree) if tree.leaf => tree.leaf = false,
             _ => return Err(Refusal::NotLeaf),
         }
-        self.drop_if_bare(name);
-        Ok(())
+        self.drop_if_bare(&name);
+        self.settle(&name)
     }
 
     fn reroute(&mut self, root: &[u8], route: Option<Route>) -> Result<(), Refusal> {
@@ -265,24 +308,19 @@ impl Draft {
             None => self.card.routes.remove(root),
         };
         let names: Vec<Name> = self.card.trees_of(root).map(|t| t.name.clone()).collect();
-        for name in names {
-            self.withdraw_label(&name);
-            self.announce(&name)?;
-        }
-        Ok(())
+        names.iter().try_for_each(|name| self.settle(name))
     }
 
-    /// The tree that stands, or a new one, announced upstream.
-    fn tree_to_grow(&mut self, name: Name) -> Result<&mut Tree, Refusal> {
-        if let Some(place) = self.card.trees.iter().position(|tree| tree.name == name) {
+    /// The tree that stands, or a new one.
+    fn tree_to_grow(&mut self, name: &Name) -> Result<&mut Tree, Refusal> {
+        if let Some(place) = self.card.trees.iter().position(|tree| tree.name == *name) {
             return Ok(&mut self.card.trees[place]);
         }
         if self.card.trees.len() == MOST_TREES {
             return Err(Refusal::TreesFull);
         }
-        self.announce(&name)?;
         self.card.trees.push(Tree {
-            name,
+            name: name.clone(),
             branches: BTreeMap::new(),
             leaf: false,
         });
@@ -294,18 +332,28 @@ impl Draft {
     }
 
     fn drop_if_bare(&mut self, name: &TreeName) {
-        let bare = |tree: &Tree| tree.branches.is_empty() && !tree.leaf;
-        if self.card.tree(name).is_some_and(bare) {
-            self.card.trees.retain(|tree| *tree.name != *name);
-            self.withdraw_label(name);
+        let goes = |tree: &Tree| *tree.name == *name && tree.is_bare();
+        self.card.trees.retain(|tree| !goes(tree));
+    }
+
+    /// Whatever an event did to a tree or its route: a label that is not due
+    /// to its neighbour any more is withdrawn, and one that is due is given.
+    fn settle(&mut self, name: &Name) -> Result<(), Refusal> {
+        let due = self.card.label_due(name);
+        let mut given = self.card.label_of(name);
+        if let Some((label, to)) = given.filter(|(_, to)| due != Some(*to)) {
+            self.send(Kind::Withdraw, to, name, label);
+            self.set_label(label, LabelUse::Awaiting(to, name.clone()));
+            given = None;
+        }
+        match due {
+            Some(upstream) if given.is_none() => self.announce(name, upstream),
+            _ => Ok(()),
         }
     }
 
-    /// Gives the lowest free label and sends it, where the route is a neighbour.
-    fn announce(&mut self, name: &Name) -> Result<(), Refusal> {
-        let Some(&Route::Neighbour(upstream)) = self.card.routes.get(&name.root) else {
-            return Ok(());
-        };
+    /// Gives the lowest free label and sends it.
+    fn announce(&mut self, name: &Name, upstream: u32) -> Result<(), Refusal> {
         let label = self
             .card
             .labels()
@@ -315,21 +363,6 @@ impl Draft {
         self.set_label(label, LabelUse::Mapped(upstream, name.clone()));
         self.send(Kind::Mapping, upstream, name, label);
         Ok(())
-    }
-
-    /// The neighbour named with the label is the upstream it was sent to, so
-    /// this serves a route that has already changed.
-    fn withdraw_label(&mut self, name: &TreeName) {
-        let held = self.card.labels().find_map(|(label, held)| match held {
-            LabelUse::Mapped(upstream, mapped) if **mapped == *name => {
-                Some((label, *upstream, mapped.clone()))
-            }
-            _ => None,
-        });
-        if let Some((label, upstream, mapped)) = held {
-            self.send(Kind::Withdraw, upstream, name, label);
-            self.set_label(label, LabelUse::Awaiting(upstream, mapped));
-        }
     }
 
     fn set_label(&mut self, label: u32, held: LabelUse) {

@@ -5,12 +5,12 @@ use crate::bench::Order;
 use crate::card::{NO_ROUTE, THIS_NODE};
 use crate::wire::{self, Kind, TreeName};
 
-const ROOT: [u8; 4] = [192, 0, 2, 1];
-const OTHER_ROOT: [u8; 4] = [192, 0, 2, 2];
+pub const ROOT: [u8; 4] = [192, 0, 2, 1];
+pub const OTHER_ROOT: [u8; 4] = [192, 0, 2, 2];
 const THIRD_ROOT: [u8; 4] = [192, 0, 2, 3];
 
-struct Page {
-    lines: Vec<String>,
+pub struct Page {
+    pub lines: Vec<String>,
     /// What neighbours put into their messages; the card doesn't heed it.
     identifier: u32,
 }
@@ -94,14 +94,14 @@ fn longest_name(root: &[u8], number: u8) -> TreeName {
     }
 }
 
-fn tree_a() -> TreeName {
+pub fn tree_a() -> TreeName {
     TreeName {
         root: ROOT.to_vec(),
         opaque: vec![1, 0, 4, 0, 0, 0, 7],
     }
 }
 
-fn numbered(root: [u8; 4], number: u8) -> TreeName {
+pub fn numbered(root: [u8; 4], number: u8) -> TreeName {
     TreeName {
         root: root.to_vec(),
         opaque: vec![number],
@@ -126,14 +126,14 @@ fn mapping(identifier: u32, element: &[u8], label: u32, further: &[u8]) -> Vec<u
 }
 
 impl Page {
-    fn new() -> Page {
+    pub fn new() -> Page {
         Page {
             lines: Vec::new(),
             identifier: 0,
         }
     }
 
-    fn comment(&mut self, text: &str) {
+    pub fn comment(&mut self, text: &str) {
         self.lines.push(format!("# {text}"));
     }
 
@@ -141,21 +141,21 @@ impl Page {
         self.comment(&format!("case {number}: {text}"));
     }
 
-    fn order(&mut self, order: Order) {
+    pub fn order(&mut self, order: Order) {
         self.lines.push(order.to_line());
     }
 
     /// A fresh card of base 16 with A's root behind neighbour 0.
-    fn fresh(&mut self) {
+    pub fn fresh(&mut self) {
         self.order(Order::Start(16));
         self.route(ROOT, 0);
     }
 
-    fn route(&mut self, root: [u8; 4], route: u32) {
+    pub fn route(&mut self, root: [u8; 4], route: u32) {
         self.order(Order::Route(root.to_vec(), route));
     }
 
-    fn tell(&mut self, from: u32, kind: Kind, name: &TreeName, label: u32) {
+    pub fn tell(&mut self, from: u32, kind: Kind, name: &TreeName, label: u32) {
         self.identifier += 1;
         let message = wire::write_message(kind, self.identifier, name, label);
         self.order(Order::Take(from, message));
@@ -165,7 +165,7 @@ impl Page {
         self.order(Order::Take(from, mapping(1, element, 100, &[])));
     }
 
-    fn ask(&mut self, labels: &[u32], names: &[TreeName]) {
+    pub fn ask(&mut self, labels: &[u32], names: &[TreeName]) {
         for label in labels {
             self.order(Order::Label(*label));
         }
@@ -267,18 +267,18 @@ impl Page {
     fn eleven(&mut self) {
         self.case(
             11,
-            "with 64 trees and no free label, a new tree is refused 11, not 12; a further branch to a standing tree is taken",
+            "with 64 trees and no free label, a new tree is refused 11, not 12; a further branch to a tree that holds a label is taken",
         );
         self.fresh();
         for number in 1..=64 {
-            self.tell(1, Kind::Mapping, &numbered(ROOT, number), 100);
+            self.tell(4, Kind::Mapping, &numbered(ROOT, number), 100);
         }
         for route in [1, 2, 3] {
             self.route(ROOT, route);
         }
         self.order(Order::Free);
         let shown = [numbered(ROOT, 65), numbered(ROOT, 1), numbered(ROOT, 64)];
-        self.tell(1, Kind::Mapping, &shown[0], 100);
+        self.tell(4, Kind::Mapping, &shown[0], 100);
         self.ask(&[16, 208, 271], &shown);
         self.order(Order::Join(wire::write_element(&shown[0])));
         self.ask(&[16, 208, 271], &shown);
@@ -302,7 +302,7 @@ impl Page {
     fn thirteen(&mut self) {
         self.case(
             13,
-            "a route order to another neighbour, for a root of three trees, with two free labels: refused 12, none moved",
+            "a route order to another neighbour, for a root of three trees that each need a label there, with two free labels: refused 12, none moved",
         );
         self.fresh();
         let three = [1, 2, 3].map(|number| numbered(ROOT, number));
@@ -312,7 +312,7 @@ impl Page {
         // 25 trees with ten labels each and one with one: 3 + 250 + 1 = 254.
         self.route(OTHER_ROOT, 1);
         for number in 1..=25 {
-            self.tell(2, Kind::Mapping, &numbered(OTHER_ROOT, number), 100);
+            self.tell(11, Kind::Mapping, &numbered(OTHER_ROOT, number), 100);
         }
         for route in 2..=10 {
             self.route(OTHER_ROOT, route);

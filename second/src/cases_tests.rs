@@ -160,11 +160,11 @@ fn case_11() {
     let before = 2 + 64 + 3;
     let nothing_moved = [
         "label nothing",
-        "label 1:100",
-        "label 1:100",
+        "label 4:100",
+        "label 4:100",
         "tree nothing",
-        "tree 1:100",
-        "tree 1:100",
+        "tree 4:100",
+        "tree 4:100",
         "free 0",
     ];
     assert!(case[..before]
@@ -175,7 +175,7 @@ fn case_11() {
     assert_eq!(case[before + 9], "join 11");
     assert_eq!(case[before + 10..before + 17], nothing_moved);
     assert_eq!(case[before + 17], "take 0");
-    assert_eq!(case[before + 19], "label 1:100 2:200");
+    assert_eq!(case[before + 19], "label 2:200 4:100");
 }
 
 #[test]

@@ -5,6 +5,7 @@ use crate::bench::{self, Bench, Order, Said};
 use crate::card::{Card, MOST_ROOTS, MOST_TREES};
 use crate::damage;
 use crate::events::*;
+use crate::held_events::*;
 use crate::odd_lines;
 use crate::rng::Rng;
 use crate::wire;
@@ -17,7 +18,7 @@ pub struct Kind {
 }
 
 const DAMAGED: usize = 4;
-const MIXED: usize = 8;
+const MIXED: usize = 9;
 
 pub const KINDS: [Kind; MIXED + 1] = [
     kind("ordinary", open_ordinary, step_ordinary),
@@ -28,6 +29,7 @@ pub const KINDS: [Kind; MIXED + 1] = [
     kind("random", open_ordinary, step_random),
     kind("room", open_room, step_room),
     kind("lines", open_ordinary, step_lines),
+    kind("held", open_held, step_held),
     kind("mixed", open_ordinary, step_mixed),
 ];
 
@@ -114,6 +116,27 @@ const NO_RELEASE: &Recipe = &[
     (1, early_release),
     (2, new_route),
     (1, ended_route),
+];
+
+pub const HELD: &Recipe = &[
+    (6, mapped_back),
+    (4, new_tree_mapped_back),
+    (2, mapped_back_again),
+    (6, silent_tree_grows),
+    (6, last_live_goes),
+    (3, held_goes),
+    (4, waking_route),
+    (4, silencing_route),
+    (6, counted_route),
+    (2, new_tree),
+    (2, new_leaf),
+    (3, further_branch),
+    (2, branch_withdraw),
+    (2, leaf_leave),
+    (2, awaited_release),
+    (1, stray_release),
+    (1, ended_route),
+    (1, new_route),
 ];
 
 pub struct Maker {
@@ -311,6 +334,25 @@ fn step_exhaust(maker: &mut Maker) {
         maker.releases_due = maker.rng.between(2, 20);
     } else {
         maker.play(NO_RELEASE, 30);
+    }
+}
+
+fn open_held(maker: &mut Maker) {
+    maker.world = World::new(&mut maker.rng, 5, 12, 5);
+    maker.route_roots(4);
+    maker.grow(20);
+}
+
+/// Where labels run short, a few come back and are soon used up, so that
+/// events need just as many as are free, or one more.
+fn step_held(maker: &mut Maker) {
+    if maker.releases_due > 0 {
+        maker.releases_due -= 1;
+        maker.play(&[(1, awaited_release)], 10);
+    } else if maker.card().free_labels() < 3 && maker.rng.percent(12) {
+        maker.releases_due = maker.rng.between(1, 9);
+    } else {
+        maker.play(HELD, 40);
     }
 }
 

@@ -56,7 +56,7 @@ pub fn message(rng: &mut Rng, kind: Kind, name: &TreeName, label: u32) -> Vec<u8
     wire::write_frame(kind.code(), rng.number(), &tlvs)
 }
 
-fn told(scene: &mut Scene, from: u32, kind: Kind, name: &TreeName, label: u32) -> Order {
+pub fn told(scene: &mut Scene, from: u32, kind: Kind, name: &TreeName, label: u32) -> Order {
     Order::Take(from, message(scene.rng, kind, name, label))
 }
 
@@ -74,7 +74,7 @@ pub fn any_label(rng: &mut Rng) -> u32 {
     }
 }
 
-fn standing(scene: &mut Scene) -> Option<Tree> {
+pub fn standing(scene: &mut Scene) -> Option<Tree> {
     scene.rng.pick(scene.card.trees())
 }
 
@@ -85,7 +85,7 @@ fn standing_branch(scene: &mut Scene) -> Option<(Name, u32, u32)> {
     Some((tree.name, neighbour, label))
 }
 
-fn unknown_name(scene: &mut Scene) -> Option<TreeName> {
+pub fn unknown_name(scene: &mut Scene) -> Option<TreeName> {
     let name = scene.rng.pick(&scene.world.names)?;
     scene.card.tree(&name).is_none().then_some(name)
 }

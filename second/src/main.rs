@@ -8,6 +8,8 @@ mod damage;
 mod days;
 mod differ;
 mod events;
+mod held_cases;
+mod held_events;
 mod notice;
 mod odd_lines;
 mod refusal;
@@ -33,7 +35,7 @@ const USAGE: &str = "usage: second run [FILE]
 
 /// Seeds and lines of each kind's part of the gate's standard input.
 const GATE_SEEDS: [u64; 2] = [1, 2];
-const GATE_LINES: [(&str, usize); 9] = [
+const GATE_LINES: [(&str, usize); 10] = [
     ("ordinary", 120),
     ("full", 240),
     ("moves", 120),
@@ -41,6 +43,7 @@ const GATE_LINES: [(&str, usize); 9] = [
     ("damaged", 180),
     ("random", 90),
     ("room", 140),
+    ("held", 260),
     ("lines", 50),
     ("mixed", 150),
 ];
@@ -139,6 +142,7 @@ fn write_gate_input(output: &mut impl Write) -> io::Result<()> {
         cases::longest_output(),
         cases::most_roots(),
         cases::notices(),
+        held_cases::day(),
     ] {
         writeln!(output, "{}", page.join("\n"))?;
     }
