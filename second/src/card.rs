@@ -207,6 +207,19 @@ impl Card {
         })
     }
 
+    /// Of the free labels only the lowest stay free. The others await a
+    /// Release that no message can be, of a name without octets.
+    pub fn use_up_beyond(&mut self, free: usize) {
+        let nobody = Rc::new(TreeName {
+            root: Vec::new(),
+            opaque: Vec::new(),
+        });
+        let unused = self.labels.iter_mut().filter(|l| **l == LabelUse::Free);
+        for label in unused.skip(free) {
+            *label = LabelUse::Awaiting(9, nobody.clone());
+        }
+    }
+
     pub fn free_labels(&self) -> usize {
         self.labels
             .iter()

@@ -91,3 +91,62 @@ fn days_have_notices() {
     assert_eq!(told, [4, 5, 6, 7, 8, 12, 14, 22].into());
     assert_eq!(numbers, ["0", "1", "16"].map(String::from).into());
 }
+
+/// What an order of a day meets on the card as it stands, and its answer.
+fn occasion(card: &Card, order: &Order, number: u8) -> Option<&'static str> {
+    match order {
+        Order::Take(from, octets) => {
+            let message = wire::read_message(octets).ok()?;
+            let upstream = card.upstream(&message.name.root)?;
+            let back = *from == upstream;
+            let tree = card.tree(&message.name);
+            let silent = tree.is_some_and(|tree| !tree.serves(Some(upstream)));
+            let bound = tree.is_some_and(|tree| tree.branches.contains_key(&upstream));
+            match (message.kind, tree.is_some(), number) {
+                (wire::Kind::Mapping, false, 0) if back => Some("new tree mapped back"),
+                (wire::Kind::Mapping, true, 0) if back => Some("mapped back"),
+                (wire::Kind::Mapping, true, 10) if back => Some("mapped back, other label"),
+                (wire::Kind::Mapping, true, 0) if silent => Some("silent tree grows"),
+                (wire::Kind::Mapping, true, 12) => Some("no label for a branch"),
+                (wire::Kind::Withdraw, true, 0) if bound && !back => Some("withdraw beside held"),
+                _ => None,
+            }
+        }
+        Order::Join(element) => {
+            let stands = card.tree(&wire::read_element(element).ok()?).is_some();
+            (stands && number == 12).then_some("no label for a leaf")
+        }
+        Order::Route(root, to) if *to < 16 && card.upstream(root) != Some(*to) => {
+            let (needed, free) = (needed(card, root, *to), card.free_labels());
+            let trees = card.trees_of(root).count();
+            match number {
+                12 if needed == free + 1 => Some("one label short"),
+                0 if needed == free && trees > free => Some("just enough, not for all"),
+                0 if needed < trees => Some("a move that silences"),
+                _ => None,
+            }
+        }
+        _ => None,
+    }
+}
+
+#[test]
+fn a_held_day_has_its_occasions() {
+    let held = kind_named("held").expect("it is one of the kinds");
+    for seed in 1..=3 {
+        let mut met = std::collections::BTreeMap::new();
+        let mut bench = Bench::new();
+        for line in make(held, seed, 3000) {
+            let Said::Order(order) = bench::read_line(&line) else {
+                continue;
+            };
+            let before = bench.card.clone();
+            let written = bench.obey(&order);
+            let number = bench::written_number(&written).unwrap_or(0);
+            if let Some(what) = occasion(&before, &order, number) {
+                *met.entry(what).or_insert(0) += 1;
+            }
+        }
+        assert!(met.len() == 10 && met.values().all(|n| *n >= 5), "{met:?}");
+    }
+}

@@ -169,8 +169,15 @@ fn labels_in(card: &Card, wanted: Use) -> Vec<(u32, u32, Name)> {
         .collect()
 }
 
+/// Those of a name that a message can have.
+fn awaiting(card: &Card) -> Vec<(u32, u32, Name)> {
+    let mut labels = labels_in(card, LabelUse::Awaiting);
+    labels.retain(|(_, _, name)| !name.root.is_empty());
+    labels
+}
+
 pub fn awaited_release(scene: &mut Scene) -> Option<Order> {
-    let (label, from, name) = scene.rng.pick(&labels_in(scene.card, LabelUse::Awaiting))?;
+    let (label, from, name) = scene.rng.pick(&awaiting(scene.card))?;
     Some(told(scene, from, Kind::Release, &name, label))
 }
 
@@ -188,7 +195,7 @@ fn near_name(rng: &mut Rng, name: &TreeName) -> TreeName {
 
 /// A Release that is right but for one of neighbour, name and label.
 pub fn stray_release(scene: &mut Scene) -> Option<Order> {
-    let (mut label, mut from, name) = scene.rng.pick(&labels_in(scene.card, LabelUse::Awaiting))?;
+    let (mut label, mut from, name) = scene.rng.pick(&awaiting(scene.card))?;
     let mut name = (*name).clone();
     match scene.rng.below(5) {
         0 => from = (from + 1 + scene.rng.below(15) as u32) % NEIGHBOURS,
@@ -318,7 +325,7 @@ fn asked_label(scene: &mut Scene) -> u32 {
 pub fn block_label(scene: &mut Scene) -> u32 {
     let uses = match scene.rng.below(10) {
         0..=6 => labels_in(scene.card, LabelUse::Mapped),
-        7 | 8 => labels_in(scene.card, LabelUse::Awaiting),
+        7 | 8 => awaiting(scene.card),
         _ => Vec::new(),
     };
     let any = scene.card.base() + scene.rng.below(256) as u32;

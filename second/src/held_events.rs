@@ -53,7 +53,7 @@ pub fn mapped_back_again(scene: &mut Scene) -> Option<Order> {
 /// A branch or a leaf for a tree that stands by its held branch alone.
 pub fn silent_tree_grows(scene: &mut Scene) -> Option<Order> {
     let (tree, upstream) = tree_where(scene, |_, tree, up| !tree.serves(Some(up)))?;
-    if scene.rng.percent(35) {
+    if scene.rng.percent(50) {
         return Some(Order::Join(wire::write_element(&tree.name)));
     }
     let from = (upstream + 1 + scene.rng.below(15) as u32) % NEIGHBOURS;
@@ -104,15 +104,18 @@ pub fn needed(card: &Card, root: &[u8], to: u32) -> usize {
     card.trees_of(root).filter(|t| t.serves(Some(to))).count()
 }
 
-/// A move that needs just the free labels, or one more, or for which they
-/// suffice only since some tree needs none.
+/// A move that needs one label more than are free; or just those, or fewer
+/// than there are trees, some of which need none.
 pub fn counted_route(scene: &mut Scene) -> Option<Order> {
     let (card, free) = (scene.card, scene.card.free_labels());
+    let short = scene.rng.percent(40);
     let near = |root: &[u8], to: u32| {
-        let needed = needed(card, root, to);
-        needed == free
-            || needed == free + 1
-            || (needed < free && card.trees_of(root).count() > free)
+        let (needed, trees) = (needed(card, root, to), card.trees_of(root).count());
+        if short {
+            needed == free + 1
+        } else {
+            needed == free || (needed < free && free < trees)
+        }
     };
     let mut orders = Vec::new();
     for root in &scene.world.roots {

@@ -27,7 +27,7 @@ const USAGE: &str = "usage: second run [FILE]
        second day KIND SEED LINES
        second cases
        second stdin
-       second rows BASE SEED LINES
+       second rows BASE SEED LINES [FREE]
        second refusals FILE
        second notices FILE
        second differ DAY OUTPUT
@@ -81,7 +81,7 @@ fn obey(words: &[&str], output: &mut impl Write) -> io::Result<Option<ExitCode>>
         ["refusals", file] => refusals(open(file)?)?,
         ["notices", file] => notices(open(file)?)?,
         ["day", kind, seed, count] => return write_day(kind, seed, count, output),
-        ["rows", base, seed, count] => match made_rows(base, seed, count) {
+        ["rows", base, seed, count, ref free @ ..] => match made_rows(base, seed, count, free) {
             Some(rows) => rows,
             None => return Ok(None),
         },
@@ -132,8 +132,18 @@ fn write_day(
     Ok(Some(ExitCode::SUCCESS))
 }
 
-fn made_rows(base: &str, seed: &str, count: &str) -> Option<Vec<String>> {
-    rows::make(base.parse().ok()?, seed.parse().ok()?, count.parse().ok()?)
+fn made_rows(base: &str, seed: &str, count: &str, free: &[&str]) -> Option<Vec<String>> {
+    let free = match *free {
+        [] => None,
+        [free] => Some(free.parse().ok()?),
+        _ => return None,
+    };
+    rows::make(
+        base.parse().ok()?,
+        seed.parse().ok()?,
+        count.parse().ok()?,
+        free,
+    )
 }
 
 fn write_gate_input(output: &mut impl Write) -> io::Result<()> {

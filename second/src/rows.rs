@@ -2,16 +2,20 @@
 
 use crate::bench::{self, Order, WHOLE_BUFFER};
 use crate::card::{Card, Found};
-use crate::days::{room_near, spoil, MOVES, ORDINARY};
+use crate::days::{room_near, spoil, HELD, MOVES, ORDINARY};
 use crate::events::{any_neighbour, block_label, choose, Scene};
 use crate::refusal::Refusal;
 use crate::rng::Rng;
 use crate::world::World;
 
-/// None where the base is refused.
-pub fn make(base: u32, seed: u64, count: usize) -> Option<Vec<String>> {
+/// None where the base is refused. With a number of free labels, the day is
+/// one on a card that has no more.
+pub fn make(base: u32, seed: u64, count: usize, free: Option<usize>) -> Option<Vec<String>> {
     let (answer, mut card) = Card::start(base);
     answer.ok()?;
+    if let Some(free) = free {
+        card.use_up_beyond(free);
+    }
     let mut rng = Rng::new(seed);
     let world = World::new(&mut rng, 6, 8, 4);
     let mut rows = Vec::new();
@@ -38,7 +42,11 @@ fn next_event(rng: &mut Rng, card: &Card, world: &World, place: usize) -> Order 
     if place < 3 {
         return Order::Route(world.roots[place].clone(), any_neighbour(rng));
     }
-    let recipe = if rng.percent(30) { MOVES } else { ORDINARY };
+    let recipe = match rng.below(10) {
+        0..=2 => MOVES,
+        3..=5 => HELD,
+        _ => ORDINARY,
+    };
     let event = choose(recipe, &mut Scene { rng, card, world });
     if rng.percent(12) {
         spoil(rng, event)
@@ -120,7 +128,7 @@ mod tests {
 
     #[test]
     fn rows_have_their_form() {
-        let rows = make(16, 1, 300).expect("16 is a base");
+        let rows = make(16, 1, 300, None).expect("16 is a base");
         assert_eq!(rows.len(), 300);
         assert!(rows[0].starts_with("    anew (route ("));
         assert!(rows[1..]
@@ -132,7 +140,7 @@ mod tests {
 
     #[test]
     fn first_row_in_full() {
-        let rows = make(16, 7, 1).expect("16 is a base");
+        let rows = make(16, 7, 1, None).expect("16 is a base");
         let words: Vec<&str> = rows[0].split_whitespace().collect();
         assert_eq!(words[..2], ["anew", "(route"]);
         assert!(rows[0].contains(") 0 ([]) 256 "));
@@ -141,8 +149,15 @@ mod tests {
 
     #[test]
     fn refused_base_gives_no_rows() {
-        assert!(make(15, 1, 1).is_none());
-        assert!(make(1_048_320, 1, 1).is_some());
+        assert!(make(15, 1, 1, None).is_none());
+        assert!(make(1_048_320, 1, 1, None).is_some());
+    }
+
+    #[test]
+    fn few_labels_run_short() {
+        let rows = make(16, 5, 80, Some(6)).expect("16 is a base");
+        assert!(rows[0].contains(") 0 ([]) 6 "));
+        assert!(rows.iter().any(|row| row.contains(") 12 ([]) ")));
     }
 
     #[test]
