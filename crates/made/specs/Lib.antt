@@ -2,3 +2,5 @@ pub mod Ebb
 pub mod Flood
 pub mod Neap
 pub mod Spring
+pub mod Drought
+pub mod Trickle
