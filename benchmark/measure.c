@@ -87,6 +87,12 @@ static void give(struct bench *b, struct order o)
     }
 }
 
+/* A neighbour that is never the upstream of a root that fill or a measure gives a route: its branches are not held. */
+static uint32_t branch_of(size_t root)
+{
+    return (uint32_t)((root + CARD_NEIGHBOURS / 2) % CARD_NEIGHBOURS);
+}
+
 /* A card with 64 trees, spread over so many roots. */
 static void fill(struct bench *b, size_t root_count)
 {
@@ -94,7 +100,7 @@ static void fill(struct bench *b, size_t root_count)
     for (size_t r = 0; r < root_count; r++)
         give(b, route_order(r, (uint32_t)(r % CARD_NEIGHBOURS)));
     for (size_t t = 0; t < CARD_TREES; t++)
-        give(b, (struct order){TAKE, 0, (uint32_t)(t % CARD_NEIGHBOURS), messages[t].octets, messages[t].length});
+        give(b, (struct order){TAKE, 0, branch_of(t % root_count), messages[t].octets, messages[t].length});
 }
 
 static void make_messages(size_t root_count)

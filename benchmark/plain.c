@@ -1,6 +1,7 @@
 /*
  * A plain C card, written for speed. A tree stays in its slot while it stands; `order` has the slots, oldest first.
- * Free labels are bits, and a mapped label knows its tree's slot.
+ * Free labels are bits, and a mapped label knows its tree's slot. A tree keeps its root's route, by which its branch from
+ * the upstream is held: that one is left out of lookups, and alone it makes no label due.
  */
 #include "plain.h"
 
@@ -19,6 +20,7 @@ struct table {
     uint64_t free_labels[CARD_LABELS / 64];
     uint64_t via[CARD_ROOTS];
     uint64_t order[CARD_TREES / 8];
+    uint8_t route[CARD_TREES];
     uint64_t own_label[CARD_TREES];
     uint64_t branches[CARD_TREES][CARD_NEIGHBOURS];
     uint64_t mark[CARD_LABELS];
@@ -255,12 +257,38 @@ static size_t take_lowest_free(struct table *t)
     return p;
 }
 
+static bool is_leaf(const struct table *t, size_t slot)
+{
+    return t->leaves >> slot & 1;
+}
+
 static bool is_bare(const struct table *t, size_t slot)
 {
     uint64_t all = 0;
     for (int n = 0; n < CARD_NEIGHBOURS; n++)
         all |= t->branches[slot][n];
-    return all == 0 && (t->leaves >> slot & 1) == 0;
+    return all == 0 && !is_leaf(t, slot);
+}
+
+static bool has_branch_but(const uint64_t *branches, uint32_t neighbour)
+{
+    uint64_t any = 0;
+    for (uint32_t n = 0; n < CARD_NEIGHBOURS; n++)
+        any |= n == neighbour ? 0 : branches[n];
+    return any != 0;
+}
+
+/*
+ * Whether the tree, which is not bare, needs a label under that route: it has a leaf, or a branch that is not held. Where
+ * none is held, there is no need to look.
+ */
+static bool needs_label(const struct table *t, size_t slot, uint32_t route)
+{
+    if (route >= CARD_NEIGHBOURS)
+        return false;
+    if (t->branches[slot][route] == 0 || is_leaf(t, slot))
+        return true;
+    return has_branch_but(t->branches[slot], route);
 }
 
 /* The tree is given the lowest free label, and the neighbour is told. */
@@ -284,13 +312,14 @@ static void give_up_label(struct card c, struct output *o, size_t slot)
     t->own_label[slot] = NO_LABEL;
 }
 
-static size_t enter_tree(struct card c, struct text name)
+static size_t enter_tree(struct card c, struct text name, uint32_t route)
 {
     struct table *t = c.table;
     size_t slot = (size_t)__builtin_ctzll(~t->used_slots);
     t->used_slots |= 1ull << slot;
     order_of(t)[t->tree_count++] = (uint8_t)slot;
     t->own_label[slot] = NO_LABEL;
+    t->route[slot] = (uint8_t)route;
     memset(t->branches[slot], 0, sizeof t->branches[slot]);
     keep(c.texts->tree[slot], name);
     return slot;
@@ -308,21 +337,29 @@ static void remove_tree(struct card c, size_t slot)
 
 /* ---- events of one tree */
 
-/* A new tree with its label: its slot, or CARD_TREES and a refusal. */
-static size_t new_tree(struct card c, struct text name, struct output *o, uint32_t *answer)
+/*
+ * A branch from a neighbour, or a leaf (from CARD_NEIGHBOURS), is to grow on the tree in the slot, or on a new one
+ * (CARD_TREES): its slot, with the label that it then needs; or CARD_TREES and a refusal.
+ */
+static size_t make_ready(struct card c, size_t slot, struct text name, uint32_t from, struct output *o,
+                         uint32_t *answer)
 {
-    uint32_t via = route_of(c, root_of(name));
-    bool labelled = via < CARD_NEIGHBOURS;
-    if (c.table->tree_count == CARD_TREES)
+    struct table *t = c.table;
+    bool stands = slot != CARD_TREES;
+    uint32_t route = stands ? t->route[slot] : route_of(c, root_of(name));
+    bool lacking = !stands || t->own_label[slot] == NO_LABEL;
+    bool labelled = lacking && route < CARD_NEIGHBOURS && from != route;
+    if (!stands && t->tree_count == CARD_TREES)
         *answer = CARD_TREES_FULL;
-    else if (labelled && !any_free(c.table))
+    else if (labelled && !any_free(t))
         *answer = CARD_LABELS_SHORT;
     else if (labelled && o->room < RECORD_HEAD + name.length)
         *answer = CARD_NO_ROOM;
     else {
-        size_t slot = enter_tree(c, name);
+        if (!stands)
+            slot = enter_tree(c, name, route);
         if (labelled)
-            give_label(c, o, slot, via);
+            give_label(c, o, slot, route);
         *answer = CARD_ACCEPTED;
         return slot;
     }
@@ -331,49 +368,56 @@ static size_t new_tree(struct card c, struct text name, struct output *o, uint32
 
 static void on_mapping(struct card c, uint32_t from, const struct message *m, struct output *o, uint32_t *answer)
 {
-    size_t slot = find_tree(c.table, c.texts, m->name);
-    if (slot == CARD_TREES) {
-        slot = new_tree(c, m->name, o, answer);
-        if (slot == CARD_TREES)
-            return;
-    }
-    uint64_t *branch = &c.table->branches[slot][from];
-    if (*branch != 0 && *branch != m->label) {
-        *answer = CARD_OTHER_LABEL;
+    struct table *t = c.table;
+    size_t slot = find_tree(t, c.texts, m->name);
+    if (slot != CARD_TREES && t->branches[slot][from] != 0) {
+        *answer = t->branches[slot][from] == m->label ? CARD_ACCEPTED : CARD_OTHER_LABEL;
         return;
     }
-    *branch = m->label;
-    *answer = CARD_ACCEPTED;
+    slot = make_ready(c, slot, m->name, from, o, answer);
+    if (slot != CARD_TREES)
+        t->branches[slot][from] = m->label;
 }
 
-/* The tree has neither branch nor leaf: it goes, and its label is withdrawn. */
-static void drop_tree(struct card c, size_t slot, struct output *o)
+/* What goes with a branch or a leaf that has gone: a label that is not needed any more, a tree with neither. */
+struct ending {
+    bool label, tree;
+};
+
+static struct ending ending_of(const struct table *t, size_t slot)
 {
-    if (c.table->own_label[slot] != NO_LABEL)
+    bool bare = is_bare(t, slot);
+    bool label = t->own_label[slot] != NO_LABEL && (bare || !needs_label(t, slot, t->route[slot]));
+    return (struct ending){label, bare};
+}
+
+static void let_go(struct card c, size_t slot, struct ending e, struct output *o)
+{
+    if (e.label)
         give_up_label(c, o, slot);
-    remove_tree(c, slot);
+    if (e.tree)
+        remove_tree(c, slot);
 }
 
 static void on_withdraw(struct card c, uint32_t from, const struct message *m, struct output *o, uint32_t *answer)
 {
     struct table *t = c.table;
+    struct ending e = {false, false};
     size_t slot = find_tree(t, c.texts, m->name);
     size_t size = RECORD_HEAD + m->name.length;
-    bool goes = false;
     bool branch = slot != CARD_TREES && t->branches[slot][from] == m->label;
     if (branch) {
         t->branches[slot][from] = 0;
-        goes = is_bare(t, slot);
+        e = ending_of(t, slot);
     }
-    if (o->room < (goes && t->own_label[slot] != NO_LABEL ? 2 * size : size)) {
+    if (o->room < (e.label ? 2 * size : size)) {
         if (branch)
             t->branches[slot][from] = m->label;
         *answer = CARD_NO_ROOM;
         return;
     }
     send(c, o, from, RELEASE, m->name, m->label);
-    if (goes)
-        drop_tree(c, slot, o);
+    let_go(c, slot, e, o);
     *answer = CARD_ACCEPTED;
 }
 
@@ -421,9 +465,7 @@ size_t plain_join(uint64_t *numbers, uint8_t *names, const uint8_t *element, siz
     *answer = element_refusal(name);
     if (*answer != CARD_ACCEPTED)
         return 0;
-    size_t slot = find_tree(c.table, c.texts, name);
-    if (slot == CARD_TREES)
-        slot = new_tree(c, name, &o, answer);
+    size_t slot = make_ready(c, find_tree(c.table, c.texts, name), name, CARD_NEIGHBOURS, &o, answer);
     if (slot != CARD_TREES)
         c.table->leaves |= 1ull << slot;
     return o.written;
@@ -440,42 +482,57 @@ size_t plain_leave(uint64_t *numbers, uint8_t *names, const uint8_t *element, si
     if (*answer != CARD_ACCEPTED)
         return 0;
     size_t slot = find_tree(t, c.texts, name);
-    if (slot == CARD_TREES || (t->leaves >> slot & 1) == 0) {
+    if (slot == CARD_TREES || !is_leaf(t, slot)) {
         *answer = CARD_NOT_A_LEAF;
         return 0;
     }
     t->leaves ^= 1ull << slot;
-    bool goes = is_bare(t, slot);
-    if (goes && t->own_label[slot] != NO_LABEL && out_length < RECORD_HEAD + name.length) {
+    struct ending e = ending_of(t, slot);
+    if (e.label && out_length < RECORD_HEAD + name.length) {
         t->leaves ^= 1ull << slot;
         *answer = CARD_NO_ROOM;
         return 0;
     }
-    if (goes)
-        drop_tree(c, slot, &o);
+    let_go(c, slot, e, &o);
     return o.written;
 }
 
 /* ---- route orders */
 
-/* The slots of a root's trees, oldest first, and how many octets the records of their move have. */
+/*
+ * The slots of a root's trees, oldest first, as bits those that need a label afterwards, and how many octets the records
+ * of their move have.
+ */
 struct move {
     uint8_t slots[CARD_TREES];
+    uint64_t needy;
     size_t count, size;
 };
 
-static void plan_move(struct card c, struct text root, bool labelled, struct move *m)
+static void plan_move(struct card c, struct text root, uint32_t route, struct move *m)
 {
     const uint8_t *order = order_of(c.table);
-    m->count = m->size = 0;
+    m->needy = m->count = m->size = 0;
     for (size_t i = 0; i < c.table->tree_count; i++) {
-        struct text name = kept(c.texts->tree[order[i]]);
+        size_t slot = order[i];
+        struct text name = kept(c.texts->tree[slot]);
         if (!same_root(name.octets + 4, name.octets[3], root))
             continue;
-        size_t records = (c.table->own_label[order[i]] != NO_LABEL) + (size_t)labelled;
+        bool needs = needs_label(c.table, slot, route);
+        size_t records = (size_t)(c.table->own_label[slot] != NO_LABEL) + needs;
         m->size += records * (RECORD_HEAD + name.length);
-        m->slots[m->count++] = order[i];
+        m->needy |= (uint64_t)needs << slot;
+        m->slots[m->count++] = (uint8_t)slot;
     }
+}
+
+static void move_tree(struct card c, size_t slot, uint32_t route, bool needs, struct output *o)
+{
+    if (c.table->own_label[slot] != NO_LABEL)
+        give_up_label(c, o, slot);
+    c.table->route[slot] = (uint8_t)route;
+    if (needs)
+        give_label(c, o, slot, route);
 }
 
 static void set_route(struct card c, size_t i, struct text root, uint32_t route)
@@ -498,24 +555,19 @@ static uint32_t change_route(struct card c, struct text root, uint32_t route, st
 {
     struct table *t = c.table;
     struct move m;
-    bool labelled = route < CARD_NEIGHBOURS;
     size_t i = find_route(c, root);
     uint32_t before = i < t->route_count ? (uint32_t)t->via[i] : CARD_NO_ROUTE;
     if (before == route)
         return CARD_ACCEPTED;
     if (i == CARD_ROOTS)
         return CARD_ROOTS_FULL;
-    plan_move(c, root, labelled, &m);
-    if (labelled && count_free(t) < m.count)
+    plan_move(c, root, route, &m);
+    if (count_free(t) < (size_t)__builtin_popcountll(m.needy))
         return CARD_LABELS_SHORT;
     if (o->room < m.size)
         return CARD_NO_ROOM;
-    for (size_t k = 0; k < m.count; k++) {
-        if (t->own_label[m.slots[k]] != NO_LABEL)
-            give_up_label(c, o, m.slots[k]);
-        if (labelled)
-            give_label(c, o, m.slots[k], route);
-    }
+    for (size_t k = 0; k < m.count; k++)
+        move_tree(c, m.slots[k], route, m.needy >> m.slots[k] & 1, o);
     set_route(c, i, root, route);
     return CARD_ACCEPTED;
 }
@@ -547,10 +599,12 @@ uint32_t plain_start(uint64_t *numbers, uint32_t base)
     return taken ? CARD_ACCEPTED : CARD_BAD_BASE;
 }
 
-static bool found(const struct table *t, size_t slot, uint64_t *branches)
+static bool found(const struct table *t, size_t slot, uint32_t route, uint64_t *branches)
 {
     memcpy(branches, t->branches[slot], sizeof t->branches[slot]);
-    return t->leaves >> slot & 1;
+    if (route < CARD_NEIGHBOURS)
+        branches[route] = 0;
+    return is_leaf(t, slot);
 }
 
 static bool nothing(uint64_t *branches)
@@ -568,7 +622,7 @@ bool plain_lookup_label(const uint64_t *numbers, uint32_t label, uint64_t *branc
     uint64_t mark = t->mark[p];
     if (mark == 0 || (mark & MARK) >= AWAITING)
         return nothing(branches);
-    return found(t, mark >> SLOT_SHIFT, branches);
+    return found(t, mark >> SLOT_SHIFT, (uint32_t)(mark & MARK) - MAPPED, branches);
 }
 
 bool plain_lookup_name(const uint64_t *numbers, const uint8_t *names, const uint8_t *element, size_t element_length,
@@ -579,7 +633,7 @@ bool plain_lookup_name(const uint64_t *numbers, const uint8_t *names, const uint
     if (element_refusal(name) != CARD_ACCEPTED)
         return nothing(branches);
     size_t slot = find_tree(t, (const struct texts *)names, name);
-    return slot == CARD_TREES ? nothing(branches) : found(t, slot, branches);
+    return slot == CARD_TREES ? nothing(branches) : found(t, slot, t->route[slot], branches);
 }
 
 uint32_t plain_free_labels(const uint64_t *numbers)
