@@ -114,8 +114,8 @@ size_t card_route(uint64_t numbers[CARD_NUMBERS], uint8_t names[CARD_NAMES], con
 
 /*
  * Lookups, by a label of ours or by the octets of one element. All of `branches` is written: at each neighbour's number
- * the label of its branch, or 0 for none. Returns the leaf mark. Where nothing is found, all is 0 and false; a tree that
- * stands has a branch or a leaf.
+ * the label of its branch, or 0 for none; the branch of the neighbour that feeds the tree is held, and 0 too. Returns the
+ * leaf mark. Where nothing is found, all is 0 and false, and so it is for a tree that has no branch but a held one.
  */
 bool card_lookup_label(const uint64_t numbers[CARD_NUMBERS], uint32_t label, uint64_t branches[CARD_NEIGHBOURS]);
 bool card_lookup_name(const uint64_t numbers[CARD_NUMBERS], const uint8_t names[CARD_NAMES], const uint8_t *element,
