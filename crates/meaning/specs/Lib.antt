@@ -15,3 +15,10 @@ pub mod Notice
 pub mod NoticeExamples
 pub mod NoticeLaws
 pub mod RoutesStay
+pub mod Save
+pub mod SaveExample
+pub mod SaveRows
+pub mod SaveFields
+pub mod SaveRules
+pub mod SaveLists
+pub mod SaveLaws

@@ -83,7 +83,7 @@ two-small : (x y n : ℕ) → x * 256 + y ≡ n → n < 256 → (x ≡ n / 256 %
 two-small x y n e h = (omega arith, omega arith)
 
 module _ (e : List ℕ) (long : 6 + rootLength e ≤ length e) where
-  root-size : length (rootIn e) ≡ rootLength e
+  pub root-size : length (rootIn e) ≡ rootLength e
   unfolding rootIn
   root-size = length-take (rootLength e) (drop 4 e) ∙ omega (arith, length-drop 4 e)
 

@@ -10,3 +10,5 @@ pub mod RulesKept
 pub mod Sizes
 pub mod NoWayBack
 pub mod PromiseExample
+pub mod SaveSteps
+pub mod SaveKept

@@ -366,7 +366,7 @@ module _ (p : Past) (u : Upheld p) where
       not-same : (x y : List ℕ) → (x ≡ y → ⊥) → same x y ≡ false
       not-same x y d = by-test (same x y) (λ k. absurd (d (same-eq x y k))) (λ k. k)
 
-started : (b : ℕ) → Upheld (record { card = start b .card; live = []; accepted = [] })
+pub started : (b : ℕ) → Upheld (record { card = start b .card; live = []; accepted = [] })
 unfolding start accept refuse baseOutside withNext fresh
 started b =
     by-test (leb 16 b && leb b 1048320)

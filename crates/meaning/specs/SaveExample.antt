@@ -1,0 +1,159 @@
+-- The save by example: one whole save, octet by octet. `SaveRows` has which octets are taken, and which are refused.
+-- Assumes nothing.
+use Prim.Native.Nat.{ℕ}
+use mathlib.Core.Path.{_≡_, refl}
+use mathlib.Core.Bool.{Bool, true, _&&_}
+use mathlib.Core.List.{List, [], _∷_, _++_}
+use lib.Dec.{eqb}
+use Rattle.meaning.specs.Octets.{same}
+use Rattle.meaning.specs.Wire.{rootIn, element, mapping}
+use Rattle.meaning.specs.Card.{Card, fresh}
+use Rattle.meaning.specs.Events.{Out, Event, join, route, event, start}
+use Rattle.meaning.specs.Computing.{computing}
+use Rattle.meaning.specs.Examples.{enough, A, heard}
+use Rattle.meaning.specs.Save.{padded, spaced, nameSaved, marked, headSaved, routeSaved, foursOf, treeSaved, useSaved, routesSaved, treesSaved, usesSaved, saved, save, spacedIn, nameIn, routeRead, foursIn, treeRead, useRead, routesRead, treesRead, usesRead, isMappedFor, labelled, allLabelled, tableIn, all, isName, onceEach, isRoute, sameRoot, isBranchLabel, isTree, sameName, isUse, isCarried, allCarried, carriesOwn, holdsRight, keepsRules, isSave, restore}
+
+-- as `computing`, for the definitions of saves
+unfoldable pub computingSaves : ℕ
+unfolding computing padded spaced nameSaved marked headSaved routeSaved foursOf treeSaved useSaved routesSaved treesSaved usesSaved saved save spacedIn nameIn routeRead foursIn treeRead useRead routesRead treesRead usesRead isMappedFor labelled allLabelled tableIn all isName onceEach isRoute sameRoot isBranchLabel isTree sameName isUse isCarried allCarried carriesOwn holdsRight keepsRules isSave restore
+computingSaves = 0
+
+-- ---- one whole example
+
+-- a tree of the root 2001:db8::1, for which there is no route
+unfoldable pub B : List ℕ
+B = element 2 (0x20 ∷ 0x01 ∷ 0x0D ∷ 0xB8 ∷ 0 ∷ 0 ∷ 0 ∷ 0 ∷ 0 ∷ 0 ∷ 0 ∷ 0 ∷ 0 ∷ 0 ∷ 0 ∷ 1 ∷ []) (9 ∷ [])
+
+unfoldable pub after : Card → List Event → Card
+after c [] = c
+after c (e ∷ es) = after (event enough c e .card) es
+
+-- The route of A's root is neighbour 0, 1 maps <A, 100>, and B is joined. Then the route is neighbour 3: the label 16 awaits release from 0, and 17 is mapped to 3.
+unfoldable pub swapped : Card
+swapped = after (start 16 .card) (route (rootIn A) 0 ∷ heard 1 mapping A 100 ∷ join B ∷ route (rootIn A) 3 ∷ [])
+
+-- Its save, record by record.
+
+-- the head: base 16, next identifier 4, and then one route, two trees, two labels
+unfoldable pub headOf : List ℕ
+headOf =
+    -- mark, kind
+    0x4C ∷ 0x53 ∷ 0x01 ∷
+    -- base, next
+    0x00 ∷ 0x00 ∷ 0x00 ∷ 0x10 ∷ 0x00 ∷ 0x00 ∷ 0x00 ∷ 0x04 ∷
+    -- routes, trees, labels
+    0x01 ∷ 0x02 ∷ 0x00 ∷ 0x02 ∷
+    []
+
+-- the route of A's root
+unfoldable pub routeA : List ℕ
+routeA =
+    -- mark, kind
+    0x4C ∷ 0x53 ∷ 0x02 ∷
+    -- neighbour 3
+    0x03 ∷
+    -- the root's length, and 16 octets of space
+    0x04 ∷
+    0xC0 ∷ 0x00 ∷ 0x02 ∷ 0x01 ∷ 0x00 ∷ 0x00 ∷ 0x00 ∷ 0x00 ∷ 0x00 ∷ 0x00 ∷ 0x00 ∷ 0x00 ∷ 0x00 ∷ 0x00 ∷ 0x00 ∷ 0x00 ∷
+    []
+
+-- A, with the branch <1, 100>
+unfoldable pub treeA : List ℕ
+treeA =
+    -- mark, kind
+    0x4C ∷ 0x53 ∷ 0x03 ∷
+    -- the root's length, and 16 octets of space
+    0x04 ∷
+    0xC0 ∷ 0x00 ∷ 0x02 ∷ 0x01 ∷ 0x00 ∷ 0x00 ∷ 0x00 ∷ 0x00 ∷ 0x00 ∷ 0x00 ∷ 0x00 ∷ 0x00 ∷ 0x00 ∷ 0x00 ∷ 0x00 ∷ 0x00 ∷
+    -- the opaque value's length, and 32 octets of space
+    0x07 ∷
+    0x01 ∷ 0x00 ∷ 0x04 ∷ 0x00 ∷ 0x00 ∷ 0x00 ∷ 0x07 ∷ 0x00 ∷ 0x00 ∷ 0x00 ∷ 0x00 ∷ 0x00 ∷ 0x00 ∷ 0x00 ∷ 0x00 ∷ 0x00 ∷
+    0x00 ∷ 0x00 ∷ 0x00 ∷ 0x00 ∷ 0x00 ∷ 0x00 ∷ 0x00 ∷ 0x00 ∷ 0x00 ∷ 0x00 ∷ 0x00 ∷ 0x00 ∷ 0x00 ∷ 0x00 ∷ 0x00 ∷ 0x00 ∷
+    -- no leaf
+    0x00 ∷
+    -- sixteen branches
+    0x00 ∷ 0x00 ∷ 0x00 ∷ 0x00 ∷ 0x00 ∷ 0x00 ∷ 0x00 ∷ 0x64 ∷ 0x00 ∷ 0x00 ∷ 0x00 ∷ 0x00 ∷ 0x00 ∷ 0x00 ∷ 0x00 ∷ 0x00 ∷
+    0x00 ∷ 0x00 ∷ 0x00 ∷ 0x00 ∷ 0x00 ∷ 0x00 ∷ 0x00 ∷ 0x00 ∷ 0x00 ∷ 0x00 ∷ 0x00 ∷ 0x00 ∷ 0x00 ∷ 0x00 ∷ 0x00 ∷ 0x00 ∷
+    0x00 ∷ 0x00 ∷ 0x00 ∷ 0x00 ∷ 0x00 ∷ 0x00 ∷ 0x00 ∷ 0x00 ∷ 0x00 ∷ 0x00 ∷ 0x00 ∷ 0x00 ∷ 0x00 ∷ 0x00 ∷ 0x00 ∷ 0x00 ∷
+    0x00 ∷ 0x00 ∷ 0x00 ∷ 0x00 ∷ 0x00 ∷ 0x00 ∷ 0x00 ∷ 0x00 ∷ 0x00 ∷ 0x00 ∷ 0x00 ∷ 0x00 ∷ 0x00 ∷ 0x00 ∷ 0x00 ∷ 0x00 ∷
+    []
+
+-- B, with a leaf alone
+unfoldable pub treeB : List ℕ
+treeB =
+    -- mark, kind
+    0x4C ∷ 0x53 ∷ 0x03 ∷
+    -- the root's length, and 16 octets of space
+    0x10 ∷
+    0x20 ∷ 0x01 ∷ 0x0D ∷ 0xB8 ∷ 0x00 ∷ 0x00 ∷ 0x00 ∷ 0x00 ∷ 0x00 ∷ 0x00 ∷ 0x00 ∷ 0x00 ∷ 0x00 ∷ 0x00 ∷ 0x00 ∷ 0x01 ∷
+    -- the opaque value's length, and 32 octets of space
+    0x01 ∷
+    0x09 ∷ 0x00 ∷ 0x00 ∷ 0x00 ∷ 0x00 ∷ 0x00 ∷ 0x00 ∷ 0x00 ∷ 0x00 ∷ 0x00 ∷ 0x00 ∷ 0x00 ∷ 0x00 ∷ 0x00 ∷ 0x00 ∷ 0x00 ∷
+    0x00 ∷ 0x00 ∷ 0x00 ∷ 0x00 ∷ 0x00 ∷ 0x00 ∷ 0x00 ∷ 0x00 ∷ 0x00 ∷ 0x00 ∷ 0x00 ∷ 0x00 ∷ 0x00 ∷ 0x00 ∷ 0x00 ∷ 0x00 ∷
+    -- leaf
+    0x01 ∷
+    -- sixteen branches
+    0x00 ∷ 0x00 ∷ 0x00 ∷ 0x00 ∷ 0x00 ∷ 0x00 ∷ 0x00 ∷ 0x00 ∷ 0x00 ∷ 0x00 ∷ 0x00 ∷ 0x00 ∷ 0x00 ∷ 0x00 ∷ 0x00 ∷ 0x00 ∷
+    0x00 ∷ 0x00 ∷ 0x00 ∷ 0x00 ∷ 0x00 ∷ 0x00 ∷ 0x00 ∷ 0x00 ∷ 0x00 ∷ 0x00 ∷ 0x00 ∷ 0x00 ∷ 0x00 ∷ 0x00 ∷ 0x00 ∷ 0x00 ∷
+    0x00 ∷ 0x00 ∷ 0x00 ∷ 0x00 ∷ 0x00 ∷ 0x00 ∷ 0x00 ∷ 0x00 ∷ 0x00 ∷ 0x00 ∷ 0x00 ∷ 0x00 ∷ 0x00 ∷ 0x00 ∷ 0x00 ∷ 0x00 ∷
+    0x00 ∷ 0x00 ∷ 0x00 ∷ 0x00 ∷ 0x00 ∷ 0x00 ∷ 0x00 ∷ 0x00 ∷ 0x00 ∷ 0x00 ∷ 0x00 ∷ 0x00 ∷ 0x00 ∷ 0x00 ∷ 0x00 ∷ 0x00 ∷
+    []
+
+-- 16 awaits release from 0, for A
+unfoldable pub label16 : List ℕ
+label16 =
+    -- mark, kind
+    0x4C ∷ 0x53 ∷ 0x04 ∷
+    -- label, awaiting, neighbour
+    0x00 ∷ 0x00 ∷ 0x00 ∷ 0x10 ∷ 0x02 ∷ 0x00 ∷
+    -- the root's length, and 16 octets of space
+    0x04 ∷
+    0xC0 ∷ 0x00 ∷ 0x02 ∷ 0x01 ∷ 0x00 ∷ 0x00 ∷ 0x00 ∷ 0x00 ∷ 0x00 ∷ 0x00 ∷ 0x00 ∷ 0x00 ∷ 0x00 ∷ 0x00 ∷ 0x00 ∷ 0x00 ∷
+    -- the opaque value's length, and 32 octets of space
+    0x07 ∷
+    0x01 ∷ 0x00 ∷ 0x04 ∷ 0x00 ∷ 0x00 ∷ 0x00 ∷ 0x07 ∷ 0x00 ∷ 0x00 ∷ 0x00 ∷ 0x00 ∷ 0x00 ∷ 0x00 ∷ 0x00 ∷ 0x00 ∷ 0x00 ∷
+    0x00 ∷ 0x00 ∷ 0x00 ∷ 0x00 ∷ 0x00 ∷ 0x00 ∷ 0x00 ∷ 0x00 ∷ 0x00 ∷ 0x00 ∷ 0x00 ∷ 0x00 ∷ 0x00 ∷ 0x00 ∷ 0x00 ∷ 0x00 ∷
+    []
+
+-- 17 is mapped to 3, for A
+unfoldable pub label17 : List ℕ
+label17 =
+    -- mark, kind
+    0x4C ∷ 0x53 ∷ 0x04 ∷
+    -- label, mapped, neighbour
+    0x00 ∷ 0x00 ∷ 0x00 ∷ 0x11 ∷ 0x01 ∷ 0x03 ∷
+    -- the root's length, and 16 octets of space
+    0x04 ∷
+    0xC0 ∷ 0x00 ∷ 0x02 ∷ 0x01 ∷ 0x00 ∷ 0x00 ∷ 0x00 ∷ 0x00 ∷ 0x00 ∷ 0x00 ∷ 0x00 ∷ 0x00 ∷ 0x00 ∷ 0x00 ∷ 0x00 ∷ 0x00 ∷
+    -- the opaque value's length, and 32 octets of space
+    0x07 ∷
+    0x01 ∷ 0x00 ∷ 0x04 ∷ 0x00 ∷ 0x00 ∷ 0x00 ∷ 0x07 ∷ 0x00 ∷ 0x00 ∷ 0x00 ∷ 0x00 ∷ 0x00 ∷ 0x00 ∷ 0x00 ∷ 0x00 ∷ 0x00 ∷
+    0x00 ∷ 0x00 ∷ 0x00 ∷ 0x00 ∷ 0x00 ∷ 0x00 ∷ 0x00 ∷ 0x00 ∷ 0x00 ∷ 0x00 ∷ 0x00 ∷ 0x00 ∷ 0x00 ∷ 0x00 ∷ 0x00 ∷ 0x00 ∷
+    []
+
+unfoldable pub example : List ℕ
+example = headOf ++ (routeA ++ (treeA ++ (treeB ++ (label16 ++ label17))))
+
+-- the save of that card is exactly these octets
+pub example-saved : saved swapped ≡ example
+unfolding computingSaves computing B after swapped headOf routeA treeA treeB label16 label17 example A heard
+example-saved = refl
+
+-- and they are taken, whatever table stands, and give the same card back
+pub example-restored : restore example (fresh 99) ≡ record { answer = 0; octets = []; card = swapped }
+unfolding computingSaves computing B after swapped headOf routeA treeA treeB label16 label17 example A heard
+example-restored = refl
+
+-- ---- too little room
+
+unfoldable pub agrees : Out → ℕ → List ℕ → List ℕ → Bool
+agrees o answer octets table = eqb (o .answer) answer && same (o .octets) octets && same (saved (o .card)) table
+
+unfoldable pub savesRight : Bool
+savesRight =
+    agrees (save 389 swapped) 16 [] example && agrees (save 390 swapped) 0 example example
+    && agrees (save 14 (fresh 16)) 16 [] (saved (fresh 16)) && agrees (save 15 (fresh 16)) 0 (saved (fresh 16)) (saved (fresh 16))
+
+pub room-shown : savesRight ≡ true
+unfolding computingSaves computing agrees savesRight B after swapped headOf routeA treeA treeB label16 label17 example A heard
+room-shown = refl

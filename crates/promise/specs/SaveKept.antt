@@ -1,0 +1,179 @@
+-- The save over a history: every table that a history leaves keeps the rules in force, so that its save is taken; and demand 3 continues over a card swap.
+-- Assumes nothing.
+use Prim.Native.Nat.{ℕ, zero, suc, _+_, _-_, _≤_, _<_}
+use native.Mathlib.Nat.{add-sub-cancel-left}
+use native.Mathlib.Omega.{arith}
+use mathlib.Core.Path.{_≡_, refl, sym, ap, _∙_, subst}
+use mathlib.Core.Bool.{true, false, _&&_}
+use mathlib.Core.List.{List, [], _∷_}
+use lib.ListN.{getD, length}
+use lib.Dec.{eqb}
+use borrow.Author.Tests.{eqb-false, eq-eqb, le-leb, lt-ltb}
+use Rattle.meaning.specs.Octets.{same}
+use Rattle.meaning.specs.Wire.{mapping, withdraw, messageIn, elementRefusal}
+use Rattle.meaning.specs.Card.{Tree, Use, free, mapped, awaiting, Card, fresh, withNext, bare, treeOf, treeAt, isEmpty, useOf}
+use Rattle.meaning.specs.Events.{refuse, accept, Event, receive, join, leave, route, baseOutside, start}
+use Rattle.meaning.specs.Lists.{by-test, picked, same-refl}
+use Rattle.meaning.specs.Save.{all, isName, isBranchLabel, isTree, isUse, isCarried, isMappedFor, carriesOwn, keepsRules, saved, restore}
+use Rattle.meaning.specs.SaveRules.{all-of, Rules, rules-kept}
+use Rattle.meaning.specs.SaveLaws.{restored}
+use Rattle.promise.specs.Promise.{Given, ofLabel, branchSaid, branchBy, branchesBy, Step, Past, thenSteps, history, Each, Promise}
+use Rattle.promise.specs.LiveLaws.{isMapped, only, givens, Books}
+use Rattle.promise.specs.CardLaws.{Proper, at-proper, at-named}
+use Rattle.promise.specs.PromiseProof.{Upheld, steps-upheld, started, history-upheld, kept}
+use Rattle.promise.specs.SaveSteps.{Passed, AllPassed, Told, Writable, steps-writable}
+
+-- ---- branches: each is the label of an accepted Mapping
+
+label-good : (l : ℕ) → 16 ≤ l → l ≤ 1048575 → isBranchLabel l ≡ true
+unfolding isBranchLabel
+label-good l low high = by-test (eqb l 0) (λ e. rw e refl) (λ e. rw (e, le-leb 16 l low, le-leb l 1048575 high) refl)
+
+branch-good : (a : List ℕ) (n : ℕ) (es : List Event) → AllPassed es → isBranchLabel (branchBy a n es) ≡ true
+unfolding branchBy AllPassed Passed branchSaid
+branch-good a n [] h = unfold isBranchLabel in refl
+branch-good a n (receive from s ∷ es) h =
+    let before = branch-good a n es (h .1) in
+    picked (λ (l : ℕ). isBranchLabel l ≡ true) (same (messageIn s .name) a)
+    (λ _. picked (λ (l : ℕ). isBranchLabel l ≡ true) (eqb from n)
+    (λ _. picked (λ (l : ℕ). isBranchLabel l ≡ true) (eqb (messageIn s .kind) mapping)
+    (λ _. label-good (messageIn s .label) (h .0 .low) (h .0 .high))
+    (λ _. picked (λ (l : ℕ). isBranchLabel l ≡ true) (eqb (messageIn s .kind) withdraw && eqb (branchBy a n es) (messageIn s .label)) (λ _. unfold isBranchLabel in refl) (λ _. before)))
+    (λ _. before))
+    (λ _. before)
+branch-good a n (join e ∷ es) h = branch-good a n es (h .1)
+branch-good a n (leave e ∷ es) h = branch-good a n es (h .1)
+branch-good a n (route r via ∷ es) h = branch-good a n es (h .1)
+
+branches-good : (a : List ℕ) (n k : ℕ) (es : List Event) → AllPassed es → all isBranchLabel (branchesBy a n k es) ≡ true
+unfolding all branchesBy
+branches-good a n zero es h = refl
+branches-good a n (suc k) es h = rw (branch-good a n es h) (branches-good a (suc n) k es h)
+
+is-tree : (t : Tree) → elementRefusal (t .name) ≡ 0 → length (t .branches) ≡ 16 → all isBranchLabel (t .branches) ≡ true → isEmpty t ≡ false → isTree t ≡ true
+unfolding isTree isName
+is-tree t ok sixteen good full = rw (eq-eqb (elementRefusal (t .name)) 0 ok, eq-eqb (length (t .branches)) 16 sixteen, good, full) refl
+
+-- ---- uses: each is a live label's
+
+each-with : (P : Given → Type 0) (l : ℕ) (gs : List Given) → Each P gs → Each P (only l gs)
+unfolding Each only
+each-with P l [] h = tt
+each-with P l (g ∷ gs) h = picked (Each P) (ofLabel l g) (λ _. unfold Each in (h .0, each-with P l gs (h .1))) (λ _. each-with P l gs (h .1))
+
+is-use : (l : ℕ) (u : Use) → Each Told (givens l u) → isUse u ≡ true
+unfolding isUse isName givens Each Told
+is-use l free h = refl
+is-use l (mapped n a) h = rw (lt-ltb n 16 (h .0 .0), eq-eqb (elementRefusal a) 0 (h .0 .1)) refl
+is-use l (awaiting n a) h = rw (lt-ltb n 16 (h .0 .0), eq-eqb (elementRefusal a) 0 (h .0 .1)) refl
+
+mapped-same : (a : List ℕ) (u : Use) → isMappedFor a u ≡ isMapped a u
+unfolding isMappedFor isMapped
+mapped-same a free = refl
+mapped-same a (mapped n b) = refl
+mapped-same a (awaiting n b) = refl
+
+is-carried : (c : Card) (l : ℕ) (u : Use) → ((a : List ℕ) → isMapped a u ≡ true → treeOf a c .label ≡ l) → isCarried c l u ≡ true
+unfolding isCarried isMapped
+is-carried c l free h = refl
+is-carried c l (mapped n a) h = eq-eqb _ _ (h a (same-refl a))
+is-carried c l (awaiting n a) h = refl
+
+use-there : (c : Card) (i : ℕ) → useOf (c .base + i) c ≡ getD (c .labels) i free
+unfolding useOf
+use-there c i = rw (le-leb (c .base) (c .base + i) (omega arith), add-sub-cancel-left (c .base) i) refl
+
+-- ---- the rules
+
+module _ (p : Past) (u : Upheld p) (w : Writable p) where
+  tree-good : (i : ℕ) → i < length (p .card .trees) → isTree (treeAt i (p .card)) ≡ true
+  tree-good i h =
+      let t : Tree = treeAt i (p .card) in
+      let proper : (length (t .branches) ≡ 16) × (elementRefusal (t .name) ≡ 0) = unfold Proper in at-proper (p .card) i (u .sound .tidy) h in
+      let its : t .branches ≡ branchesBy (t .name) 0 16 (p .accepted) = ap (λ (x : Tree). x .branches) (sym (at-named (p .card) (u .sound .tidy) i h)) ∙ u .reads (t .name) .branches in
+      is-tree t (proper .1) (proper .0) (rw its (branches-good (t .name) 0 16 (p .accepted) (w .passed))) (u .ruled .full i h)
+
+  use-good : (i : ℕ) → isUse (getD (p .card .labels) i free) ≡ true
+  unfolding Books
+  use-good i =
+      let l : ℕ = p .card .base + i in
+      is-use l _ (subst (λ (x : Use). Each Told (givens l x)) (use-there (p .card) i) (subst (Each Told) (u .sound .books l) (each-with Told l (p .live) (w .told))))
+
+  carried-good : (i : ℕ) → isCarried (p .card) (p .card .base + i) (getD (p .card .labels) i free) ≡ true
+  carried-good i = is-carried (p .card) (p .card .base + i) _ (λ a e. u .sound .linked .led a (p .card .base + i) (ap (isMapped a) (use-there (p .card) i) ∙ e))
+
+  own-good : (i : ℕ) → i < length (p .card .trees) → carriesOwn (p .card) (treeAt i (p .card)) ≡ true
+  unfolding carriesOwn
+  own-good i h =
+      let t : Tree = treeAt i (p .card) in
+      let its : treeOf (t .name) (p .card) .label ≡ t .label = ap (λ (x : Tree). x .label) (at-named (p .card) (u .sound .tidy) i h) in
+      by-test (eqb (t .label) 0)
+      (λ e. rw e refl)
+      (λ e. rw e (mapped-same (t .name) (useOf (t .label) (p .card)) ∙ subst (λ (l : ℕ). isMapped (t .name) (useOf l (p .card)) ≡ true) its (u .sound .linked .own (t .name) (λ z. eqb-false _ _ e (sym its ∙ z)))))
+
+  rules-hold : Rules (p .card)
+  rules-hold = record {
+    low = u .sound .low;
+    high = u .sound .high;
+    next = w .next;
+    few-routes = u .ruled .routes;
+    few-trees = u .ruled .trees;
+    many = u .sound .many;
+    routes = w .routes;
+    roots = u .ruled .roots;
+    trees = all-of isTree (p .card .trees) (bare []) (unfold treeAt in tree-good);
+    names = u .sound .tidy .once;
+    uses = all-of isUse (p .card .labels) free (λ i _. use-good i);
+    carried = λ i _. carried-good i;
+    own = own-good;
+    held = u .ruled .held;
+  }
+
+  pub past-keeps-rules : keepsRules (p .card) ≡ true
+  past-keeps-rules = rules-kept (p .card) rules-hold
+
+-- ---- a history
+
+start-writable : (base : ℕ) → Writable (record { card = start base .card; live = []; accepted = [] })
+unfolding start accept refuse withNext fresh all AllPassed Each
+start-writable base =
+    by-test (baseOutside base)
+    (λ e. rw e (record { next = omega arith; routes = refl; passed = tt; told = tt }))
+    (λ e. rw e (record { next = omega arith; routes = refl; passed = tt; told = tt }))
+
+pub history-writable : (base : ℕ) (steps : List Step) → Writable (history base steps)
+unfolding history
+history-writable base steps = steps-writable _ steps (started base) (start-writable base)
+
+-- After any history the table keeps the rules in force, and so its save is taken.
+pub history-keeps-rules : (base : ℕ) (steps : List Step) → keepsRules (history base steps .card) ≡ true
+history-keeps-rules base steps = past-keeps-rules (history base steps) (history-upheld base steps) (history-writable base steps)
+
+-- ---- over a card swap
+
+-- what goes on after the save of the last card is restored, with no event between, on a card where any table stands
+unfoldable pub swapped : Past → Card → Past
+swapped p d = record { card = restore (saved (p .card)) d .card; live = p .live; accepted = p .accepted }
+
+pub swapped-same : (p : Past) → keepsRules (p .card) ≡ true → (d : Card) → swapped p d ≡ p
+unfolding swapped
+swapped-same p h d = λ i. record { card = restored (p .card) h d i .card; live = p .live; accepted = p .accepted }
+
+pub swap-upheld : (p : Past) → Upheld p → keepsRules (p .card) ≡ true → (d : Card) → Upheld (swapped p d)
+swap-upheld p u h d = rw (swapped-same p h d) u
+
+-- the promise, over a swap and all further steps
+pub swap-kept : (p : Past) → Upheld p → keepsRules (p .card) ≡ true → (d : Card) (more : List Step) → Promise (thenSteps (swapped p d) more)
+swap-kept p u h d more = kept (thenSteps (swapped p d) more) (steps-upheld (swapped p d) more (swap-upheld p u h d))
+
+-- DEMAND 3 CONTINUES: after any history, a save, its restore on another card, and any further steps.
+pub promise-continues : (base : ℕ) (steps : List Step) (d : Card) (more : List Step) → Promise (thenSteps (swapped (history base steps) d) more)
+promise-continues base steps d more = swap-kept (history base steps) (history-upheld base steps) (history-keeps-rules base steps) d more
+
+-- The save of a table after any history is read back as that table.
+pub history-restored : (base : ℕ) (steps : List Step) (d : Card) → restore (saved (history base steps .card)) d ≡ record { answer = 0; octets = []; card = history base steps .card }
+history-restored base steps d = restored (history base steps .card) (history-keeps-rules base steps) d
+
+-- And what follows is what would have followed without the swap, so that swaps may be many.
+pub swap-goes-on : (base : ℕ) (steps : List Step) (d : Card) (more : List Step) → thenSteps (swapped (history base steps) d) more ≡ thenSteps (history base steps) more
+swap-goes-on base steps d more = ap (λ (p : Past). thenSteps p more) (swapped-same (history base steps) (history-keeps-rules base steps) d)
