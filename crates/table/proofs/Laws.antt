@@ -242,11 +242,11 @@ module _ (ns os : List ℕ) (p n : ℕ) (a : List ℕ) where
       rw (label-awaiting ns p os k) (rw (ne-eqb (markUse (markAt ns p) - 17) n (λ q. ne (omega arith))) refl)))
 
 module _ (ns os : List ℕ) (label b : ℕ) (e : b ≡ baseIn ns) where
-  use-under : label < b → useOf label (cardOf ns os) ≡ free
+  pub use-under : label < b → useOf label (cardOf ns os) ≡ free
   unfolding useOf cardOf
   use-under h = rw (lt-leb (baseIn ns) label (rw e at h)) refl
 
-  use-above : b ≤ label → 256 ≤ label - b → useOf label (cardOf ns os) ≡ free
+  pub use-above : b ≤ label → 256 ≤ label - b → useOf label (cardOf ns os) ≡ free
   unfolding useOf cardOf
   use-above h k = rw (le-leb (baseIn ns) label (rw e at h)) (getD-out (tab 256 (labelIn ns os)) (label - baseIn ns) free (rw tab-length (rw e at k)))
 

@@ -71,6 +71,17 @@ module _ (ns : List ℕ) (p : ℕ) where
         (λ t. rw (label-mapped (taken-use e) (leb-true _ _ t), e) (unfold isFree in refl))
         (λ t. rw (label-awaiting (leb-false _ _ t), e) (unfold isFree in refl)))
 
+    -- whatever the mark: free, or mapped to one of the sixteen neighbours, or awaiting release, for the label's name
+    pub by-use {ℓ} : {X : Type ℓ} → (labelIn ns os p ≡ free → X) → ((n : ℕ) → n < 16 → labelIn ns os p ≡ mapped n (labelName os p) → X) → ((n : ℕ) → labelIn ns os p ≡ awaiting n (labelName os p) → X) → X
+    by-use f m a =
+        by-test (isFreeAt ns p)
+        (λ e. f (label-free e))
+        (λ e.
+        let u = taken-use e in
+        by-test (leb (markUse (markAt ns p)) 16)
+        (λ t. let k : markUse (markAt ns p) ≤ 16 = leb-true _ _ t in m _ (omega arith) (label-mapped u k))
+        (λ t. a _ (label-awaiting (leb-false _ _ t))))
+
 -- ---- the tree
 
 module _ (ns : List ℕ) (i p : ℕ) where

@@ -8,7 +8,7 @@ ghost use lib.ListN.{length, getD, set};
 ghost use Rattle.meaning.specs.Octets.{place, any};
 ghost use Rattle.meaning.specs.Card.{withNext, withTrees, withBranch, withLeaf, treePlace, treeAt, isBranch, isFree, isAwaiting, mappedTo, useOf, heldFor, freeLabels, routePlace, routeOf, carries, free};
 ghost use Rattle.meaning.specs.Events.{setUse, setLabel, ended, labelsShort};
-ghost use Rattle.table.specs.Memory.{cardOf, baseIn, treeCount, routeCount, textAt, treeName, labelName, rootName, isFreeAt, isMappedAt, labelIn, carriesAt, ownPlace};
+ghost use Rattle.table.specs.Memory.{cardOf, baseIn, treeCount, routeCount, textAt, treeName, labelName, rootName, routeIn, isFreeAt, isMappedAt, labelIn, carriesAt, ownPlace};
 
 // ---- the head
 
@@ -59,7 +59,7 @@ pub fn tree_count(numbers: &[u64]) -> usize
 // ---- marks
 
 // Whether the label at place p of the block is free: read here, and nowhere else.
-fn is_free(numbers: &[u64], p: usize) -> bool
+pub fn is_free(numbers: &[u64], p: usize) -> bool
     requires { ⌜ (length (now numbers) ≡ 1444) × (p < 256) ⌝ }
     ensures { λ r. ⌜ (r ≡ isFreeAt (now (numbers .entry)) p) × ((os : List ℕ) → r ≡ isFree (labelIn (now (numbers .entry)) os p)) ⌝ }
 {
@@ -67,7 +67,7 @@ fn is_free(numbers: &[u64], p: usize) -> bool
 }
 
 // The neighbour to which the label at place p of the block is mapped; 17 for none.
-fn mapped_at(numbers: &[u64], p: usize) -> u64
+pub fn mapped_at(numbers: &[u64], p: usize) -> u64
     requires { ⌜ (length (now numbers) ≡ 1444) × (p < 256) ⌝ }
     ensures { λ r. ⌜ ((os : List ℕ) → r ≡ mappedTo (labelIn (now (numbers .entry)) os p)) × (r ≤ 17)
         × (r ≡ 17 → isMappedAt (now (numbers .entry)) p ≡ false) × ((r ≡ 17 → ⊥) → isMappedAt (now (numbers .entry)) p ≡ true) ⌝ }
@@ -266,7 +266,7 @@ pub fn held_for(numbers: &[u64], i: usize) -> u64
     }
 }
 
-fn label_name(names: &[u8], p: usize) -> &[u8]
+pub fn label_name(names: &[u8], p: usize) -> &[u8]
     requires { ⌜ (length (now names) ≡ 18144) × (p < 256) ⌝ }
     ensures { λ r. ⌜ now r ≡ labelName (now (names .entry)) p ⌝ }
 {
@@ -381,11 +381,18 @@ pub fn free_label(numbers: &mut [u64], label: u64)
 
 // ---- routes
 
-fn root_name(names: &[u8], i: usize) -> &[u8]
+pub fn root_name(names: &[u8], i: usize) -> &[u8]
     requires { ⌜ (length (now names) ≡ 18144) × (i < 32) ⌝ }
     ensures { λ r. ⌜ now r ≡ rootName (now (names .entry)) i ⌝ }
 {
     text(names, 16, 17600 + i * 17)
+}
+
+pub fn route_via(numbers: &[u64], i: usize) -> u64
+    requires { ⌜ (length (now numbers) ≡ 1444) × (i < 32) ⌝ }
+    ensures { λ r. ⌜ ((os : List ℕ) → r ≡ routeIn (now (numbers .entry)) os i .via) ⌝ }
+{
+    numbers[4 + i]
 }
 
 pub fn route_place(numbers: &[u64], names: &[u8], root: &[u8]) -> usize
