@@ -1,0 +1,18 @@
+use Prim.Native.Nat.{ℕ}
+use mathlib.Core.Path.{ap}
+use lib.Dec.{eqb}
+use Rattle.meaning.specs.Save.{isName}
+use borrow.Author.Needs.{needs}
+use Rattle.rules.proofs.is_name.Statement.{statement}
+use Rattle.rules.proofs.is_name.Tie as tie
+use Rattle.reader.proofs.element_refusal.Reads as element-refusal-reads
+
+element-refusal-requires : tie.Need-element-refusal-requires
+element-refusal-requires c κs = search needs
+
+returns : tie.Need-returns
+unfolding isName
+returns c = ap (λ (n : ℕ). eqb n 0) (c .element-refusal .ensures)
+
+pub is-name-spec : {M : Type 1} → statement M
+is-name-spec = tie.close (tie.spec element-refusal-requires returns)
