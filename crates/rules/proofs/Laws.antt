@@ -2,7 +2,7 @@
 use Prim.Native.Nat.{ℕ, suc, _+_, _-_, _%_, _≤_, _<_}
 use native.Mathlib.Numerals.{add-one}
 use native.Mathlib.Omega.{arith}
-use mathlib.Core.Path.{_≡_, refl, sym, ap, _∙_}
+use mathlib.Core.Path.{_≡_, refl, ap}
 use mathlib.Core.Bool.{Bool, true, false, not, _&&_, _||_, and-assoc, and-true, and-false, Bool·not-not}
 use mathlib.Core.List.{List, [], _∷_}
 use lib.ListN.{length, drop, getD, set, drop-of-length-le}
@@ -10,12 +10,12 @@ use lib.Seq.{drop-cons, set-out}
 use lib.Dec.{eqb, leb, ltb}
 use borrow.Author.Tests.{lt-ltb, le-leb, lt-leb, eq-eqb, ne-eqb, not-true, not-false}
 use Rattle.meaning.specs.Octets.{any, same}
-use Rattle.meaning.specs.Lists.{by-test, getD-out, getD-same}
-use Rattle.meaning.specs.Wire.{rootIn, elementRefusal}
+use Rattle.meaning.specs.Lists.{getD-out, getD-same}
+use Rattle.meaning.specs.Wire.{rootIn}
 use Rattle.meaning.specs.Card.{Route, Tree, Use, mapped, Card, treeAt, treeOf, treePlace, bare, isBranch, isEmpty, isFree, mappedTo, useOf, isFor, named, routeOf, heldFor}
 use Rattle.meaning.specs.Events.{notRoot, baseOutside, upstream, upstreamOf, holder}
 use Rattle.meaning.specs.Save.{all, isName, onceEach, isRoute, sameRoot, isBranchLabel, isTree, sameName, isUse, isCarried, allCarried, isMappedFor, carriesOwn, holdsRight, keepsRules}
-use Rattle.octets.proofs.Tab.{tab-length, tab-get}
+use Rattle.octets.proofs.Tab.{tab-get}
 use Rattle.table.specs.Memory.{baseIn, nextIn, routeCount, treeCount, rootName, labelName, routeIn, labelIn, cardOf}
 use Rattle.table.proofs.Memory.{routeCount-le, treeCount-le, base-range, routes-length, trees-length, labels-length}
 use Rattle.table.proofs.Marks.{by-use}
@@ -319,11 +319,12 @@ module _ (ns os : List ℕ) where
   labels-kept : eqb (length (cardOf ns os .labels)) 256 ≡ true
   labels-kept = eq-eqb _ 256 (labels-length ns os)
 
-  -- what is left to test
-  pub rules-left : keepsRules (cardOf ns os)
-      ≡ (all isRoute (cardOf ns os .routes) && (onceEach sameRoot (cardOf ns os .routes)
-      && (all isTree (cardOf ns os .trees) && (onceEach sameName (cardOf ns os .trees)
-      && (all isUse (cardOf ns os .labels)
-      && (allCarried (cardOf ns os) (cardOf ns os .base) (cardOf ns os .labels) && (all (carriesOwn (cardOf ns os)) (cardOf ns os .trees) && all (holdsRight (cardOf ns os)) (cardOf ns os .trees))))))))
+  -- what is left to test, with what the code says of each
+  pub kept : (a b d e f g h k : Bool)
+      → a ≡ all isRoute (cardOf ns os .routes) → b ≡ onceEach sameRoot (cardOf ns os .routes)
+      → d ≡ all isTree (cardOf ns os .trees) → e ≡ onceEach sameName (cardOf ns os .trees)
+      → f ≡ all isUse (cardOf ns os .labels)
+      → g ≡ allCarried (cardOf ns os) (cardOf ns os .base) (cardOf ns os .labels) → h ≡ all (carriesOwn (cardOf ns os)) (cardOf ns os .trees) → k ≡ all (holdsRight (cardOf ns os)) (cardOf ns os .trees)
+      → (a && b && d && e && f && g && h && k) ≡ keepsRules (cardOf ns os)
   unfolding keepsRules
-  rules-left = rw (base-kept, next-kept, routes-kept, trees-kept, labels-kept) (simp and-assoc)
+  kept a b d e f g h k ea eb ed ee ef eg eh ek = rw (base-kept, next-kept, routes-kept, trees-kept, labels-kept, ea, eb, ed, ee, ef, eg, eh, ek) refl

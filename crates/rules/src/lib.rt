@@ -1,6 +1,6 @@
 // Whether the card that the memory denotes keeps the rules in force: one function for each rule, and one for what it asks of a row.
-// Four rules are kept by any memory, for cardOf reads it so: the base is in its range, the next identifier is below 2^32, at most 32 routes
-// and 64 trees stand, and there are 256 labels. Nothing is tested for them; proofs/Laws.antt says why.
+// Some rules any memory keeps, since it is read so: the base's range, the identifier's, the numbers of routes, trees and labels, sixteen
+// branches to a tree, and a neighbour's number with each label in use. The code tests nothing for them; proofs/Laws.antt says why.
 ghost use mathlib.Core.Path.{_≡_};
 ghost use mathlib.Core.Bool.{not};
 ghost use mathlib.Core.List.{List};
@@ -304,30 +304,17 @@ fn held_right(numbers: &[u64], names: &[u8]) -> bool
 
 // ---- all of them
 
+// Each is asked: a table that keeps the rules passes them all.
 pub fn keeps_rules(numbers: &[u64], names: &[u8]) -> bool
     requires { ⌜ (length (now numbers) ≡ 1444) × (length (now names) ≡ 18144) ⌝ }
     ensures { λ r. ⌜ r ≡ keepsRules (cardOf (now (numbers .entry)) (now (names .entry))) ⌝ }
 {
-    if !routes_good(numbers, names) {
-        return false;
-    }
-    if !roots_once(numbers, names) {
-        return false;
-    }
-    if !trees_good(numbers, names) {
-        return false;
-    }
-    if !names_once(numbers, names) {
-        return false;
-    }
-    if !uses_good(numbers, names) {
-        return false;
-    }
-    if !all_carried(numbers, names) {
-        return false;
-    }
-    if !own_labels(numbers, names) {
-        return false;
-    }
-    held_right(numbers, names)
+    routes_good(numbers, names)
+        & roots_once(numbers, names)
+        & trees_good(numbers, names)
+        & names_once(numbers, names)
+        & uses_good(numbers, names)
+        & all_carried(numbers, names)
+        & own_labels(numbers, names)
+        & held_right(numbers, names)
 }

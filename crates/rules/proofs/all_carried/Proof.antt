@@ -8,7 +8,6 @@ use Rattle.rules.proofs.Laws.{carried-start, carried-hit, carried-miss,
 use borrow.Author.Needs.{needs}
 use Rattle.rules.proofs.all_carried.Statement.{statement}
 use Rattle.rules.proofs.all_carried.Tie as tie
-use Rattle.rules.proofs.is_carried.Reads as is-carried-reads
 
 abbrev Inv-loop : tie.InvT-loop
 Inv-loop numbers names p₀ p = (p ≤ 256) × (allCarried (cardOf numbers names) (cardOf numbers names .base) (cardOf numbers names .labels) ≡ allCarried (cardOf numbers names) (baseIn numbers + p) (drop p (cardOf numbers names .labels)))
@@ -23,7 +22,7 @@ is-carried-requires : tie.Need-is-carried-requires Inv-loop μ-loop
 is-carried-requires c κs = search needs
 
 returns : tie.Need-returns Inv-loop μ-loop
-returns c = 
+returns c =
     let l = c .before .before in
     sym (l .before .loop .inv .1 ∙ carried-miss _ _ _ _ _ (label-there _ _ _ (l .loop-test .taken)) _ (c .before .is-carried .ensures) (c .if1 .taken))
 
@@ -34,7 +33,7 @@ loop-less : tie.Need-loop-less Inv-loop μ-loop
 loop-less c = search needs
 
 loop-again : tie.Need-loop-again Inv-loop μ-loop
-loop-again c = 
+loop-again c =
     let l = c .before .before in
     (omega arith, l .before .loop .inv .1 ∙ carried-hit _ _ _ _ _ (label-there _ _ _ (l .loop-test .taken)) _ (c .before .is-carried .ensures) (c .if1 .left))
 

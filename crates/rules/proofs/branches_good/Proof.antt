@@ -10,8 +10,6 @@ use Rattle.rules.proofs.Laws.{all-hit, all-miss, all-none, branch-there
 use borrow.Author.Needs.{needs}
 use Rattle.rules.proofs.branches_good.Statement.{statement}
 use Rattle.rules.proofs.branches_good.Tie as tie
-use Rattle.rules.proofs.is_branch_label.Reads as is-branch-label-reads
-use Rattle.table.proofs.branch.Reads as branch-reads
 
 abbrev Inv-loop : tie.InvT-loop
 Inv-loop numbers i k₀ k = (k ≤ 16) × ((os : List ℕ) → all isBranchLabel (treeAt i (cardOf numbers os) .branches) ≡ all isBranchLabel (drop k (treeAt i (cardOf numbers os) .branches)))
@@ -41,7 +39,7 @@ loop-less : tie.Need-loop-less Inv-loop μ-loop
 loop-less c = search needs
 
 loop-again : tie.Need-loop-again Inv-loop μ-loop
-loop-again c = 
+loop-again c =
     let l = c .before .before .before in
     let s = l .before .before .before in
     (omega arith, (λ os. l .before .loop .inv .1 os ∙ all-hit _ _ _ (branch-there _ os _ _ (s .pre .1) (l .loop-test .taken)) _ _ (c .before .is-branch-label .ensures ∙ ap isBranchLabel (c .before .before .branch .ensures os)) (c .if1 .left)))

@@ -3,9 +3,6 @@ use Rattle.rules.proofs.Laws.{own-none, own-for}
 use borrow.Author.Needs.{needs}
 use Rattle.rules.proofs.carries_own.Statement.{statement}
 use Rattle.rules.proofs.carries_own.Tie as tie
-use Rattle.rules.proofs.is_mapped_for.Reads as is-mapped-for-reads
-use Rattle.table.proofs.tree_label.Reads as tree-label-reads
-use Rattle.table.proofs.tree_name.Reads as tree-name-reads
 
 tree-label-requires : tie.Need-tree-label-requires
 tree-label-requires c κs = search needs

@@ -2,10 +2,6 @@ use Rattle.rules.proofs.Laws.{holds}
 use borrow.Author.Needs.{needs}
 use Rattle.rules.proofs.holds_right.Statement.{statement}
 use Rattle.rules.proofs.holds_right.Tie as tie
-use Rattle.moves.proofs.holder.Reads as holder-reads
-use Rattle.moves.proofs.upstream_of.Reads as upstream-of-reads
-use Rattle.table.proofs.held_for.Reads as held-for-reads
-use Rattle.table.proofs.tree_name.Reads as tree-name-reads
 
 tree-name-requires : tie.Need-tree-name-requires
 tree-name-requires c κs = search needs

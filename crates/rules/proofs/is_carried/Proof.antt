@@ -3,12 +3,6 @@ use Rattle.rules.proofs.Laws.{carried-free, carried-by, carried-absent}
 use borrow.Author.Needs.{needs}
 use Rattle.rules.proofs.is_carried.Statement.{statement}
 use Rattle.rules.proofs.is_carried.Tie as tie
-use Rattle.table.proofs.base.Reads as base-reads
-use Rattle.table.proofs.label_name.Reads as label-name-reads
-use Rattle.table.proofs.mapped_at.Reads as mapped-at-reads
-use Rattle.table.proofs.tree_count.Reads as tree-count-reads
-use Rattle.table.proofs.tree_label.Reads as tree-label-reads
-use Rattle.table.proofs.tree_place.Reads as tree-place-reads
 
 mapped-at-requires : tie.Need-mapped-at-requires
 mapped-at-requires c κs = search needs

@@ -3,10 +3,6 @@ use Rattle.rules.proofs.Laws.{for-under, for-above, for-at, mapped-none
 use borrow.Author.Needs.{needs}
 use Rattle.rules.proofs.is_mapped_for.Statement.{statement}
 use Rattle.rules.proofs.is_mapped_for.Tie as tie
-use Rattle.octets.proofs.equal.Reads as equal-reads
-use Rattle.table.proofs.base.Reads as base-reads
-use Rattle.table.proofs.label_name.Reads as label-name-reads
-use Rattle.table.proofs.mapped_at.Reads as mapped-at-reads
 
 base-requires : tie.Need-base-requires
 base-requires c κs = search needs

@@ -5,7 +5,6 @@ use Rattle.meaning.specs.Save.{isName}
 use borrow.Author.Needs.{needs}
 use Rattle.rules.proofs.is_name.Statement.{statement}
 use Rattle.rules.proofs.is_name.Tie as tie
-use Rattle.reader.proofs.element_refusal.Reads as element-refusal-reads
 
 element-refusal-requires : tie.Need-element-refusal-requires
 element-refusal-requires c κs = search needs

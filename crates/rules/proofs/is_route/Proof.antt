@@ -4,8 +4,6 @@ use Rattle.rules.proofs.Laws.{route-far, route-four, route-sixteen}
 use borrow.Author.Needs.{needs}
 use Rattle.rules.proofs.is_route.Statement.{statement}
 use Rattle.rules.proofs.is_route.Tie as tie
-use Rattle.table.proofs.root_name.Reads as root-name-reads
-use Rattle.table.proofs.route_via.Reads as route-via-reads
 
 route-via-requires : tie.Need-route-via-requires
 route-via-requires c κs = search needs

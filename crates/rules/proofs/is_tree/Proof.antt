@@ -5,10 +5,6 @@ use Rattle.rules.proofs.Laws.{tree-parts, and-then, and-not}
 use borrow.Author.Needs.{needs}
 use Rattle.rules.proofs.is_tree.Statement.{statement}
 use Rattle.rules.proofs.is_tree.Tie as tie
-use Rattle.rules.proofs.branches_good.Reads as branches-good-reads
-use Rattle.rules.proofs.is_name.Reads as is-name-reads
-use Rattle.rules.proofs.leads_somewhere.Reads as leads-somewhere-reads
-use Rattle.table.proofs.tree_name.Reads as tree-name-reads
 
 tree-name-requires : tie.Need-tree-name-requires
 tree-name-requires c κs = search needs
@@ -17,7 +13,7 @@ is-name-requires : tie.Need-is-name-requires
 is-name-requires c κs = search needs
 
 returns : tie.Need-returns
-returns c = 
+returns c =
     let s = c .before .before .before .before .before in
     sym (tree-parts _ (branches-length _ _ _ (s .pre .2)) ∙ and-not _ _ _ (c .before .is-name .ensures ∙ ap isName (c .before .before .tree-name .ensures .0 _ (s .pre .2))) (c .if1 .taken))
 
@@ -25,7 +21,7 @@ branches-good-requires : tie.Need-branches-good-requires
 branches-good-requires c κs = search needs
 
 returns-2 : tie.Need-returns-2
-returns-2 c = 
+returns-2 c =
     let k = c .before .before in
     let s = k .before .before .before .before .before in
     let named = k .before .is-name .ensures ∙ ap isName (k .before .before .tree-name .ensures .0 _ (s .pre .2)) in
@@ -35,7 +31,7 @@ leads-somewhere-requires : tie.Need-leads-somewhere-requires
 leads-somewhere-requires c κs = search needs
 
 returns-3 : tie.Need-returns-3
-returns-3 c = 
+returns-3 c =
     let k = c .before .before .before in
     let s = k .before .before .before .before .before in
     let named = k .before .is-name .ensures ∙ ap isName (k .before .before .tree-name .ensures .0 _ (s .pre .2)) in

@@ -4,9 +4,6 @@ use Rattle.rules.proofs.Laws.{use-none, use-some}
 use borrow.Author.Needs.{needs}
 use Rattle.rules.proofs.is_use.Statement.{statement}
 use Rattle.rules.proofs.is_use.Tie as tie
-use Rattle.rules.proofs.is_name.Reads as is-name-reads
-use Rattle.table.proofs.is_free.Reads as is-free-reads
-use Rattle.table.proofs.label_name.Reads as label-name-reads
 
 is-free-requires : tie.Need-is-free-requires
 is-free-requires c κs = search needs

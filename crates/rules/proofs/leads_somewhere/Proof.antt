@@ -4,8 +4,6 @@ use Rattle.rules.proofs.Laws.{leaf-leads, branch-leads}
 use borrow.Author.Needs.{needs}
 use Rattle.rules.proofs.leads_somewhere.Statement.{statement}
 use Rattle.rules.proofs.leads_somewhere.Tie as tie
-use Rattle.table.proofs.any_branch.Reads as any-branch-reads
-use Rattle.table.proofs.is_leaf.Reads as is-leaf-reads
 
 is-leaf-requires : tie.Need-is-leaf-requires
 is-leaf-requires c κs = search needs

@@ -9,9 +9,6 @@ use Rattle.rules.proofs.Laws.{any-hit, any-miss, any-none, tree-there, 
 use borrow.Author.Needs.{needs}
 use Rattle.rules.proofs.name_from.Statement.{statement}
 use Rattle.rules.proofs.name_from.Tie as tie
-use Rattle.octets.proofs.equal.Reads as equal-reads
-use Rattle.table.proofs.tree_count.Reads as tree-count-reads
-use Rattle.table.proofs.tree_name.Reads as tree-name-reads
 
 abbrev Inv-loop : tie.InvT-loop
 Inv-loop numbers names from name n i₀ i = any (named name) (drop from (cardOf numbers names .trees)) ≡ any (named name) (drop i (cardOf numbers names .trees))
@@ -32,7 +29,7 @@ equal-requires : tie.Need-equal-requires Inv-loop μ-loop
 equal-requires c κs = search needs
 
 returns : tie.Need-returns Inv-loop μ-loop
-returns c = 
+returns c =
     let l = c .before .before .before in
     let e = l .before .before .tree-count .ensures .0 in
     sym (l .before .loop .inv ∙ any-hit _ _ _ (tree-there _ _ _ _ e (l .loop-test .taken)) _ _ (c .before .equal .ensures ∙ tree-for _ _ _ (c .before .before .tree-name .ensures .0 _ (omega arith))) (c .if1 .taken))
@@ -44,7 +41,7 @@ loop-less : tie.Need-loop-less Inv-loop μ-loop
 loop-less c = search needs
 
 loop-again : tie.Need-loop-again Inv-loop μ-loop
-loop-again c = 
+loop-again c =
     let l = c .before .before .before in
     let e = l .before .before .tree-count .ensures .0 in
     l .before .loop .inv ∙ any-miss _ _ _ (tree-there _ _ _ _ e (l .loop-test .taken)) _ _ (c .before .equal .ensures ∙ tree-for _ _ _ (c .before .before .tree-name .ensures .0 _ (omega arith))) (c .if1 .left)

@@ -8,9 +8,6 @@ use Rattle.rules.proofs.Laws.{once-hit, once-miss, once-none, tree-ther
 use borrow.Author.Needs.{needs}
 use Rattle.rules.proofs.names_once.Statement.{statement}
 use Rattle.rules.proofs.names_once.Tie as tie
-use Rattle.rules.proofs.name_from.Reads as name-from-reads
-use Rattle.table.proofs.tree_count.Reads as tree-count-reads
-use Rattle.table.proofs.tree_name.Reads as tree-name-reads
 
 abbrev Inv-loop : tie.InvT-loop
 Inv-loop numbers names n i₀ i = (i ≤ n) × (onceEach sameName (cardOf numbers names .trees) ≡ onceEach sameName (drop i (cardOf numbers names .trees)))
@@ -34,7 +31,7 @@ name-from-requires : tie.Need-name-from-requires Inv-loop μ-loop
 name-from-requires c κs = search needs
 
 returns : tie.Need-returns Inv-loop μ-loop
-returns c = 
+returns c =
     let l = c .before .before .before in
     let e = l .before .before .tree-count .ensures .0 in
     sym (l .before .loop .inv .1 ∙ once-miss _ _ _ (tree-there _ _ _ _ e (l .loop-test .taken)) _ _ (c .before .name-from .ensures ∙ name-like _ _ _ (c .before .before .tree-name .ensures .0 _ (omega arith))) (c .if1 .taken))
@@ -46,7 +43,7 @@ loop-less : tie.Need-loop-less Inv-loop μ-loop
 loop-less c = search needs
 
 loop-again : tie.Need-loop-again Inv-loop μ-loop
-loop-again c = 
+loop-again c =
     let l = c .before .before .before in
     let e = l .before .before .tree-count .ensures .0 in
     (omega arith, l .before .loop .inv .1 ∙ once-hit _ _ _ (tree-there _ _ _ _ e (l .loop-test .taken)) _ _ (c .before .name-from .ensures ∙ name-like _ _ _ (c .before .before .tree-name .ensures .0 _ (omega arith))) (c .if1 .left))

@@ -1,5 +1,4 @@
 use Prim.Native.Nat.{_-_}
-use native.Mathlib.Omega.{arith}
 use mathlib.Core.Path.{_≡_, refl, sym, _∙_}
 use lib.ListN.{drop}
 use Rattle.meaning.specs.Octets.{any}
@@ -9,9 +8,6 @@ use Rattle.rules.proofs.Laws.{any-hit, any-miss, any-none, route-there,
 use borrow.Author.Needs.{needs}
 use Rattle.rules.proofs.root_from.Statement.{statement}
 use Rattle.rules.proofs.root_from.Tie as tie
-use Rattle.octets.proofs.equal.Reads as equal-reads
-use Rattle.table.proofs.root_name.Reads as root-name-reads
-use Rattle.table.proofs.route_count.Reads as route-count-reads
 
 abbrev Inv-loop : tie.InvT-loop
 Inv-loop numbers names from root n i₀ i = any (isFor root) (drop from (cardOf numbers names .routes)) ≡ any (isFor root) (drop i (cardOf numbers names .routes))
@@ -32,7 +28,7 @@ equal-requires : tie.Need-equal-requires Inv-loop μ-loop
 equal-requires c κs = search needs
 
 returns : tie.Need-returns Inv-loop μ-loop
-returns c = 
+returns c =
     let l = c .before .before .before in
     sym (l .before .loop .inv ∙ any-hit _ _ _ (route-there _ _ _ _ (l .before .before .route-count .ensures .0) (l .loop-test .taken)) _ _ (c .before .equal .ensures ∙ route-for _ _ _ _ _ (c .before .before .root-name .ensures)) (c .if1 .taken))
 
@@ -43,7 +39,7 @@ loop-less : tie.Need-loop-less Inv-loop μ-loop
 loop-less c = search needs
 
 loop-again : tie.Need-loop-again Inv-loop μ-loop
-loop-again c = 
+loop-again c =
     let l = c .before .before .before in
     l .before .loop .inv ∙ any-miss _ _ _ (route-there _ _ _ _ (l .before .before .route-count .ensures .0) (l .loop-test .taken)) _ _ (c .before .equal .ensures ∙ route-for _ _ _ _ _ (c .before .before .root-name .ensures)) (c .if1 .left)
 

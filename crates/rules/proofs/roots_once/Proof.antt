@@ -8,9 +8,6 @@ use Rattle.rules.proofs.Laws.{once-hit, once-miss, once-none, route-the
 use borrow.Author.Needs.{needs}
 use Rattle.rules.proofs.roots_once.Statement.{statement}
 use Rattle.rules.proofs.roots_once.Tie as tie
-use Rattle.rules.proofs.root_from.Reads as root-from-reads
-use Rattle.table.proofs.root_name.Reads as root-name-reads
-use Rattle.table.proofs.route_count.Reads as route-count-reads
 
 abbrev Inv-loop : tie.InvT-loop
 Inv-loop numbers names n i₀ i = (i ≤ n) × (onceEach sameRoot (cardOf numbers names .routes) ≡ onceEach sameRoot (drop i (cardOf numbers names .routes)))
@@ -34,7 +31,7 @@ root-from-requires : tie.Need-root-from-requires Inv-loop μ-loop
 root-from-requires c κs = search needs
 
 returns : tie.Need-returns Inv-loop μ-loop
-returns c = 
+returns c =
     let l = c .before .before .before in
     let e = l .before .before .route-count .ensures .0 in
     sym (l .before .loop .inv .1 ∙ once-miss _ _ _ (route-there _ _ _ _ e (l .loop-test .taken)) _ _ (c .before .root-from .ensures ∙ root-like _ _ _ _ _ (c .before .before .root-name .ensures)) (c .if1 .taken))
@@ -46,7 +43,7 @@ loop-less : tie.Need-loop-less Inv-loop μ-loop
 loop-less c = search needs
 
 loop-again : tie.Need-loop-again Inv-loop μ-loop
-loop-again c = 
+loop-again c =
     let l = c .before .before .before in
     let e = l .before .before .route-count .ensures .0 in
     (omega arith, l .before .loop .inv .1 ∙ once-hit _ _ _ (route-there _ _ _ _ e (l .loop-test .taken)) _ _ (c .before .root-from .ensures ∙ root-like _ _ _ _ _ (c .before .before .root-name .ensures)) (c .if1 .left))

@@ -8,8 +8,6 @@ use Rattle.rules.proofs.Laws.{all-hit, all-miss, all-none, route-there,
 use borrow.Author.Needs.{needs}
 use Rattle.rules.proofs.routes_good.Statement.{statement}
 use Rattle.rules.proofs.routes_good.Tie as tie
-use Rattle.rules.proofs.is_route.Reads as is-route-reads
-use Rattle.table.proofs.route_count.Reads as route-count-reads
 
 abbrev Inv-loop : tie.InvT-loop
 Inv-loop numbers names n i₀ i = (i ≤ n) × (all isRoute (cardOf numbers names .routes) ≡ all isRoute (drop i (cardOf numbers names .routes)))
@@ -27,7 +25,7 @@ is-route-requires : tie.Need-is-route-requires Inv-loop μ-loop
 is-route-requires c κs = search needs
 
 returns : tie.Need-returns Inv-loop μ-loop
-returns c = 
+returns c =
     let l = c .before .before in
     sym (l .before .loop .inv .1 ∙ all-miss _ _ _ (route-there _ _ _ _ (l .before .before .route-count .ensures .0) (l .loop-test .taken)) _ _ (c .before .is-route .ensures) (c .if1 .taken))
 
@@ -38,7 +36,7 @@ loop-less : tie.Need-loop-less Inv-loop μ-loop
 loop-less c = search needs
 
 loop-again : tie.Need-loop-again Inv-loop μ-loop
-loop-again c = 
+loop-again c =
     let l = c .before .before in
     (omega arith, l .before .loop .inv .1 ∙ all-hit _ _ _ (route-there _ _ _ _ (l .before .before .route-count .ensures .0) (l .loop-test .taken)) _ _ (c .before .is-route .ensures) (c .if1 .left))
 

@@ -8,7 +8,6 @@ use Rattle.rules.proofs.Laws.{all-hit, all-miss, all-none, label-there,
 use borrow.Author.Needs.{needs}
 use Rattle.rules.proofs.uses_good.Statement.{statement}
 use Rattle.rules.proofs.uses_good.Tie as tie
-use Rattle.rules.proofs.is_use.Reads as is-use-reads
 
 abbrev Inv-loop : tie.InvT-loop
 Inv-loop numbers names p₀ p = (p ≤ 256) × (all isUse (cardOf numbers names .labels) ≡ all isUse (drop p (cardOf numbers names .labels)))
@@ -23,7 +22,7 @@ is-use-requires : tie.Need-is-use-requires Inv-loop μ-loop
 is-use-requires c κs = search needs
 
 returns : tie.Need-returns Inv-loop μ-loop
-returns c = 
+returns c =
     let l = c .before .before in
     sym (l .before .loop .inv .1 ∙ all-miss _ _ _ (label-there _ _ _ (l .loop-test .taken)) _ _ (c .before .is-use .ensures) (c .if1 .taken))
 
@@ -34,7 +33,7 @@ loop-less : tie.Need-loop-less Inv-loop μ-loop
 loop-less c = search needs
 
 loop-again : tie.Need-loop-again Inv-loop μ-loop
-loop-again c = 
+loop-again c =
     let l = c .before .before in
     (omega arith, l .before .loop .inv .1 ∙ all-hit _ _ _ (label-there _ _ _ (l .loop-test .taken)) _ _ (c .before .is-use .ensures) (c .if1 .left))
 
