@@ -12,7 +12,7 @@ use borrow.Author.Tests.{lt-ltb, le-leb, lt-leb, eq-eqb, ne-eqb, not-true, not-f
 use Rattle.meaning.specs.Octets.{any, same}
 use Rattle.meaning.specs.Lists.{getD-out, getD-same}
 use Rattle.meaning.specs.Wire.{rootIn}
-use Rattle.meaning.specs.Card.{Route, Tree, Use, mapped, Card, treeAt, treeOf, treePlace, bare, isBranch, isEmpty, isFree, mappedTo, useOf, isFor, named, routeOf, heldFor}
+use Rattle.meaning.specs.Card.{Route, Tree, Use, mapped, awaiting, Card, treeAt, treeOf, treePlace, bare, isBranch, isEmpty, isFree, mappedTo, useOf, isFor, named, routeOf, heldFor}
 use Rattle.meaning.specs.Events.{notRoot, baseOutside, upstream, upstreamOf, holder}
 use Rattle.meaning.specs.Save.{all, isName, onceEach, isRoute, sameRoot, isBranchLabel, isTree, sameName, isUse, isCarried, allCarried, isMappedFor, carriesOwn, holdsRight, keepsRules}
 use Rattle.octets.proofs.Tab.{tab-get}
@@ -212,15 +212,20 @@ module _ (ns os : List ℕ) (p : ℕ) where
       by-use ns p os
       (λ k. rw k refl)
       (λ n h k. let z : false ≡ true = rw k at e in cc)
-      (λ n h k. let z : false ≡ true = rw k at e in cc)
+      (λ n k. let z : false ≡ true = rw k at e in cc)
 
-  pub use-some : isFree (labelIn ns os p) ≡ false → isUse (labelIn ns os p) ≡ isName (labelName os p)
-  unfolding isUse isFree
-  use-some e =
+  -- used for a neighbour, where it is mapped; and where it awaits release, if that neighbour is one
+  pub use-mapped : (mappedTo (labelIn ns os p) ≡ 17 → ⊥) → isUse (labelIn ns os p) ≡ isName (labelName os p)
+  unfolding isUse mappedTo
+  use-mapped ne =
       by-use ns p os
-      (λ k. let z : true ≡ false = rw k at e in cc)
+      (λ k. absurd (ne (rw k refl)))
       (λ n h k. rw (k, lt-ltb n 16 h) refl)
-      (λ n h k. rw (k, lt-ltb n 16 h) refl)
+      (λ n k. absurd (ne (rw k refl)))
+
+  pub use-awaiting : (n : ℕ) → labelIn ns os p ≡ awaiting n (labelName os p) → isUse (labelIn ns os p) ≡ (ltb n 16 && isName (labelName os p))
+  unfolding isUse
+  use-awaiting n k = rw k refl
 
   module _ (m : ℕ) (e : m ≡ mappedTo (labelIn ns os p)) where
     pub mapped-so : (m ≡ 17 → ⊥) → labelIn ns os p ≡ mapped m (labelName os p)
@@ -229,7 +234,7 @@ module _ (ns os : List ℕ) (p : ℕ) where
         by-use ns p os
         (λ k. absurd (ne (rw k at e)))
         (λ n h k. let q : m ≡ n = rw k at e in rw q k)
-        (λ n h k. absurd (ne (rw k at e)))
+        (λ n k. absurd (ne (rw k at e)))
 
     pub carried-some : (c : Card) (l : ℕ) → (m ≡ 17 → ⊥) → isCarried c l (labelIn ns os p) ≡ eqb (treeOf (labelName os p) c .label) l
     unfolding isCarried
@@ -241,7 +246,7 @@ module _ (ns os : List ℕ) (p : ℕ) where
         by-use ns p os
         (λ k. rw k refl)
         (λ n h k. let r : m ≡ n = rw k at e in absurd (omega arith))
-        (λ n h k. rw k refl)
+        (λ n k. rw k refl)
 
     pub mapped-for : (a x : List ℕ) → (m ≡ 17 → ⊥) → x ≡ labelName os p → isMappedFor a (labelIn ns os p) ≡ same x a
     unfolding isMappedFor
@@ -253,7 +258,7 @@ module _ (ns os : List ℕ) (p : ℕ) where
         by-use ns p os
         (λ k. rw k refl)
         (λ n h k. let r : m ≡ n = rw k at e in absurd (omega arith))
-        (λ n h k. rw k refl)
+        (λ n k. rw k refl)
 
 -- the tree of a label's name, which stands at place i or does not stand
 module _ (ns os : List ℕ) (a : List ℕ) (i n : ℕ) (e : i ≡ treePlace a (cardOf ns os)) (k : n ≡ treeCount ns) where

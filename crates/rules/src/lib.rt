@@ -1,15 +1,15 @@
 // Whether the card that the memory denotes keeps the rules in force: one function for each rule, and one for what it asks of a row.
 // Some rules any memory keeps, since it is read so: the base's range, the identifier's, the numbers of routes, trees and labels, sixteen
-// branches to a tree, and a neighbour's number with each label in use. The code tests nothing for them; proofs/Laws.antt says why.
+// branches to a tree, and a neighbour's number with each label that is mapped. The code tests nothing for them; proofs/Laws.antt says why.
 ghost use mathlib.Core.Path.{_≡_};
-ghost use mathlib.Core.Bool.{not};
+ghost use mathlib.Core.Bool.{false, not, _&&_};
 ghost use mathlib.Core.List.{List};
 ghost use Prim.Native.Nat.{ℕ, _+_, _<_};
 ghost use lib.ListN.{length, drop};
 ghost use Rattle.meaning.specs.Octets.{any};
 ghost use Rattle.meaning.specs.Card.{treeAt, isEmpty, useOf, isFor, named};
 ghost use Rattle.meaning.specs.Save.{all, isName, onceEach, isRoute, sameRoot, isBranchLabel, isTree, sameName, isUse, isCarried, allCarried, isMappedFor, carriesOwn, holdsRight, keepsRules};
-ghost use Rattle.table.specs.Memory.{cardOf, baseIn, treeCount, routeIn, labelIn};
+ghost use Rattle.table.specs.Memory.{cardOf, baseIn, treeCount, routeIn, isFreeAt, labelIn, labelName};
 
 // ---- routes
 
@@ -180,6 +180,17 @@ pub fn names_once(numbers: &[u64], names: &[u8]) -> bool
 
 // ---- labels
 
+// Whether the label at place p, which is not free, is used for one of the sixteen neighbours.
+fn is_near(numbers: &[u64], p: usize) -> bool
+    requires { ⌜ (length (now numbers) ≡ 1444) × (p < 256) × (isFreeAt (now numbers) p ≡ false) ⌝ }
+    ensures { λ r. ⌜ ((os : List ℕ) → isUse (labelIn (now (numbers .entry)) os p) ≡ (r && isName (labelName os p))) ⌝ }
+{
+    if table::mapped_at(numbers, p) != 17 {
+        return true;
+    }
+    table::awaited_at(numbers, p) < 16
+}
+
 // The neighbour of a label in use is one of the sixteen, whatever the memory holds: its name is what can be wrong.
 fn is_use(numbers: &[u64], names: &[u8], p: usize) -> bool
     requires { ⌜ (length (now numbers) ≡ 1444) × (length (now names) ≡ 18144) × (p < 256) ⌝ }
@@ -188,7 +199,10 @@ fn is_use(numbers: &[u64], names: &[u8], p: usize) -> bool
     if table::is_free(numbers, p) {
         return true;
     }
-    is_name(table::label_name(names, p))
+    if is_near(numbers, p) {
+        return is_name(table::label_name(names, p));
+    }
+    false
 }
 
 fn uses_good(numbers: &[u64], names: &[u8]) -> bool

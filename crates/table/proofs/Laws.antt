@@ -12,7 +12,7 @@ use lib.Dec.{eqb, leb}
 use borrow.Author.Tests.{lt-ltb, le-leb, lt-leb, leb-true, leb-false, eq-eqb, ne-eqb}
 use Rattle.meaning.specs.Octets.{any, place, count, same}
 use Rattle.meaning.specs.Lists.{by-test, getD-out}
-use Rattle.meaning.specs.Card.{Route, Tree, Use, withNext, withTrees, withBranch, withLeaf, withLabel, treeAt, isBranch, named, treePlace, free, withLabels, isFree, isAwaiting, mappedTo, useOf, heldFor, freeLabels, carries, isFor, routePlace, routeOf}
+use Rattle.meaning.specs.Card.{Route, Tree, Use, withNext, withTrees, withBranch, withLeaf, withLabel, treeAt, isBranch, named, treePlace, free, withLabels, isFree, isAwaiting, mappedTo, useOf, heldFor, freeLabels, carries, isFor, routePlace, routeOf, mapped, awaiting}
 use Rattle.meaning.specs.Events.{baseOutside, setLabel, setUse, ended}
 use Rattle.octets.specs.Part.{tab}
 use Rattle.octets.proofs.Tab.{tab-length, tab-get, tab-ext, tab-set, place-start, place-hit, place-miss, place-none}
@@ -472,3 +472,19 @@ route-some r ns os i n e k h = sym (route-at r ns os i e ∙ ap (λ (x : Route).
 
 pub route-none : (r ns os : List ℕ) (i n : ℕ) → i ≡ routePlace r (cardOf ns os) → n ≡ routeCount ns → n ≤ i → 17 ≡ routeOf r (cardOf ns os)
 route-none r ns os i n e k h = sym (route-at r ns os i e ∙ ap (λ (x : Route). x .via) (getD-out (tab (routeCount ns) (routeIn ns os)) i _ (rw tab-length (omega arith))))
+
+-- ---- a mapped label, and one that is neither free nor mapped
+
+module _ (ns : List ℕ) (p : ℕ) (os : List ℕ) where
+  pub mapped-is : isMappedAt ns p ≡ true → labelIn ns os p ≡ mapped (mappedTo (labelIn ns os p)) (labelName os p)
+  unfolding mappedTo
+  mapped-is m = let u = mapped-use ns p m in rw (label-mapped ns p os (u .0) (u .1)) refl
+
+  pub awaits-use : isFreeAt ns p ≡ false → isMappedAt ns p ≡ false → 16 < markUse (markAt ns p)
+  awaits-use e m =
+      by-test (leb (markUse (markAt ns p)) 16)
+      (λ t. absurd (let z : _≡_ {A = Bool} false true = sym m ∙ mapped-at ns p (taken-use ns p e) (leb-true _ _ t) in let z′ : _≡_ {A = ℕ} 0 1 = cc in omega arith))
+      (λ t. leb-false _ _ t)
+
+  pub awaited-is : isFreeAt ns p ≡ false → isMappedAt ns p ≡ false → labelIn ns os p ≡ awaiting (markUse (markAt ns p) - 17) (labelName os p)
+  awaited-is e m = label-awaiting ns p os (awaits-use e m)

@@ -6,7 +6,7 @@ ghost use mathlib.Core.List.{List};
 ghost use Prim.Native.Nat.{ℕ, _+_, _-_, _≤_, _<_};
 ghost use lib.ListN.{length, getD, set};
 ghost use Rattle.meaning.specs.Octets.{place, any};
-ghost use Rattle.meaning.specs.Card.{withNext, withTrees, withBranch, withLeaf, treePlace, treeAt, isBranch, isFree, isAwaiting, mappedTo, useOf, heldFor, freeLabels, routePlace, routeOf, carries, free};
+ghost use Rattle.meaning.specs.Card.{withNext, withTrees, withBranch, withLeaf, treePlace, treeAt, isBranch, isFree, isAwaiting, mappedTo, useOf, heldFor, freeLabels, routePlace, routeOf, carries, free, awaiting};
 ghost use Rattle.meaning.specs.Events.{setUse, setLabel, ended, labelsShort};
 ghost use Rattle.table.specs.Memory.{cardOf, baseIn, treeCount, routeCount, textAt, treeName, labelName, rootName, routeIn, isFreeAt, isMappedAt, labelIn, carriesAt, ownPlace};
 
@@ -77,6 +77,14 @@ pub fn mapped_at(numbers: &[u64], p: usize) -> u64
     }
     let u = numbers[1188 + p] % 256;
     if u <= 16 { u - 1 } else { 17 }
+}
+
+// The neighbour from which the label at place p of the block awaits release, where the label is neither free nor mapped.
+pub fn awaited_at(numbers: &[u64], p: usize) -> u64
+    requires { ⌜ (length (now numbers) ≡ 1444) × (p < 256) × (isFreeAt (now numbers) p ≡ false) × (isMappedAt (now numbers) p ≡ false) ⌝ }
+    ensures { λ r. ⌜ ((os : List ℕ) → labelIn (now (numbers .entry)) os p ≡ awaiting r (labelName os p)) × (r < 256) ⌝ }
+{
+    numbers[1188 + p] % 256 - 17
 }
 
 // Whether the tree at place i carries the label at place p.
