@@ -12,7 +12,7 @@ use denote.Enum.Declared.{tagOf}
 use types.Run.{OneOf, miss}
 use Rattle.meaning.specs.Octets.{pick, same}
 use Rattle.meaning.specs.Lists.{by-test, same-eq}
-use Rattle.orders.specs.Line.{part, ascii, all, isHexDigit, isHex, value, isNumber, octetsOf, Said, meant, withNumber, withHex, withNumberHex, withHexNumber, withNumbersHex, does, Lies, Tells}
+use Rattle.orders.specs.Line.{part, ascii, all, isHexDigit, isHexTo, isHex, isSaveHex, value, isNumber, octetsOf, Said, meant, withNumber, withHex, withSave, withNumberHex, withHexNumber, withNumbersHex, does, Lies, SaveLies, Tells}
 use Rattle.orders.specs.Scan.{numberIn, numbered, asNumber, withOctets, asHex}
 use Rattle.orders.specs.declared.Number.{Number}
 use Rattle.orders.specs.declared.Verb.{Verb}
@@ -78,17 +78,29 @@ and-left : (a b : Bool) → (a && b) ≡ true → a ≡ true
 and-left true b e = refl
 and-left false b e = e
 
-hex-short : (w : List ℕ) → isHex w ≡ true → length w ≤ 8192
-unfolding isHex ascii
-hex-short w e =
+hex-short : (most : ℕ) (w : List ℕ) → 1 ≤ most → isHexTo most w ≡ true → length w ≤ most
+unfolding isHexTo ascii
+hex-short most w h e =
     by-test (same w (45 ∷ []))
     (λ t. rw (same-eq w (45 ∷ []) t) (omega arith))
     (λ t.
-    let both = and-left (leb (length w) 8192 && eqb (length w % 2) 0) (all isHexDigit w) (rw t at e) in
-    leb-true (length w) 8192 (and-left (leb (length w) 8192) (eqb (length w % 2) 0) both))
+    let both = and-left (leb (length w) most && eqb (length w % 2) 0) (all isHexDigit w) (rw t at e) in
+    leb-true (length w) most (and-left (leb (length w) most) (eqb (length w % 2) 0) both))
 
 pub lies : (l : List ℕ) (s e : ℕ) (b : Bool) → s ≤ e → e ≤ length l → b ≡ isHex (part s e l) → b ≡ true → Lies l s e
-lies l s e b h k p q = let n = length-take-le (e - s) (drop s l) (simp length-drop (omega arith)) in let m = hex-short (part s e l) (sym p ∙ q) in (h, k, omega arith)
+unfolding isHex
+lies l s e b h k p q = let n = length-take-le (e - s) (drop s l) (simp length-drop (omega arith)) in let m = hex-short 8192 (part s e l) (omega arith) (sym p ∙ q) in (h, k, omega arith)
+
+pub save-lies : (l : List ℕ) (s e : ℕ) (b : Bool) → s ≤ e → e ≤ length l → b ≡ isHexTo 46686 (part s e l) → b ≡ true → SaveLies l s e
+save-lies l s e b h k p q = let n = length-take-le (e - s) (drop s l) (simp length-drop (omega arith)) in let m = hex-short 46686 (part s e l) (omega arith) (sym p ∙ q) in (h, k, omega arith)
+
+pub one-save : (w : List ℕ) (b : Bool) → b ≡ isHexTo 46686 w → b ≡ true → Said.restore (octetsOf w) ≡ withSave (w ∷ [])
+unfolding withSave isSaveHex
+one-save w b e g = rw (sym e ∙ g)
+
+pub no-save : (w : List ℕ) (b : Bool) → b ≡ isHexTo 46686 w → b ≡ false → withSave (w ∷ []) ≡ Said.bad
+unfolding withSave isSaveHex
+no-save w b e g = rw (sym e ∙ g)
 
 -- ---- the other verbs
 
@@ -96,8 +108,8 @@ pub tells-bad : (l : List ℕ) (s : Said) → s ≡ Said.bad → Tells l s Order
 unfolding meant
 tells-bad l s e = record { means = rw e; lies = tt }
 
-pub none-bad : (l : List ℕ) (v : Verb) → OneOf (0 ∷ 1 ∷ 2 ∷ 3 ∷ 4 ∷ 5 ∷ 6 ∷ 7 ∷ 9 ∷ 10 ∷ []) (tagOf the-type v) → Tells l (does v []) Order.Bad
-unfolding does withNumber withHex withNumberHex withHexNumber withNumbersHex
+pub none-bad : (l : List ℕ) (v : Verb) → OneOf (0 ∷ 1 ∷ 2 ∷ 3 ∷ 4 ∷ 5 ∷ 6 ∷ 7 ∷ 9 ∷ 11 ∷ 12 ∷ []) (tagOf the-type v) → Tells l (does v []) Order.Bad
+unfolding does withNumber withHex withSave withNumberHex withHexNumber withNumbersHex
 none-bad l Verb.Start h = tells-bad l _ refl
 none-bad l Verb.Room h = tells-bad l _ refl
 none-bad l Verb.Take h = tells-bad l _ refl
@@ -106,8 +118,10 @@ none-bad l Verb.Leave h = tells-bad l _ refl
 none-bad l Verb.Route h = tells-bad l _ refl
 none-bad l Verb.Label h = tells-bad l _ refl
 none-bad l Verb.Tree h = tells-bad l _ refl
-none-bad l Verb.Free h = absurd (miss (0 ∷ 1 ∷ 2 ∷ 3 ∷ 4 ∷ 5 ∷ 6 ∷ 7 ∷ 9 ∷ 10 ∷ []) 8 tt h)
+none-bad l Verb.Free h = absurd (miss (0 ∷ 1 ∷ 2 ∷ 3 ∷ 4 ∷ 5 ∷ 6 ∷ 7 ∷ 9 ∷ 11 ∷ 12 ∷ []) 8 tt h)
 none-bad l Verb.Notice h = tells-bad l _ refl
+none-bad l Verb.Save h = absurd (miss (0 ∷ 1 ∷ 2 ∷ 3 ∷ 4 ∷ 5 ∷ 6 ∷ 7 ∷ 9 ∷ 11 ∷ 12 ∷ []) 10 tt h)
+none-bad l Verb.Restore h = tells-bad l _ refl
 none-bad l Verb.Other h = tells-bad l _ refl
 
 either : (b : Bool) (s : Said) → s ≡ Said.bad → pick b s Said.bad ≡ Said.bad
@@ -132,32 +146,36 @@ pub no-as-hex : (v : Verb) (w : List ℕ) (b : Bool) → b ≡ isHex w → b ≡
 unfolding asHex
 no-as-hex v w b e g = rw (sym e ∙ g)
 
-pub numbered-other : (v : Verb) (n : ℕ) → OneOf (2 ∷ 3 ∷ 4 ∷ 5 ∷ 7 ∷ 8 ∷ 9 ∷ 10 ∷ []) (tagOf the-type v) → numbered v n ≡ Said.bad
+pub numbered-other : (v : Verb) (n : ℕ) → OneOf (2 ∷ 3 ∷ 4 ∷ 5 ∷ 7 ∷ 8 ∷ 9 ∷ 10 ∷ 11 ∷ 12 ∷ []) (tagOf the-type v) → numbered v n ≡ Said.bad
 unfolding numbered
-numbered-other Verb.Start n h = absurd (miss (2 ∷ 3 ∷ 4 ∷ 5 ∷ 7 ∷ 8 ∷ 9 ∷ 10 ∷ []) 0 tt h)
-numbered-other Verb.Room n h = absurd (miss (2 ∷ 3 ∷ 4 ∷ 5 ∷ 7 ∷ 8 ∷ 9 ∷ 10 ∷ []) 1 tt h)
+numbered-other Verb.Start n h = absurd (miss (2 ∷ 3 ∷ 4 ∷ 5 ∷ 7 ∷ 8 ∷ 9 ∷ 10 ∷ 11 ∷ 12 ∷ []) 0 tt h)
+numbered-other Verb.Room n h = absurd (miss (2 ∷ 3 ∷ 4 ∷ 5 ∷ 7 ∷ 8 ∷ 9 ∷ 10 ∷ 11 ∷ 12 ∷ []) 1 tt h)
 numbered-other Verb.Take n h = refl
 numbered-other Verb.Join n h = refl
 numbered-other Verb.Leave n h = refl
 numbered-other Verb.Route n h = refl
-numbered-other Verb.Label n h = absurd (miss (2 ∷ 3 ∷ 4 ∷ 5 ∷ 7 ∷ 8 ∷ 9 ∷ 10 ∷ []) 6 tt h)
+numbered-other Verb.Label n h = absurd (miss (2 ∷ 3 ∷ 4 ∷ 5 ∷ 7 ∷ 8 ∷ 9 ∷ 10 ∷ 11 ∷ 12 ∷ []) 6 tt h)
 numbered-other Verb.Tree n h = refl
 numbered-other Verb.Free n h = refl
 numbered-other Verb.Notice n h = refl
+numbered-other Verb.Save n h = refl
+numbered-other Verb.Restore n h = refl
 numbered-other Verb.Other n h = refl
 
-pub octets-other : (v : Verb) (o : List ℕ) → OneOf (0 ∷ 1 ∷ 2 ∷ 5 ∷ 6 ∷ 8 ∷ 9 ∷ 10 ∷ []) (tagOf the-type v) → withOctets v o ≡ Said.bad
+pub octets-other : (v : Verb) (o : List ℕ) → OneOf (0 ∷ 1 ∷ 2 ∷ 5 ∷ 6 ∷ 8 ∷ 9 ∷ 10 ∷ 11 ∷ 12 ∷ []) (tagOf the-type v) → withOctets v o ≡ Said.bad
 unfolding withOctets
 octets-other Verb.Start o h = refl
 octets-other Verb.Room o h = refl
 octets-other Verb.Take o h = refl
-octets-other Verb.Join o h = absurd (miss (0 ∷ 1 ∷ 2 ∷ 5 ∷ 6 ∷ 8 ∷ 9 ∷ 10 ∷ []) 3 tt h)
-octets-other Verb.Leave o h = absurd (miss (0 ∷ 1 ∷ 2 ∷ 5 ∷ 6 ∷ 8 ∷ 9 ∷ 10 ∷ []) 4 tt h)
+octets-other Verb.Join o h = absurd (miss (0 ∷ 1 ∷ 2 ∷ 5 ∷ 6 ∷ 8 ∷ 9 ∷ 10 ∷ 11 ∷ 12 ∷ []) 3 tt h)
+octets-other Verb.Leave o h = absurd (miss (0 ∷ 1 ∷ 2 ∷ 5 ∷ 6 ∷ 8 ∷ 9 ∷ 10 ∷ 11 ∷ 12 ∷ []) 4 tt h)
 octets-other Verb.Route o h = refl
 octets-other Verb.Label o h = refl
-octets-other Verb.Tree o h = absurd (miss (0 ∷ 1 ∷ 2 ∷ 5 ∷ 6 ∷ 8 ∷ 9 ∷ 10 ∷ []) 7 tt h)
+octets-other Verb.Tree o h = absurd (miss (0 ∷ 1 ∷ 2 ∷ 5 ∷ 6 ∷ 8 ∷ 9 ∷ 10 ∷ 11 ∷ 12 ∷ []) 7 tt h)
 octets-other Verb.Free o h = refl
 octets-other Verb.Notice o h = refl
+octets-other Verb.Save o h = refl
+octets-other Verb.Restore o h = refl
 octets-other Verb.Other o h = refl
 
 pub one-number-does : (v : Verb) (w : List ℕ) → OneOf (0 ∷ 1 ∷ 6 ∷ []) (tagOf the-type v) → does v (w ∷ []) ≡ asNumber v w
@@ -172,41 +190,47 @@ one-number-does Verb.Label w h = refl
 one-number-does Verb.Tree w h = absurd (miss (0 ∷ 1 ∷ 6 ∷ []) 7 tt h)
 one-number-does Verb.Free w h = absurd (miss (0 ∷ 1 ∷ 6 ∷ []) 8 tt h)
 one-number-does Verb.Notice w h = absurd (miss (0 ∷ 1 ∷ 6 ∷ []) 9 tt h)
-one-number-does Verb.Other w h = absurd (miss (0 ∷ 1 ∷ 6 ∷ []) 10 tt h)
+one-number-does Verb.Save w h = absurd (miss (0 ∷ 1 ∷ 6 ∷ []) 10 tt h)
+one-number-does Verb.Restore w h = absurd (miss (0 ∷ 1 ∷ 6 ∷ []) 11 tt h)
+one-number-does Verb.Other w h = absurd (miss (0 ∷ 1 ∷ 6 ∷ []) 12 tt h)
 
-pub one-hex-does : (v : Verb) (w : List ℕ) → OneOf (2 ∷ 3 ∷ 4 ∷ 5 ∷ 7 ∷ 8 ∷ 9 ∷ 10 ∷ []) (tagOf the-type v) → does v (w ∷ []) ≡ asHex v w
-unfolding does withNumber withHex withNumberHex withHexNumber withNumbersHex asHex withOctets
-one-hex-does Verb.Start w h = absurd (miss (2 ∷ 3 ∷ 4 ∷ 5 ∷ 7 ∷ 8 ∷ 9 ∷ 10 ∷ []) 0 tt h)
-one-hex-does Verb.Room w h = absurd (miss (2 ∷ 3 ∷ 4 ∷ 5 ∷ 7 ∷ 8 ∷ 9 ∷ 10 ∷ []) 1 tt h)
+pub one-hex-does : (v : Verb) (w : List ℕ) → OneOf (2 ∷ 3 ∷ 4 ∷ 5 ∷ 7 ∷ 8 ∷ 9 ∷ 10 ∷ 12 ∷ []) (tagOf the-type v) → does v (w ∷ []) ≡ asHex v w
+unfolding does withNumber withHex withSave withNumberHex withHexNumber withNumbersHex asHex withOctets
+one-hex-does Verb.Start w h = absurd (miss (2 ∷ 3 ∷ 4 ∷ 5 ∷ 7 ∷ 8 ∷ 9 ∷ 10 ∷ 12 ∷ []) 0 tt h)
+one-hex-does Verb.Room w h = absurd (miss (2 ∷ 3 ∷ 4 ∷ 5 ∷ 7 ∷ 8 ∷ 9 ∷ 10 ∷ 12 ∷ []) 1 tt h)
 one-hex-does Verb.Take w h = either (isNumber w) Said.bad refl ∙ sym (either (isHex w) Said.bad refl)
 one-hex-does Verb.Join w h = refl
 one-hex-does Verb.Leave w h = refl
 one-hex-does Verb.Route w h = refl
-one-hex-does Verb.Label w h = absurd (miss (2 ∷ 3 ∷ 4 ∷ 5 ∷ 7 ∷ 8 ∷ 9 ∷ 10 ∷ []) 6 tt h)
+one-hex-does Verb.Label w h = absurd (miss (2 ∷ 3 ∷ 4 ∷ 5 ∷ 7 ∷ 8 ∷ 9 ∷ 10 ∷ 12 ∷ []) 6 tt h)
 one-hex-does Verb.Tree w h = refl
 one-hex-does Verb.Free w h = sym (either (isHex w) Said.bad refl)
 one-hex-does Verb.Notice w h = either (isNumber w) Said.bad refl ∙ sym (either (isHex w) Said.bad refl)
+one-hex-does Verb.Save w h = sym (either (isHex w) Said.bad refl)
+one-hex-does Verb.Restore w h = absurd (miss (2 ∷ 3 ∷ 4 ∷ 5 ∷ 7 ∷ 8 ∷ 9 ∷ 10 ∷ 12 ∷ []) 11 tt h)
 one-hex-does Verb.Other w h = sym (either (isHex w) Said.bad refl)
 
 -- ---- two further words, and more
 
-pub two-bad : (l : List ℕ) (v : Verb) (w x : List ℕ) → OneOf (0 ∷ 1 ∷ 3 ∷ 4 ∷ 6 ∷ 7 ∷ 8 ∷ 9 ∷ 10 ∷ []) (tagOf the-type v) → Tells l (does v (w ∷ x ∷ [])) Order.Bad
-unfolding does withNumber withHex withNumberHex withHexNumber withNumbersHex
+pub two-bad : (l : List ℕ) (v : Verb) (w x : List ℕ) → OneOf (0 ∷ 1 ∷ 3 ∷ 4 ∷ 6 ∷ 7 ∷ 8 ∷ 9 ∷ 10 ∷ 11 ∷ 12 ∷ []) (tagOf the-type v) → Tells l (does v (w ∷ x ∷ [])) Order.Bad
+unfolding does withNumber withHex withSave withNumberHex withHexNumber withNumbersHex
 two-bad l Verb.Start w x h = tells-bad l _ refl
 two-bad l Verb.Room w x h = tells-bad l _ refl
-two-bad l Verb.Take w x h = absurd (miss (0 ∷ 1 ∷ 3 ∷ 4 ∷ 6 ∷ 7 ∷ 8 ∷ 9 ∷ 10 ∷ []) 2 tt h)
+two-bad l Verb.Take w x h = absurd (miss (0 ∷ 1 ∷ 3 ∷ 4 ∷ 6 ∷ 7 ∷ 8 ∷ 9 ∷ 10 ∷ 11 ∷ 12 ∷ []) 2 tt h)
 two-bad l Verb.Join w x h = tells-bad l _ refl
 two-bad l Verb.Leave w x h = tells-bad l _ refl
-two-bad l Verb.Route w x h = absurd (miss (0 ∷ 1 ∷ 3 ∷ 4 ∷ 6 ∷ 7 ∷ 8 ∷ 9 ∷ 10 ∷ []) 5 tt h)
+two-bad l Verb.Route w x h = absurd (miss (0 ∷ 1 ∷ 3 ∷ 4 ∷ 6 ∷ 7 ∷ 8 ∷ 9 ∷ 10 ∷ 11 ∷ 12 ∷ []) 5 tt h)
 two-bad l Verb.Label w x h = tells-bad l _ refl
 two-bad l Verb.Tree w x h = tells-bad l _ refl
 two-bad l Verb.Free w x h = tells-bad l _ refl
 two-bad l Verb.Notice w x h = tells-bad l _ (either (isNumber w) _ (either (isNumber x) Said.bad refl))
+two-bad l Verb.Save w x h = tells-bad l _ refl
+two-bad l Verb.Restore w x h = tells-bad l _ refl
 two-bad l Verb.Other w x h = tells-bad l _ refl
 
 -- three further words, and four or more
-pub three-bad : (l : List ℕ) (v : Verb) (w x y : List ℕ) (ws : List (List ℕ)) → OneOf (0 ∷ 1 ∷ 2 ∷ 3 ∷ 4 ∷ 5 ∷ 6 ∷ 7 ∷ 8 ∷ 10 ∷ []) (tagOf the-type v) → Tells l (does v (w ∷ x ∷ y ∷ ws)) Order.Bad
-unfolding does withNumber withHex withNumberHex withHexNumber
+pub three-bad : (l : List ℕ) (v : Verb) (w x y : List ℕ) (ws : List (List ℕ)) → OneOf (0 ∷ 1 ∷ 2 ∷ 3 ∷ 4 ∷ 5 ∷ 6 ∷ 7 ∷ 8 ∷ 10 ∷ 11 ∷ 12 ∷ []) (tagOf the-type v) → Tells l (does v (w ∷ x ∷ y ∷ ws)) Order.Bad
+unfolding does withNumber withHex withSave withNumberHex withHexNumber
 three-bad l Verb.Start w x y ws h = tells-bad l _ refl
 three-bad l Verb.Room w x y ws h = tells-bad l _ refl
 three-bad l Verb.Take w x y ws h = tells-bad l _ (either (isNumber w) Said.bad refl)
@@ -216,11 +240,13 @@ three-bad l Verb.Route w x y ws h = tells-bad l _ (either (isHex w) Said.bad ref
 three-bad l Verb.Label w x y ws h = tells-bad l _ refl
 three-bad l Verb.Tree w x y ws h = tells-bad l _ refl
 three-bad l Verb.Free w x y ws h = tells-bad l _ refl
-three-bad l Verb.Notice w x y ws h = absurd (miss (0 ∷ 1 ∷ 2 ∷ 3 ∷ 4 ∷ 5 ∷ 6 ∷ 7 ∷ 8 ∷ 10 ∷ []) 9 tt h)
+three-bad l Verb.Notice w x y ws h = absurd (miss (0 ∷ 1 ∷ 2 ∷ 3 ∷ 4 ∷ 5 ∷ 6 ∷ 7 ∷ 8 ∷ 10 ∷ 11 ∷ 12 ∷ []) 9 tt h)
+three-bad l Verb.Save w x y ws h = tells-bad l _ refl
+three-bad l Verb.Restore w x y ws h = tells-bad l _ refl
 three-bad l Verb.Other w x y ws h = tells-bad l _ refl
 
 pub more-bad : (l : List ℕ) (v : Verb) (w x y z : List ℕ) (ws : List (List ℕ)) → Tells l (does v (w ∷ x ∷ y ∷ z ∷ ws)) Order.Bad
-unfolding does withNumber withHex withNumberHex withHexNumber withNumbersHex
+unfolding does withNumber withHex withSave withNumberHex withHexNumber withNumbersHex
 more-bad l Verb.Start w x y z ws = tells-bad l _ refl
 more-bad l Verb.Room w x y z ws = tells-bad l _ refl
 more-bad l Verb.Take w x y z ws = tells-bad l _ (either (isNumber w) Said.bad refl)
@@ -231,4 +257,6 @@ more-bad l Verb.Label w x y z ws = tells-bad l _ refl
 more-bad l Verb.Tree w x y z ws = tells-bad l _ refl
 more-bad l Verb.Free w x y z ws = tells-bad l _ refl
 more-bad l Verb.Notice w x y z ws = tells-bad l _ (either (isNumber w) _ (either (isNumber x) Said.bad refl))
+more-bad l Verb.Save w x y z ws = tells-bad l _ refl
+more-bad l Verb.Restore w x y z ws = tells-bad l _ refl
 more-bad l Verb.Other w x y z ws = tells-bad l _ refl

@@ -17,12 +17,16 @@ use Rattle.orders.specs.Line.{
   value,
   isNumber,
   digit,
+  isHexTo,
   isHex,
+  isSaveHex,
   octetsOf,
   Said,
+  requestedVerb,
   verbOf,
   withNumber,
   withHex,
+  withSave,
   withNumberHex,
   withHexNumber,
   withNumbersHex,
@@ -73,8 +77,25 @@ pub examples-shown : (says "" ≡ Said.nothing)
     × (says "notice 1 3 040" ≡ Said.bad)
     × (says "notice 1 0400 g3" ≡ Said.bad)
     × (says "Notice 1 3 0400" ≡ Said.bad)
-unfolding says ascii all uncommented lengthen pieces filled words valueFrom value isNumber digit isHex octetsOf verbOf withNumber withHex withNumberHex withHexNumber withNumbersHex does saidBy orderOf same
-examples-shown = (refl, refl, refl, refl, refl, refl, refl, refl, refl, refl, refl, refl, refl, refl, refl, refl, refl, refl, refl, refl, refl, refl, refl, refl, refl, refl, refl, refl, refl, refl, refl, refl, refl, refl, refl)
+    × (says "save" ≡ Said.save)
+    × (says " save # the table" ≡ Said.save)
+    × (says "save 1" ≡ Said.bad)
+    × (says "save -" ≡ Said.bad)
+    × (says "Save" ≡ Said.bad)
+    × (says "saved" ≡ Said.bad)
+    × (says "restore 4c5301" ≡ Said.restore (76 ∷ 83 ∷ 1 ∷ []))
+    × (says "restore 4C53" ≡ Said.restore (76 ∷ 83 ∷ []))
+    × (says "restore -" ≡ Said.restore [])
+    × (says "restore" ≡ Said.bad)
+    × (says "restore 4c5" ≡ Said.bad)
+    × (says "restore 4g" ≡ Said.bad)
+    × (says "restore 4c 53" ≡ Said.bad)
+    × (says "restore 1 4c53" ≡ Said.bad)
+    × (says "restore --" ≡ Said.bad)
+    × (says "Restore 4c" ≡ Said.bad)
+    × (says "restor 4c" ≡ Said.bad)
+unfolding says ascii all uncommented lengthen pieces filled words valueFrom value isNumber digit isHexTo isHex isSaveHex octetsOf requestedVerb verbOf withNumber withHex withSave withNumberHex withHexNumber withNumbersHex does saidBy orderOf same
+examples-shown = (refl, refl, refl, refl, refl, refl, refl, refl, refl, refl, refl, refl, refl, refl, refl, refl, refl, refl, refl, refl, refl, refl, refl, refl, refl, refl, refl, refl, refl, refl, refl, refl, refl, refl, refl, refl, refl, refl, refl, refl, refl, refl, refl, refl, refl, refl, refl, refl, refl, refl, refl, refl)
 
 pub spelt-out : (numeral 0 ≡ ascii "0")
     × (numeral 10 ≡ ascii "10")
@@ -83,10 +104,12 @@ pub spelt-out : (numeral 0 ≡ ascii "0")
 unfolding ascii spell numeral glyph hexOf
 spelt-out = (refl, refl, refl, refl)
 
--- the longest HEX and the longest line, and one more of each
+-- the longest HEX of a message, the longest of a save, and the longest line, and one more of each
 pub limits-shown : (orderOf (ascii "join " ++ replicate 8192 48) ≡ Said.join (replicate 4096 0))
     × (orderOf (ascii "join " ++ replicate 8194 48) ≡ Said.bad)
+    × (orderOf (ascii "restore " ++ replicate 46686 48) ≡ Said.restore (replicate 23343 0))
+    × (orderOf (ascii "restore " ++ replicate 46688 48) ≡ Said.bad)
     × (orderOf (replicate 65536 32) ≡ Said.nothing)
     × (orderOf (replicate 65537 32) ≡ Said.bad)
-unfolding ascii all uncommented lengthen pieces filled words valueFrom value isNumber digit isHex octetsOf verbOf withNumber withHex withNumberHex withHexNumber withNumbersHex does saidBy orderOf same
-limits-shown = (refl, refl, refl, refl)
+unfolding ascii all uncommented lengthen pieces filled words valueFrom value isNumber digit isHexTo isHex isSaveHex octetsOf requestedVerb verbOf withNumber withHex withSave withNumberHex withHexNumber withNumbersHex does saidBy orderOf same
+limits-shown = (refl, refl, refl, refl, refl, refl)

@@ -82,9 +82,17 @@ isHexDigit c = isDigit c || (isUpper c || isLower c)
 unfoldable pub digit : ℕ → ℕ
 digit c = pick (isDigit c) (c - 48) (pick (isUpper c) (c - 55) (pick (isLower c) (c - 87) 0))
 
--- `-` alone, or an even number of digits for at most 4096 octets
+-- `-` alone, or an even number of digits, at most so many
+unfoldable pub isHexTo : ℕ → List ℕ → Bool
+isHexTo most w = same w (ascii "-") || (leb (length w) most && eqb (length w % 2) 0 && all isHexDigit w)
+
+-- for at most 4096 octets
 unfoldable pub isHex : List ℕ → Bool
-isHex w = same w (ascii "-") || (leb (length w) 8192 && eqb (length w % 2) 0 && all isHexDigit w)
+isHex w = isHexTo 8192 w
+
+-- for at most 23343 octets, the longest save
+unfoldable pub isSaveHex : List ℕ → Bool
+isSaveHex w = isHexTo 46686 w
 
 -- two digits to an octet; a `-` has none
 unfoldable pub octetsOf : List ℕ → List ℕ
@@ -95,12 +103,19 @@ octetsOf (h ∷ l ∷ w) = (digit h * 16 + digit l) ∷ octetsOf w
 -- ---- orders
 
 pub data Said : Type 0 where
-  nothing bad free : Said
+  nothing bad free save : Said
   start room label : ℕ → Said
   take : ℕ → List ℕ → Said
-  join leave tree : List ℕ → Said
+  join leave tree restore : List ℕ → Said
   route : List ℕ → ℕ → Said
   notice : ℕ → ℕ → List ℕ → Said
+
+unfoldable pub requestedVerb : List ℕ → Verb
+requestedVerb w =
+    pick (same w (ascii "notice")) Verb.Notice
+    (pick (same w (ascii "save")) Verb.Save
+    (pick (same w (ascii "restore")) Verb.Restore
+    Verb.Other))
 
 unfoldable pub verbOf : List ℕ → Verb
 verbOf w =
@@ -113,8 +128,7 @@ verbOf w =
     (pick (same w (ascii "label")) Verb.Label
     (pick (same w (ascii "tree")) Verb.Tree
     (pick (same w (ascii "free")) Verb.Free
-    (pick (same w (ascii "notice")) Verb.Notice
-    Verb.Other)))))))))
+    (requestedVerb w)))))))))
 
 unfoldable pub withNumber : (ℕ → Said) → List (List ℕ) → Said
 withNumber f [] = bad
@@ -125,6 +139,11 @@ unfoldable pub withHex : (List ℕ → Said) → List (List ℕ) → Said
 withHex f [] = bad
 withHex f (w ∷ []) = pick (isHex w) (f (octetsOf w)) bad
 withHex f (w ∷ v ∷ ws) = bad
+
+unfoldable pub withSave : List (List ℕ) → Said
+withSave [] = bad
+withSave (w ∷ []) = pick (isSaveHex w) (restore (octetsOf w)) bad
+withSave (w ∷ v ∷ ws) = bad
 
 unfoldable pub withNumberHex : (ℕ → List ℕ → Said) → List (List ℕ) → Said
 withNumberHex f [] = bad
@@ -150,6 +169,9 @@ does Verb.Tree ws = withHex tree ws
 does Verb.Free [] = free
 does Verb.Free (w ∷ ws) = bad
 does Verb.Notice ws = withNumbersHex notice ws
+does Verb.Save [] = save
+does Verb.Save (w ∷ ws) = bad
+does Verb.Restore ws = withSave ws
 does Verb.Other ws = bad
 
 unfoldable pub saidBy : List (List ℕ) → Said
@@ -176,10 +198,15 @@ meant l (Order.Label n) = label n
 meant l (Order.Tree s e) = tree (octetsOf (part s e l))
 meant l Order.Free = free
 meant l (Order.Notice n k s e) = notice n k (octetsOf (part s e l))
+meant l Order.Save = save
+meant l (Order.Restore s e) = restore (octetsOf (part s e l))
 
 -- the word of HEX lies in the line
 abbrev pub Lies : List ℕ → ℕ → ℕ → Type 0
 Lies l s e = (s ≤ e) × (e ≤ length l) × (e ≤ s + 8192)
+
+abbrev pub SaveLies : List ℕ → ℕ → ℕ → Type 0
+SaveLies l s e = (s ≤ e) × (e ≤ length l) × (e ≤ s + 46686)
 
 abbrev pub InLine : List ℕ → Order → Type 0
 InLine l Order.Blank = Unit
@@ -194,6 +221,8 @@ InLine l (Order.Label n) = Unit
 InLine l (Order.Tree s e) = Lies l s e
 InLine l Order.Free = Unit
 InLine l (Order.Notice n k s e) = Lies l s e
+InLine l Order.Save = Unit
+InLine l (Order.Restore s e) = SaveLies l s e
 
 -- what is said is what the order means
 pub record Tells (l : List ℕ) (said : Said) (r : Order) : Type 0 where

@@ -20,7 +20,7 @@ letters (c ∷ cs) = let more = suc (letters cs) in pick (isLetter c) more 0
 unfoldable pub numberIn : List ℕ → Number
 numberIn w = pick (isNumber w) (Number.Is (value w)) Number.None
 
--- a verb with a number alone, and with HEX alone
+-- a verb with a number alone, and with HEX of a message alone
 unfoldable pub numbered : Verb → ℕ → Said
 numbered Verb.Start n = Said.start n
 numbered Verb.Room n = Said.room n
@@ -32,6 +32,8 @@ numbered Verb.Label n = Said.label n
 numbered Verb.Tree n = Said.bad
 numbered Verb.Free n = Said.bad
 numbered Verb.Notice n = Said.bad
+numbered Verb.Save n = Said.bad
+numbered Verb.Restore n = Said.bad
 numbered Verb.Other n = Said.bad
 
 unfoldable pub asNumber : Verb → List ℕ → Said
@@ -48,6 +50,8 @@ withOctets Verb.Label o = Said.bad
 withOctets Verb.Tree o = Said.tree o
 withOctets Verb.Free o = Said.bad
 withOctets Verb.Notice o = Said.bad
+withOctets Verb.Save o = Said.bad
+withOctets Verb.Restore o = Said.bad
 withOctets Verb.Other o = Said.bad
 
 unfoldable pub asHex : Verb → List ℕ → Said

@@ -4,8 +4,8 @@ ghost use mathlib.Core.Bool.{false};
 ghost use mathlib.Core.List.{[], _∷_};
 ghost use Prim.Native.Nat.{_+_, _-_, _*_, _/_, _≤_, _<_};
 ghost use lib.ListN.{length, take, drop, getD};
-ghost use Rattle.orders.specs.Line.{part, all, isGap, words, isDigit, isUpper, isLower, isHexDigit, digit, isHex, octetsOf};
-ghost use Rattle.orders.specs.Line.{verbOf, does, orderOf, Tells, NextWord, numeral, glyph as glyphOf, hexOf, Puts};
+ghost use Rattle.orders.specs.Line.{part, all, isGap, words, isDigit, isUpper, isLower, isHexDigit, digit, isHexTo, isHex, octetsOf};
+ghost use Rattle.orders.specs.Line.{requestedVerb, verbOf, withSave, does, orderOf, Tells, NextWord, numeral, glyph as glyphOf, hexOf, Puts};
 ghost use Rattle.orders.specs.Scan.{isLetter, letters, numberIn, asNumber, asHex};
 
 // ---- words
@@ -22,6 +22,8 @@ enum Verb {
     Tree,
     Free,
     Notice,
+    Save,
+    Restore,
     Other,
 }
 
@@ -188,19 +190,26 @@ fn all_hex_digits(word: &[u8]) -> bool
     true
 }
 
-fn is_hex(word: &[u8]) -> bool
-    ensures { λ r. ⌜ r ≡ isHex (now (word .entry)) ⌝ }
+// HEX of at most so many digits.
+fn is_hex_to(word: &[u8], most: usize) -> bool
+    ensures { λ r. ⌜ r ≡ isHexTo most (now (word .entry)) ⌝ }
 {
     if octets::equal(word, b"-") {
         return true;
     }
-    if 8192 < word.len() {
+    if most < word.len() {
         return false;
     }
     if word.len() % 2 != 0 {
         return false;
     }
     all_hex_digits(word)
+}
+
+fn is_hex(word: &[u8]) -> bool
+    ensures { λ r. ⌜ r ≡ isHex (now (word .entry)) ⌝ }
+{
+    is_hex_to(word, 8192)
 }
 
 // The octets of a word of HEX, to the front of `out`.
@@ -281,6 +290,27 @@ pub enum Order {
         start: usize,
         end: usize,
     },
+    Save,
+    Restore {
+        start: usize,
+        end: usize,
+    },
+}
+
+// The verbs of the orders that requests brought.
+fn requested_verb(word: &[u8]) -> Verb
+    ensures { λ r. ⌜ r ≡ requestedVerb (now (word .entry)) ⌝ }
+{
+    if octets::equal(word, b"notice") {
+        return Verb::Notice;
+    }
+    if octets::equal(word, b"save") {
+        return Verb::Save;
+    }
+    if octets::equal(word, b"restore") {
+        return Verb::Restore;
+    }
+    Verb::Other
 }
 
 fn verb_of(word: &[u8]) -> Verb
@@ -313,10 +343,7 @@ fn verb_of(word: &[u8]) -> Verb
     if octets::equal(word, b"free") {
         return Verb::Free;
     }
-    if octets::equal(word, b"notice") {
-        return Verb::Notice;
-    }
-    Verb::Other
+    requested_verb(word)
 }
 
 // An order with no further word.
@@ -325,6 +352,7 @@ fn with_none(line: &[u8], verb: Verb) -> Order
 {
     match verb {
         Verb::Free => Order::Free,
+        Verb::Save => Order::Save,
         _ => Order::Bad,
     }
 }
@@ -361,6 +389,17 @@ fn with_hex(line: &[u8], verb: Verb, start: usize, end: usize) -> Order
     Order::Bad
 }
 
+// HEX of a save, as `restore` takes it: of at most 23343 octets.
+fn with_save(line: &[u8], start: usize, end: usize) -> Order
+    requires { ⌜ (start ≤ end) × (end ≤ length (now line)) ⌝ }
+    ensures { λ r. ⌜ Tells (now (line .entry)) (withSave (part start end (now (line .entry)) ∷ [])) r ⌝ }
+{
+    if is_hex_to(&line[start..end], 46686) {
+        return Order::Restore { start, end };
+    }
+    Order::Bad
+}
+
 // An order with one further word, at `start..end`.
 fn with_one(line: &[u8], verb: Verb, start: usize, end: usize) -> Order
     requires { ⌜ (start ≤ end) × (end ≤ length (now line)) ⌝ }
@@ -368,6 +407,7 @@ fn with_one(line: &[u8], verb: Verb, start: usize, end: usize) -> Order
 {
     match verb {
         Verb::Start | Verb::Room | Verb::Label => with_number(line, verb, start, end),
+        Verb::Restore => with_save(line, start, end),
         _ => with_hex(line, verb, start, end),
     }
 }

@@ -94,19 +94,12 @@ returns-9 : tie.Need-returns-9
 unfolding verbOf ascii
 returns-9 c = rw (so (c .before .before .before .before .before .before .before .before .before .before .before .before .before .before .before .before .before .before .before .before .before .before .before .before .before .equal .ensures) (c .before .before .before .before .before .before .before .before .before .before .before .before .before .before .before .before .before .before .before .before .before .before .before .before .if1 .left), so (c .before .before .before .before .before .before .before .before .before .before .before .before .before .before .before .before .before .before .before .before .before .before .equal2 .ensures) (c .before .before .before .before .before .before .before .before .before .before .before .before .before .before .before .before .before .before .before .before .before .if2 .left), so (c .before .before .before .before .before .before .before .before .before .before .before .before .before .before .before .before .before .before .before .equal3 .ensures) (c .before .before .before .before .before .before .before .before .before .before .before .before .before .before .before .before .before .before .if3 .left), so (c .before .before .before .before .before .before .before .before .before .before .before .before .before .before .before .before .equal4 .ensures) (c .before .before .before .before .before .before .before .before .before .before .before .before .before .before .before .if4 .left), so (c .before .before .before .before .before .before .before .before .before .before .before .before .before .equal5 .ensures) (c .before .before .before .before .before .before .before .before .before .before .before .before .if5 .left), so (c .before .before .before .before .before .before .before .before .before .before .equal6 .ensures) (c .before .before .before .before .before .before .before .before .before .if6 .left), so (c .before .before .before .before .before .before .before .equal7 .ensures) (c .before .before .before .before .before .before .if7 .left), so (c .before .before .before .before .equal8 .ensures) (c .before .before .before .if8 .left), so (c .before .equal9 .ensures) (c .if9 .taken))
 
-slice-aggregate-equal-10 : tie.Need-slice-aggregate-equal-10
-slice-aggregate-equal-10 c = search needs
-
-equal-requires-10 : tie.Need-equal-requires-10
-equal-requires-10 c κs = search needs
+requested-verb-requires : tie.Need-requested-verb-requires
+requested-verb-requires c κs = search needs
 
 returns-10 : tie.Need-returns-10
 unfolding verbOf ascii
-returns-10 c = rw (so (c .before .before .before .before .before .before .before .before .before .before .before .before .before .before .before .before .before .before .before .before .before .before .before .before .before .before .before .before .equal .ensures) (c .before .before .before .before .before .before .before .before .before .before .before .before .before .before .before .before .before .before .before .before .before .before .before .before .before .before .before .if1 .left), so (c .before .before .before .before .before .before .before .before .before .before .before .before .before .before .before .before .before .before .before .before .before .before .before .before .before .equal2 .ensures) (c .before .before .before .before .before .before .before .before .before .before .before .before .before .before .before .before .before .before .before .before .before .before .before .before .if2 .left), so (c .before .before .before .before .before .before .before .before .before .before .before .before .before .before .before .before .before .before .before .before .before .before .equal3 .ensures) (c .before .before .before .before .before .before .before .before .before .before .before .before .before .before .before .before .before .before .before .before .before .if3 .left), so (c .before .before .before .before .before .before .before .before .before .before .before .before .before .before .before .before .before .before .before .equal4 .ensures) (c .before .before .before .before .before .before .before .before .before .before .before .before .before .before .before .before .before .before .if4 .left), so (c .before .before .before .before .before .before .before .before .before .before .before .before .before .before .before .before .equal5 .ensures) (c .before .before .before .before .before .before .before .before .before .before .before .before .before .before .before .if5 .left), so (c .before .before .before .before .before .before .before .before .before .before .before .before .before .equal6 .ensures) (c .before .before .before .before .before .before .before .before .before .before .before .before .if6 .left), so (c .before .before .before .before .before .before .before .before .before .before .equal7 .ensures) (c .before .before .before .before .before .before .before .before .before .if7 .left), so (c .before .before .before .before .before .before .before .equal8 .ensures) (c .before .before .before .before .before .before .if8 .left), so (c .before .before .before .before .equal9 .ensures) (c .before .before .before .if9 .left), so (c .before .equal10 .ensures) (c .if10 .taken))
-
-returns-11 : tie.Need-returns-11
-unfolding verbOf ascii
-returns-11 c = rw (so (c .before .before .before .before .before .before .before .before .before .before .before .before .before .before .before .before .before .before .before .before .before .before .before .before .before .before .before .before .equal .ensures) (c .before .before .before .before .before .before .before .before .before .before .before .before .before .before .before .before .before .before .before .before .before .before .before .before .before .before .before .if1 .left), so (c .before .before .before .before .before .before .before .before .before .before .before .before .before .before .before .before .before .before .before .before .before .before .before .before .before .equal2 .ensures) (c .before .before .before .before .before .before .before .before .before .before .before .before .before .before .before .before .before .before .before .before .before .before .before .before .if2 .left), so (c .before .before .before .before .before .before .before .before .before .before .before .before .before .before .before .before .before .before .before .before .before .before .equal3 .ensures) (c .before .before .before .before .before .before .before .before .before .before .before .before .before .before .before .before .before .before .before .before .before .if3 .left), so (c .before .before .before .before .before .before .before .before .before .before .before .before .before .before .before .before .before .before .before .equal4 .ensures) (c .before .before .before .before .before .before .before .before .before .before .before .before .before .before .before .before .before .before .if4 .left), so (c .before .before .before .before .before .before .before .before .before .before .before .before .before .before .before .before .equal5 .ensures) (c .before .before .before .before .before .before .before .before .before .before .before .before .before .before .before .if5 .left), so (c .before .before .before .before .before .before .before .before .before .before .before .before .before .equal6 .ensures) (c .before .before .before .before .before .before .before .before .before .before .before .before .if6 .left), so (c .before .before .before .before .before .before .before .before .before .before .equal7 .ensures) (c .before .before .before .before .before .before .before .before .before .if7 .left), so (c .before .before .before .before .before .before .before .equal8 .ensures) (c .before .before .before .before .before .before .if8 .left), so (c .before .before .before .before .equal9 .ensures) (c .before .before .before .if9 .left), so (c .before .equal10 .ensures) (c .if10 .left))
+returns-10 c = rw (so (c .before .before .before .before .before .before .before .before .before .before .before .before .before .before .before .before .before .before .before .before .before .before .before .before .before .before .equal .ensures) (c .before .before .before .before .before .before .before .before .before .before .before .before .before .before .before .before .before .before .before .before .before .before .before .before .before .if1 .left), so (c .before .before .before .before .before .before .before .before .before .before .before .before .before .before .before .before .before .before .before .before .before .before .before .equal2 .ensures) (c .before .before .before .before .before .before .before .before .before .before .before .before .before .before .before .before .before .before .before .before .before .before .if2 .left), so (c .before .before .before .before .before .before .before .before .before .before .before .before .before .before .before .before .before .before .before .before .equal3 .ensures) (c .before .before .before .before .before .before .before .before .before .before .before .before .before .before .before .before .before .before .before .if3 .left), so (c .before .before .before .before .before .before .before .before .before .before .before .before .before .before .before .before .before .equal4 .ensures) (c .before .before .before .before .before .before .before .before .before .before .before .before .before .before .before .before .if4 .left), so (c .before .before .before .before .before .before .before .before .before .before .before .before .before .before .equal5 .ensures) (c .before .before .before .before .before .before .before .before .before .before .before .before .before .if5 .left), so (c .before .before .before .before .before .before .before .before .before .before .before .equal6 .ensures) (c .before .before .before .before .before .before .before .before .before .before .if6 .left), so (c .before .before .before .before .before .before .before .before .equal7 .ensures) (c .before .before .before .before .before .before .before .if7 .left), so (c .before .before .before .before .before .equal8 .ensures) (c .before .before .before .before .if8 .left), so (c .before .before .equal9 .ensures) (c .before .if9 .left)) (c .requested-verb .ensures)
 
 pub verb-of-spec : {M : Type 1} → statement M
 verb-of-spec =
@@ -139,7 +132,5 @@ verb-of-spec =
     slice-aggregate-equal-9
     equal-requires-9
     returns-9
-    slice-aggregate-equal-10
-    equal-requires-10
-    returns-10
-    returns-11)
+    requested-verb-requires
+    returns-10)

@@ -7,12 +7,19 @@ use Rattle.orders.proofs.with_none.Tie as tie
 enum-told : tie.Need-enum-told
 enum-told c = search needs
 
+enum-told-2 : tie.Need-enum-told-2
+enum-told-2 c = search needs
+
 returns : tie.Need-returns
 unfolding does meant
 returns c = record { means = rw (c .enum-told .given .1); lies = tt }
 
 returns-2 : tie.Need-returns-2
-returns-2 c = none-bad _ (c .before .args .verb) (c .match .keys2)
+unfolding does meant
+returns-2 c = record { means = rw (c .enum-told2 .given .1); lies = tt }
+
+returns-3 : tie.Need-returns-3
+returns-3 c = none-bad _ (c .before .args .verb) (c .match .keys3)
 
 pub with-none-spec : {M : Type 1} → statement M
-with-none-spec = tie.close (tie.spec enum-told returns returns-2)
+with-none-spec = tie.close (tie.spec enum-told enum-told-2 returns returns-2 returns-3)
