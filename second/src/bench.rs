@@ -2,8 +2,10 @@
 
 use crate::card::{Card, Found};
 use crate::refusal::Refusal;
+use crate::save::LONGEST_SAVE;
 use std::io::{self, BufRead, Write};
 
+/// What an event is lent at most; a save is lent more.
 pub const WHOLE_BUFFER: usize = 9984;
 pub const LONGEST_HEX: usize = 4096;
 pub const LONGEST_LINE: usize = 65536;
@@ -21,6 +23,8 @@ pub enum Order {
     Free,
     /// To a neighbour, of a refusal's number and the refused octets.
     Notice(u32, u32, Vec<u8>),
+    Save,
+    Restore(Vec<u8>),
 }
 
 impl Order {
@@ -38,6 +42,8 @@ impl Order {
             Order::Notice(to, number, octets) => {
                 format!("notice {to} {number} {}", hex_word(octets))
             }
+            Order::Save => "save".to_string(),
+            Order::Restore(octets) => format!("restore {}", hex_word(octets)),
         }
     }
 }
@@ -81,6 +87,8 @@ fn read_order(words: &[&[u8]]) -> Option<Order> {
             read_number(number)?,
             read_hex(octets)?,
         )),
+        [b"save"] => Some(Order::Save),
+        [b"restore", octets] => Some(Order::Restore(read_hex_to(octets, LONGEST_SAVE)?)),
         _ => None,
     }
 }
@@ -93,10 +101,14 @@ fn read_number(word: &[u8]) -> Option<u32> {
 }
 
 fn read_hex(word: &[u8]) -> Option<Vec<u8>> {
+    read_hex_to(word, LONGEST_HEX)
+}
+
+fn read_hex_to(word: &[u8], most: usize) -> Option<Vec<u8>> {
     if word == b"-" {
         return Some(Vec::new());
     }
-    if !word.len().is_multiple_of(2) || word.len() > 2 * LONGEST_HEX {
+    if !word.len().is_multiple_of(2) || word.len() > 2 * most {
         return None;
     }
     word.chunks(2)
@@ -128,7 +140,9 @@ pub fn answer_number<T>(answer: &Result<T, Refusal>) -> u8 {
 pub fn written_number(line: &str) -> Option<u8> {
     let mut words = line.split(' ');
     match words.next()? {
-        "take" | "join" | "leave" | "route" | "notice" | "start" => words.next()?.parse().ok(),
+        "take" | "join" | "leave" | "route" | "notice" | "start" | "save" | "restore" => {
+            words.next()?.parse().ok()
+        }
         _ => None,
     }
 }
@@ -138,7 +152,13 @@ pub fn notice_record(line: &str) -> Option<Vec<u8>> {
     read_hex(line.strip_prefix("notice 0 ")?.as_bytes())
 }
 
-/// The card on the bench and the room its events are lent.
+/// The octets on a line written for a save.
+pub fn saved_octets(line: &str) -> Option<Vec<u8>> {
+    read_hex_to(line.strip_prefix("save 0 ")?.as_bytes(), LONGEST_SAVE)
+}
+
+/// The card on the bench and the room that its events and saves are lent, as
+/// far as their buffers have it.
 #[derive(Clone)]
 pub struct Bench {
     pub card: Card,
@@ -149,7 +169,7 @@ impl Bench {
     pub fn new() -> Bench {
         Bench {
             card: Card::start(16).1,
-            room: WHOLE_BUFFER,
+            room: LONGEST_SAVE,
         }
     }
 
@@ -162,14 +182,18 @@ impl Bench {
                 format!("start {}", answer_number(&answer))
             }
             Order::Room(room) => {
-                self.room = (*room as usize).min(WHOLE_BUFFER);
+                self.room = *room as usize;
                 format!("room {room}")
             }
             Order::Label(label) => found_line("label", self.card.find_label(*label)),
             Order::Tree(octets) => found_line("tree", self.card.find_tree(octets)),
             Order::Free => format!("free {}", self.card.free_labels()),
+            Order::Save => event_line("save", &self.card.save(self.room)),
+            Order::Restore(octets) => {
+                format!("restore {}", answer_number(&self.card.restore(octets)))
+            }
             event => {
-                let answer = event_answer(&mut self.card, event, self.room);
+                let answer = event_answer(&mut self.card, event, self.room.min(WHOLE_BUFFER));
                 event_line(event_word(event), &answer)
             }
         }

@@ -66,6 +66,14 @@ fn lines_that_cannot_be_taken() {
         b"notice 4294967296 2 00",
         b"notice 1 4294967296 00",
         b"Notice 1 2 00",
+        b"save 1",
+        b"save -",
+        b"Save",
+        b"restore",
+        b"restore 4c5",
+        b"restore 4c 53",
+        b"restore 4g",
+        b"Restore 4c",
         b"start -",
         b"\x0bfree",
     ] {
@@ -197,4 +205,30 @@ fn records_are_found_on_the_lines_of_notices() {
     assert_eq!(notice_record("notice 0"), None);
     assert_eq!(notice_record("notice 16"), None);
     assert_eq!(notice_record("take 0 4c44"), None);
+}
+
+/// A save is lent the room as an event is, but its buffer is larger.
+#[test]
+fn room_of_a_save() {
+    let empty = "4c5301000000100000000100000000";
+    assert_eq!(output(b"save"), format!("save 0 {empty}\n"));
+    assert_eq!(output(b"room 14\nsave"), "room 14\nsave 16\n");
+    let input = format!(
+        "room 15\nsave\nstart 99\nrestore {}\nsave",
+        empty.to_uppercase()
+    );
+    let written = format!("room 15\nsave 0 {empty}\nstart 0\nrestore 0\nsave 0 {empty}\n");
+    assert_eq!(output(input.as_bytes()), written);
+    assert_eq!(
+        output(b"restore -\nrestore 4c53"),
+        "restore 19\nrestore 19\n"
+    );
+}
+
+#[test]
+fn the_longest_restore() {
+    for (octets, written) in [(23343, "restore 19\n"), (23344, "? 1\n")] {
+        let line = format!("restore {}", "00".repeat(octets));
+        assert_eq!(output(line.as_bytes()), written);
+    }
 }

@@ -25,7 +25,7 @@ pub struct Tree {
 }
 
 impl Tree {
-    fn is_bare(&self) -> bool {
+    pub fn is_bare(&self) -> bool {
         self.branches.is_empty() && !self.leaf
     }
 
@@ -68,6 +68,8 @@ pub struct Card {
     /// Oldest first.
     trees: Vec<Tree>,
     routes: BTreeMap<Vec<u8>, Route>,
+    /// The roots with a route, in the order of their first entry.
+    roots: Vec<Vec<u8>>,
     labels: Vec<LabelUse>,
     next_identifier: u32,
 }
@@ -78,8 +80,28 @@ impl Card {
             base,
             trees: Vec::new(),
             routes: BTreeMap::new(),
+            roots: Vec::new(),
             labels: vec![LabelUse::Free; LABELS as usize],
             next_identifier: 1,
+        }
+    }
+
+    /// A card as it stood, with its routes in their order. Whether it keeps
+    /// the rules is the caller's care.
+    pub fn standing(
+        base: u32,
+        next_identifier: u32,
+        routes: Vec<(Vec<u8>, Route)>,
+        trees: Vec<Tree>,
+        labels: Vec<LabelUse>,
+    ) -> Card {
+        Card {
+            base,
+            trees,
+            roots: routes.iter().map(|(root, _)| root.clone()).collect(),
+            routes: routes.into_iter().collect(),
+            labels,
+            next_identifier,
         }
     }
 
@@ -193,7 +215,7 @@ impl Card {
     }
 
     /// The neighbour that must have a label of ours for the tree.
-    fn label_due(&self, name: &TreeName) -> Option<u32> {
+    pub fn label_due(&self, name: &TreeName) -> Option<u32> {
         let upstream = self.upstream(&name.root)?;
         let serves = self.tree(name)?.serves(Some(upstream));
         serves.then_some(upstream)
@@ -218,6 +240,27 @@ impl Card {
         for label in unused.skip(free) {
             *label = LabelUse::Awaiting(9, nobody.clone());
         }
+    }
+
+    /// A changed route stays in its place; one that goes closes the gap.
+    fn set_route(&mut self, root: &[u8], route: Option<Route>) {
+        let Some(route) = route else {
+            self.routes.remove(root);
+            return self.roots.retain(|other| other != root);
+        };
+        if self.routes.insert(root.to_vec(), route).is_none() {
+            self.roots.push(root.to_vec());
+        }
+    }
+
+    pub fn next_identifier(&self) -> u32 {
+        self.next_identifier
+    }
+
+    pub fn routes_in_order(&self) -> impl ExactSizeIterator<Item = (&[u8], Route)> {
+        self.roots
+            .iter()
+            .map(|root| (root.as_slice(), self.routes[root]))
     }
 
     pub fn free_labels(&self) -> usize {
@@ -316,10 +359,7 @@ impl Draft {
         if before.is_none() && self.card.routes.len() == MOST_ROOTS {
             return Err(Refusal::RootsFull);
         }
-        match route {
-            Some(route) => self.card.routes.insert(root.to_vec(), route),
-            None => self.card.routes.remove(root),
-        };
+        self.card.set_route(root, route);
         let names: Vec<Name> = self.card.trees_of(root).map(|t| t.name.clone()).collect();
         names.iter().try_for_each(|name| self.settle(name))
     }

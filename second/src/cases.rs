@@ -137,6 +137,10 @@ impl Page {
         self.lines.push(format!("# {text}"));
     }
 
+    pub fn text(&mut self, text: String) {
+        self.lines.push(text);
+    }
+
     fn case(&mut self, number: usize, text: &str) {
         self.comment(&format!("case {number}: {text}"));
     }

@@ -8,6 +8,8 @@ use crate::events::*;
 use crate::held_events::*;
 use crate::odd_lines;
 use crate::rng::Rng;
+use crate::save::LONGEST_SAVE;
+use crate::save_damage;
 use crate::wire;
 use crate::world::World;
 
@@ -18,7 +20,7 @@ pub struct Kind {
 }
 
 const DAMAGED: usize = 4;
-const MIXED: usize = 9;
+const MIXED: usize = 10;
 
 pub const KINDS: [Kind; MIXED + 1] = [
     kind("ordinary", open_ordinary, step_ordinary),
@@ -30,6 +32,7 @@ pub const KINDS: [Kind; MIXED + 1] = [
     kind("room", open_room, step_room),
     kind("lines", open_ordinary, step_lines),
     kind("held", open_held, step_held),
+    kind("saves", open_saves, step_saves),
     kind("mixed", open_ordinary, step_mixed),
 ];
 
@@ -147,7 +150,11 @@ pub struct Maker {
     releases_due: usize,
     /// The chance of notices, by itself: a day's other orders do not hang on it.
     whys: Rng,
+    /// The last few saves that were written.
+    saves: Vec<Vec<u8>>,
 }
+
+const SAVES_KEPT: usize = 4;
 
 impl Maker {
     fn new(seed: u64) -> Maker {
@@ -159,6 +166,7 @@ impl Maker {
             lines: Vec::new(),
             releases_due: 0,
             whys: Rng::new(!seed),
+            saves: Vec::new(),
         }
     }
 
@@ -175,7 +183,16 @@ impl Maker {
         self.lines.push(line);
         if let Said::Order(order) = said {
             let written = self.bench.obey(&order);
+            self.keep_save(&written);
             self.tell_why(&order, &written);
+        }
+    }
+
+    fn keep_save(&mut self, written: &str) {
+        if let Some(octets) = bench::saved_octets(written) {
+            self.saves.push(octets);
+            let over = self.saves.len().saturating_sub(SAVES_KEPT);
+            self.saves.drain(..over);
         }
     }
 
@@ -352,6 +369,59 @@ fn step_held(maker: &mut Maker) {
         maker.releases_due = maker.rng.between(1, 9);
     } else {
         maker.play(HELD, 40);
+    }
+}
+
+/// Few trees: a save of a full card makes a line of 46 thousand digits.
+fn open_saves(maker: &mut Maker) {
+    maker.world = World::new(&mut maker.rng, 4, 3, 2);
+    maker.give(Order::Room(LONGEST_SAVE as u32));
+    maker.route_roots(3);
+    maker.grow(3);
+}
+
+/// Saves now and then, and restores, with or without events between and also
+/// on another card, what was saved or something near it.
+fn step_saves(maker: &mut Maker) {
+    match maker.rng.below(14) {
+        0..=5 => maker.play(ORDINARY, 25),
+        6 => maker.play(HELD, 25),
+        7 | 8 => save_now(maker),
+        9 | 10 => restore(maker, false),
+        _ => restore(maker, true),
+    }
+}
+
+/// Also in hardly room enough.
+fn save_now(maker: &mut Maker) {
+    let scarce = maker.rng.percent(30);
+    if scarce {
+        let needed = maker.card().save(LONGEST_SAVE).map_or(0, |s| s.len());
+        let room = room_near(&mut maker.rng, needed);
+        maker.give(Order::Room(room));
+    }
+    maker.give(Order::Save);
+    if scarce {
+        maker.give(Order::Room(LONGEST_SAVE as u32));
+    }
+}
+
+fn restore(maker: &mut Maker, spoiled: bool) {
+    let Some(save) = maker.rng.pick(&maker.saves) else {
+        return save_now(maker);
+    };
+    let octets = if spoiled {
+        save_damage::spoil(&mut maker.rng, &save)
+    } else {
+        save
+    };
+    if maker.rng.percent(20) {
+        restart(maker);
+    }
+    maker.give(Order::Restore(octets));
+    maker.look(60);
+    if maker.rng.percent(20) {
+        save_now(maker);
     }
 }
 

@@ -40,7 +40,7 @@ fn a_mixed_day_gives_every_refusal() {
         let given: BTreeSet<u8> = numbers(&answers(&make(mixed, seed, 5000)))
             .into_iter()
             .collect();
-        assert_eq!(given, (0..=17).collect(), "seed {seed}");
+        assert_eq!(given, (0..=17).chain([19]).collect(), "seed {seed}");
     }
 }
 
@@ -149,4 +149,58 @@ fn a_held_day_has_its_occasions() {
         }
         assert!(met.len() == 10 && met.values().all(|n| *n >= 5), "{met:?}");
     }
+}
+
+/// What a restore of a day meets: whether it is taken, whether a table stands
+/// in the way, and whether the octets are those of the table that stands.
+fn swap(before: &Card, order: &Order, number: u8) -> Option<&'static str> {
+    let Order::Restore(octets) = order else {
+        return None;
+    };
+    let own = before.save(LONGEST_SAVE).expect("there is room");
+    Some(match number {
+        0 if own == *octets => "no event came between",
+        0 if before.trees().is_empty() => "on a fresh card",
+        0 => "events came between",
+        _ if octets.len() < own.len() => "refused, shorter",
+        _ if octets.len() > own.len() => "refused, longer",
+        _ => "refused, as long",
+    })
+}
+
+#[test]
+fn a_day_of_saves_has_its_occasions() {
+    let saves = kind_named("saves").expect("it is one of the kinds");
+    for seed in 1..=3 {
+        let mut met = std::collections::BTreeMap::new();
+        let mut bench = Bench::new();
+        for line in make(saves, seed, 3000) {
+            let Said::Order(order) = bench::read_line(&line) else {
+                continue;
+            };
+            let before = bench.card.clone();
+            let written = bench.obey(&order);
+            let number = bench::written_number(&written).unwrap_or(0);
+            if let Some(what) = swap(&before, &order, number) {
+                *met.entry(what).or_insert(0) += 1;
+            }
+            if order == Order::Save {
+                *met.entry(["saved", "no room"][usize::from(number == 16)])
+                    .or_insert(0) += 1;
+            }
+            if number == 19 {
+                assert_eq!(bench.card, before);
+            }
+        }
+        assert!(met.len() == 8 && met.values().all(|n| *n >= 10), "{met:?}");
+    }
+}
+
+/// Spoiled saves are refused for the most part, and some are another table's.
+#[test]
+fn spoiled_saves() {
+    let saves = kind_named("saves").expect("it is one of the kinds");
+    let answers = answers(&make(saves, 1, 3000));
+    let count = |text| answers.iter().filter(|answer| *answer == text).count();
+    assert!(count("restore 19") > 200 && count("restore 0") > 200);
 }

@@ -15,6 +15,10 @@ mod odd_lines;
 mod refusal;
 mod rng;
 mod rows;
+mod save;
+mod save_cases;
+mod save_damage;
+mod save_rows;
 mod wire;
 mod world;
 
@@ -28,6 +32,7 @@ const USAGE: &str = "usage: second run [FILE]
        second cases
        second stdin
        second rows BASE SEED LINES [FREE]
+       second save-rows BASE SEED SAVES
        second refusals FILE
        second notices FILE
        second differ DAY OUTPUT
@@ -35,7 +40,7 @@ const USAGE: &str = "usage: second run [FILE]
 
 /// Seeds and lines of each kind's part of the gate's standard input.
 const GATE_SEEDS: [u64; 2] = [1, 2];
-const GATE_LINES: [(&str, usize); 10] = [
+const GATE_LINES: [(&str, usize); 11] = [
     ("ordinary", 120),
     ("full", 240),
     ("moves", 120),
@@ -44,6 +49,7 @@ const GATE_LINES: [(&str, usize); 10] = [
     ("random", 90),
     ("room", 140),
     ("held", 260),
+    ("saves", 90),
     ("lines", 50),
     ("mixed", 150),
 ];
@@ -82,6 +88,10 @@ fn obey(words: &[&str], output: &mut impl Write) -> io::Result<Option<ExitCode>>
         ["notices", file] => notices(open(file)?)?,
         ["day", kind, seed, count] => return write_day(kind, seed, count, output),
         ["rows", base, seed, count, ref free @ ..] => match made_rows(base, seed, count, free) {
+            Some(rows) => rows,
+            None => return Ok(None),
+        },
+        ["save-rows", base, seed, count] => match made_saves(base, seed, count) {
             Some(rows) => rows,
             None => return Ok(None),
         },
@@ -146,6 +156,10 @@ fn made_rows(base: &str, seed: &str, count: &str, free: &[&str]) -> Option<Vec<S
     )
 }
 
+fn made_saves(base: &str, seed: &str, count: &str) -> Option<Vec<String>> {
+    save_rows::make(base.parse().ok()?, seed.parse().ok()?, count.parse().ok()?)
+}
+
 fn write_gate_input(output: &mut impl Write) -> io::Result<()> {
     for page in [
         cases::day(),
@@ -153,6 +167,7 @@ fn write_gate_input(output: &mut impl Write) -> io::Result<()> {
         cases::most_roots(),
         cases::notices(),
         held_cases::day(),
+        save_cases::day(),
     ] {
         writeln!(output, "{}", page.join("\n"))?;
     }
@@ -170,7 +185,7 @@ fn write_gate_input(output: &mut impl Write) -> io::Result<()> {
 
 /// How often each answer number and each bad line came out.
 fn refusals(input: BufReader<File>) -> io::Result<Vec<String>> {
-    let mut counts = [0u64; 18];
+    let mut counts = [0u64; 20];
     let mut bad_lines = 0u64;
     bench::replay(input, |_, _, answer| {
         if let Some(number) = bench::written_number(&answer) {

@@ -30,7 +30,7 @@ pub fn make(base: u32, seed: u64, count: usize, free: Option<usize>) -> Option<V
     Some(rows)
 }
 
-fn is_event(order: &Order) -> bool {
+pub fn is_event(order: &Order) -> bool {
     matches!(
         order,
         Order::Take(..) | Order::Join(_) | Order::Leave(_) | Order::Route(..)
@@ -88,7 +88,7 @@ fn row(
     }
 }
 
-fn event_text(event: &Order) -> String {
+pub fn event_text(event: &Order) -> String {
     match event {
         Order::Take(from, octets) => format!("receive {from} ({})", list(octets)),
         Order::Join(octets) => format!("join ({})", list(octets)),
@@ -113,7 +113,7 @@ fn gives(found: Option<Found>) -> Vec<u32> {
     branches.chain(found.leaf.then_some(1)).collect()
 }
 
-fn list<T: ToString>(numbers: &[T]) -> String {
+pub fn list<T: ToString>(numbers: &[T]) -> String {
     let mut text: String = numbers
         .iter()
         .map(|number| number.to_string() + " ∷ ")

@@ -1,0 +1,131 @@
+//! Saves that are no longer what a card wrote. Some of them another card
+//! might have written; most none.
+
+use crate::rng::Rng;
+use crate::save::{HEAD, LABEL, ROUTE, TREE};
+
+/// `save` is one that a card wrote.
+pub fn spoil(rng: &mut Rng, save: &[u8]) -> Vec<u8> {
+    match rng.below(16) {
+        0..=3 => one_octet(rng, save.to_vec()),
+        4 => one_step(rng, save.to_vec()),
+        5 => save[..rng.below(save.len())].to_vec(),
+        6 => shorter(rng, save),
+        7 | 8 => longer(rng, save),
+        9 => head_field(rng, save.to_vec()),
+        10 | 11 => field(rng, save),
+        _ => other_records(rng, save),
+    }
+}
+
+fn one_octet(rng: &mut Rng, mut save: Vec<u8>) -> Vec<u8> {
+    let place = rng.below(save.len());
+    save[place] ^= rng.between(1, 255) as u8;
+    save
+}
+
+fn one_step(rng: &mut Rng, mut save: Vec<u8>) -> Vec<u8> {
+    let place = rng.below(save.len());
+    let step = if rng.percent(50) { 1 } else { 255 };
+    save[place] = save[place].wrapping_add(step);
+    save
+}
+
+fn shorter(rng: &mut Rng, save: &[u8]) -> Vec<u8> {
+    let gone = [1, LABEL - 1, LABEL, TREE, ROUTE][rng.below(5)];
+    save[..save.len().saturating_sub(gone)].to_vec()
+}
+
+fn longer(rng: &mut Rng, save: &[u8]) -> Vec<u8> {
+    let mut longer = save.to_vec();
+    match rng.below(4) {
+        0 => longer.push(0),
+        1 => longer.push(rng.next() as u8),
+        2 => longer.extend([0; LABEL]),
+        _ => longer.extend(records(save).last().expect("a save has a head")),
+    }
+    longer
+}
+
+/// Base, next identifier or a count.
+fn head_field(rng: &mut Rng, mut save: Vec<u8>) -> Vec<u8> {
+    match rng.below(6) {
+        0 => save[3..7].copy_from_slice(&rng.number().to_be_bytes()),
+        1 => {
+            let bases = [0u32, 15, 16, 1_048_320, 1_048_321];
+            save[3..7].copy_from_slice(&bases[rng.below(5)].to_be_bytes());
+        }
+        2 | 3 => save[7..11].copy_from_slice(&rng.number().to_be_bytes()),
+        _ => {
+            let place = rng.between(11, 14);
+            save[place] = rng.below(5) as u8;
+        }
+    }
+    save
+}
+
+/// A field of a record, by another value that it may well have.
+fn field(rng: &mut Rng, save: &[u8]) -> Vec<u8> {
+    let mut records = records(save);
+    let place = rng.below(records.len());
+    let record = &mut records[place];
+    match record[2] {
+        2 if rng.percent(70) => record[3] = rng.below(19) as u8,
+        2 => record[4] = [4, 16][rng.below(2)],
+        3 if rng.percent(30) => record[53] = rng.below(3) as u8,
+        3 => {
+            let branch = 54 + 4 * rng.below(16);
+            let label = [0u32, 15, 16, 100, 1_048_575, 1_048_576][rng.below(6)];
+            record[branch..branch + 4].copy_from_slice(&label.to_be_bytes());
+        }
+        4 if rng.percent(40) => record[7] = rng.below(4) as u8,
+        4 if rng.percent(50) => record[8] = rng.below(17) as u8,
+        4 => record[6] = rng.next() as u8,
+        _ => record[10] = rng.next() as u8,
+    }
+    joined(&records)
+}
+
+/// A record goes, comes twice or changes its place; the head counts them.
+fn other_records(rng: &mut Rng, save: &[u8]) -> Vec<u8> {
+    let mut records = records(save);
+    if records.len() < 2 {
+        return one_octet(rng, save.to_vec());
+    }
+    let place = rng.between(1, records.len() - 1);
+    match rng.below(4) {
+        0 | 1 => drop(records.remove(place)),
+        2 => records.insert(place, records[place].clone()),
+        _ => {
+            let other = rng.between(1, records.len() - 1);
+            records.swap(place, other);
+        }
+    }
+    counted(&mut records);
+    joined(&records)
+}
+
+/// The records of a save, the head first.
+pub fn records(save: &[u8]) -> Vec<Vec<u8>> {
+    let mut rest = save;
+    let mut records = Vec::new();
+    while let [_, _, kind, ..] = rest {
+        let length = [HEAD, ROUTE, TREE, LABEL][usize::from(*kind) - 1];
+        let (record, after) = rest.split_at(length);
+        records.push(record.to_vec());
+        rest = after;
+    }
+    records
+}
+
+/// Sets the head's counts to what follows it.
+pub fn counted(records: &mut [Vec<u8>]) {
+    let count = |kind| records.iter().filter(|record| record[2] == kind).count() as u16;
+    let (routes, trees, labels) = (count(2), count(3), count(4));
+    records[0][11..13].copy_from_slice(&[routes as u8, trees as u8]);
+    records[0][13..15].copy_from_slice(&labels.to_be_bytes());
+}
+
+pub fn joined(records: &[Vec<u8>]) -> Vec<u8> {
+    records.concat()
+}

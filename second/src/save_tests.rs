@@ -1,0 +1,157 @@
+use super::*;
+use crate::bench::{self, Bench, Said};
+use crate::days;
+use crate::rng::Rng;
+use crate::save_damage;
+
+fn card_after(lines: &[&str]) -> Card {
+    let mut bench = Bench::new();
+    for line in lines {
+        match bench::read_line(line.as_bytes()) {
+            Said::Order(order) => drop(bench.obey(&order)),
+            other => panic!("{other:?}"),
+        }
+    }
+    bench.card
+}
+
+/// The card of the example in docs/SAVE.md.
+fn swapped() -> Card {
+    card_after(&[
+        "start 16",
+        "route c0000201 0",
+        "take 1 04000021000000010100001106000104c00002010007010004000000070200000400000064",
+        "join 0600021020010db8000000000000000000000001000109",
+        "route c0000201 3",
+    ])
+}
+
+fn hex(text: &str) -> Vec<u8> {
+    let digits: Vec<u8> = text.bytes().filter(|c| *c != b' ' && *c != b'\n').collect();
+    digits
+        .chunks(2)
+        .map(|pair| u8::from_str_radix(std::str::from_utf8(pair).expect("text"), 16).expect("hex"))
+        .collect()
+}
+
+fn example() -> Vec<u8> {
+    let zeros = |count: usize| "00".repeat(count);
+    let name_a = format!("04 c0000201 {} 07 01000400000007 {}", zeros(12), zeros(25));
+    let name_b = format!("10 20010db8 {} 01 01 09 {}", zeros(11), zeros(31));
+    hex(&[
+        "4c5301 00000010 00000004 01 02 0002".to_string(),
+        format!("4c5302 03 04 c0000201 {}", zeros(12)),
+        format!("4c5303 {name_a} 00 {} 00000064 {}", zeros(4), zeros(56)),
+        format!("4c5303 {name_b} 01 {}", zeros(64)),
+        format!("4c5304 00000010 02 00 {name_a}"),
+        format!("4c5304 00000011 01 03 {name_a}"),
+    ]
+    .concat())
+}
+
+#[test]
+fn the_example() {
+    assert_eq!(example().len(), 390);
+    assert_eq!(swapped().save(LONGEST_SAVE), Ok(example()));
+    let mut card = Card::start(99).1;
+    assert_eq!(card.restore(&example()), Ok(()));
+    assert_eq!(card, swapped());
+}
+
+#[test]
+fn room() {
+    assert_eq!(swapped().save(389), Err(Refusal::Room));
+    assert_eq!(swapped().save(390), Ok(example()));
+    let fresh = Card::start(16).1;
+    assert_eq!(fresh.save(14), Err(Refusal::Room));
+    assert_eq!(fresh.save(15).map(|save| save.len()), Ok(15));
+}
+
+#[test]
+fn sizes() {
+    assert_eq!(LONGEST_SAVE, 23343);
+}
+
+/// Every octet of the example, changed in every way: what is taken is what
+/// the card that took it writes, and what is refused leaves the card.
+#[test]
+fn every_octet() {
+    let fresh = Card::start(99).1;
+    let mut taken = 0;
+    for place in 0..example().len() {
+        for octet in 0..=255 {
+            let mut octets = example();
+            octets[place] = octet;
+            let mut card = fresh.clone();
+            match card.restore(&octets) {
+                Ok(()) => {
+                    taken += 1;
+                    assert_eq!(card.save(LONGEST_SAVE), Ok(octets));
+                }
+                Err(refusal) => assert_eq!((refusal.number(), &card), (19, &fresh)),
+            }
+        }
+    }
+    // Counted by hand. A label's four octets: 15, 255 and 240 other values.
+    let head = 4 * 255;
+    let tree_a = 1 + (15 + 255 + 239) + 15 * 510;
+    let tree_b = 16 * 255 + 31 + 255 + 16 * 510;
+    let label_16 = 15 + 1 + 4 * 255 + 25 + 7 * 255;
+    let label_17 = 238;
+    assert_eq!(taken, 390 + head + tree_a + tree_b + label_16 + label_17);
+}
+
+#[test]
+fn every_length() {
+    let mut longer = example();
+    longer.extend(example());
+    for length in 0..longer.len() {
+        let taken = Card::start(16).1.restore(&longer[..length]).is_ok();
+        assert_eq!(taken, length == 390, "{length}");
+    }
+}
+
+/// On cards of made days of every kind, and spoiled.
+#[test]
+fn what_is_written_is_read_back() {
+    let mut rng = Rng::new(1);
+    for kind in 0..days::KINDS.len() {
+        let mut bench = Bench::new();
+        for (place, line) in days::make(kind, 9, 400).iter().enumerate() {
+            if let Said::Order(order) = bench::read_line(line) {
+                bench.obey(&order);
+            }
+            if place % 20 != 0 {
+                continue;
+            }
+            let save = bench.card.save(LONGEST_SAVE).expect("there is room");
+            let mut other = Card::start(99).1;
+            assert_eq!(other.restore(&save), Ok(()));
+            assert_eq!(other, bench.card);
+            let spoiled = save_damage::spoil(&mut rng, &save);
+            if other.restore(&spoiled).is_ok() {
+                assert_eq!(other.save(LONGEST_SAVE), Ok(spoiled));
+            } else {
+                assert_eq!(other, bench.card);
+            }
+        }
+    }
+}
+
+/// A restored card goes on just as the saved one does.
+#[test]
+fn a_restored_card_goes_on() {
+    let lines = days::make(1, 3, 600);
+    let (mut one, mut other) = (Bench::new(), Bench::new());
+    for (place, line) in lines.iter().enumerate() {
+        let Said::Order(order) = bench::read_line(line) else {
+            continue;
+        };
+        assert_eq!(one.obey(&order), other.obey(&order));
+        if place % 50 == 0 {
+            let save = one.card.save(LONGEST_SAVE).expect("there is room");
+            other.card = Card::start(16).1;
+            assert_eq!(other.card.restore(&save), Ok(()));
+        }
+    }
+}
