@@ -1,0 +1,107 @@
+-- Octets laid one behind the other, part by part and row by row. Assumes nothing.
+use Prim.Native.Nat.{ℕ, zero, suc, _+_, _*_, _-_, _≤_, _<_}
+use native.Mathlib.Nat.{not-suc-le-zero}
+use native.Mathlib.Numerals.{add-one}
+use native.Mathlib.Omega.{arith}
+use mathlib.Core.Path.{_≡_, refl, sym, ap, ap₂, _∙_}
+use mathlib.Core.List.{List, [], _∷_, _++_, append-assoc}
+use lib.ListN.{length, drop, length-append, drop-of-length-le}
+use lib.Dec.{eqb}
+use borrow.Author.Tests.{eqb-true, eqb-false}
+use Rattle.meaning.specs.Lists.{by-test, append-nil}
+use Rattle.octets.specs.Part.{mid, tab}
+use Rattle.octets.proofs.Laws.{mid-mid, mid-length, mid-none}
+use Rattle.saver.specs.Laid.{laid}
+
+-- ---- one part, and the part behind it
+
+pub laid-part : (h k : ℕ) (t xs : List ℕ) → length t ≡ k → mid h k xs t ≡ laid h t xs
+laid-part h k t xs e = ap (λ (n : ℕ). mid h n xs t) (sym e)
+
+pub laid-then : (at h k : ℕ) (s t xs ys : List ℕ) → at + length s ≤ length xs → ys ≡ laid at s xs → h ≡ at + length s → length t ≡ k → mid h k ys t ≡ laid at (s ++ t) xs
+laid-then at h k s t xs ys fits e eh ek =
+    ap₂ (λ (n : ℕ) (l : List ℕ). mid h n l t) (sym ek) e ∙ mid-mid at (length s) (length t) h (length (s ++ t)) xs s t fits refl eh (length-append s t)
+
+pub laid-length : (at : ℕ) (s xs : List ℕ) → at + length s ≤ length xs → length (laid at s xs) ≡ length xs
+laid-length at s xs h = mid-length at (length s) xs s h refl
+
+-- the whole of the output
+pub laid-all : (s xs : List ℕ) → length xs ≤ length s → laid 0 s xs ≡ s
+laid-all s xs h = ap (λ (l : List ℕ). s ++ l) (drop-of-length-le xs {i = length s} h) ∙ append-nil s
+
+-- two parts that are the whole of it
+pub two-parts : (p q : ℕ) (xs us vs : List ℕ) → length xs ≡ p + q → length us ≡ p → length vs ≡ q → mid p q (mid 0 p xs us) vs ≡ us ++ vs
+two-parts p q xs us vs e eu ev =
+    laid-then 0 p q us vs xs (mid 0 p xs us) (omega arith) (laid-part 0 p us xs eu) (omega arith) ev ∙ laid-all (us ++ vs) xs (rw length-append (omega arith))
+
+-- ---- rows: g 0, g 1, .., g (n - 1)
+
+unfoldable pub joined : ℕ → (ℕ → List ℕ) → List ℕ
+joined zero g = []
+joined (suc n) g = joined n g ++ g n
+
+joined-more : (n : ℕ) (g : ℕ → List ℕ) → joined (n + 1) g ≡ joined n g ++ g n
+unfolding joined
+joined-more n g = rw (add-one n) refl
+
+pub joined-first : (n : ℕ) (g : ℕ → List ℕ) → joined (suc n) g ≡ g 0 ++ joined n (λ i. g (suc i))
+unfolding joined
+joined-first zero g = sym (append-nil (g 0))
+joined-first (suc n) g = ap (λ (l : List ℕ). l ++ g (suc n)) (joined-first n g) ∙ append-assoc (g 0) (joined n (λ i. g (suc i))) (g (suc n))
+
+pub joined-ext : (n : ℕ) (f g : ℕ → List ℕ) → ((i : ℕ) → i < n → f i ≡ g i) → joined n f ≡ joined n g
+unfolding joined
+joined-ext zero f g h = refl
+joined-ext (suc n) f g h = ap₂ _++_ (joined-ext n f g (λ i k. h i (omega arith))) (h n (omega arith))
+
+pub joined-length : (n w : ℕ) (g : ℕ → List ℕ) → ((i : ℕ) → i < n → length (g i) ≡ w) → length (joined n g) ≡ n * w
+unfolding joined
+joined-length zero w g h = omega arith
+joined-length (suc n) w g h = length-append (joined n g) (g n) ∙ ap₂ _+_ (joined-length n w g (λ i k. h i (omega arith))) (h n (omega arith)) ∙ omega arith
+
+joined-within : (m n : ℕ) (g : ℕ → List ℕ) → m < n → length (joined m g) + length (g m) ≤ length (joined n g)
+unfolding joined
+joined-within m zero g h = absurd (not-suc-le-zero h)
+joined-within m (suc n) g h =
+    by-test (eqb m n)
+    (λ t. rw (eqb-true m n t, length-append (joined n g) (g n)) (omega arith))
+    (λ t. omega (arith, length-append (joined n g) (g n), joined-within m n g (omega (arith, eqb-false m n t))))
+
+-- a list's rows, where each element has one
+module _ {A : Type 0} (one : A → List ℕ) (all : List A → List ℕ) (none : all [] ≡ []) (more : (x : A) (xs : List A) → all (x ∷ xs) ≡ one x ++ all xs) where
+  pub all-joined : (n : ℕ) (f : ℕ → A) → all (tab n f) ≡ joined n (λ i. one (f i))
+  unfolding tab joined
+  all-joined zero f = none
+  all-joined (suc n) f = more (f 0) (tab n (λ i. f (suc i))) ∙ ap (λ (l : List ℕ). one (f 0) ++ l) (all-joined n (λ i. f (suc i))) ∙ sym (joined-first n (λ i. one (f i)))
+
+-- a loop that lays one row after the other: i of n rows stand from a place on, and the next comes at `at`
+abbrev pub Rows : (ℕ → List ℕ) → ℕ → ℕ → List ℕ → ℕ → ℕ → List ℕ → Type 0
+Rows g n from xs i at ys = (i ≤ n) × (length ys ≡ length xs) × (at ≡ from + length (joined i g)) × (ys ≡ laid from (joined i g) xs)
+
+-- s: all rows
+module _ (g : ℕ → List ℕ) (n from : ℕ) (s xs : List ℕ) (all : s ≡ joined n g) (fits : from + length s ≤ length xs) where
+  within : (i : ℕ) → i < n → from + length (joined i g) + length (g i) ≤ length xs
+  within i h = omega (arith, joined-within i n g h, ap length all)
+
+  pub rows-none : Rows g n from xs 0 from xs
+  unfolding joined
+  rows-none = (omega arith, refl, omega arith, mid-none from xs)
+
+  module _ (i at : ℕ) (ys : List ℕ) (rows : Rows g n from xs i at ys) where
+    pub rows-room : (w : ℕ) → i < n → length (g i) ≡ w → at + w ≤ length ys
+    rows-room w h ew = omega (arith, within i h)
+
+    pub rows-more : (k : ℕ) (r zs : List ℕ) → i < n → r ≡ g i → length (g i) ≡ k → zs ≡ mid at k ys r → Rows g n from xs (i + 1) (at + k) zs
+    rows-more k r zs h er ek ez =
+        let w = within i h in
+        let j : joined (i + 1) g ≡ joined i g ++ g i = joined-more i g in
+        let e : zs ≡ laid from (joined i g ++ g i) xs = ez ∙ ap (mid at k ys) er ∙ laid-then from at k (joined i g) (g i) xs ys (omega arith) (rows .3) (rows .2) ek in
+        let l : length (joined i g ++ g i) ≡ length (joined i g) + length (g i) = length-append (joined i g) (g i) in
+        rw j (omega arith, ap length e ∙ laid-length from (joined i g ++ g i) xs (omega arith), omega arith, e)
+
+    -- a row written to the part that is lent for it
+    pub rows-lent : (w : ℕ) (r : List ℕ) → i < n → r ≡ g i → length (g i) ≡ w → Rows g n from xs (i + 1) (at + w) (mid at (at + w - at) ys r)
+    rows-lent w r h er ew = let q : at + w - at ≡ w = omega arith in rw q (rows-more w r (mid at w ys r) h er ew refl)
+
+    pub rows-done : n ≤ i → (ys ≡ laid from s xs) × (at ≡ from + length s)
+    rows-done h = let e : i ≡ n = omega arith in rw (all, ← e) (rows .3, rows .2)
