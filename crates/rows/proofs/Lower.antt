@@ -15,7 +15,7 @@ use Rattle.table.proofs.Marks.{mapped-at, mapped-use, carried-in, carried-out, 
 use Rattle.rows.specs.Parts.{Lowered, LoweredOne}
 
 -- the same use, whatever place the mark names
-use-kept : (ns ms os : List ℕ) (p : ℕ) → markUse (markAt ms p) ≡ markUse (markAt ns p) → labelIn ms os p ≡ labelIn ns os p
+pub use-kept : (ns ms os : List ℕ) (p : ℕ) → markUse (markAt ms p) ≡ markUse (markAt ns p) → labelIn ms os p ≡ labelIn ns os p
 unfolding labelIn isFreeAt
 use-kept ns ms os p e = rw e refl
 

@@ -3,22 +3,25 @@ use Prim.Native.Nat.{ℕ, zero, suc, _+_, _*_, _-_, _≤_, _<_, suc-le-suc, zero
 use native.Mathlib.Nat.{add-zero}
 use native.Mathlib.Omega.{arith}
 use mathlib.Core.Path.{_≡_, refl, sym, ap, _∙_}
-use mathlib.Core.Bool.{Bool, true}
+use mathlib.Core.Bool.{Bool, true, false}
 use mathlib.Core.List.{List, [], _∷_, _++_}
 use lib.ListN.{length, take, drop, getD, set, replicate, length-set, length-drop, length-replicate}
 use lib.Seq.{getD-set-same, getD-set-other, getD-take, getD-drop, length-take-le}
-use borrow.Author.Tests.{le-leb}
-use Rattle.meaning.specs.Octets.{place, put, cut}
-use Rattle.meaning.specs.Lists.{picked, place-finds, same-eq}
-use Rattle.meaning.specs.Card.{Route, Tree, Use, free, mapped, labelCount, fresh, withRoutes, withTrees, withLabels, withLabel, bare, treeAt, isFor, routePlace}
+use lib.Dec.{eqb}
+use borrow.Author.Tests.{le-leb, ne-eqb, eqb-true, eqb-false}
+use Rattle.meaning.specs.Octets.{pick, place, put, cut}
+use Rattle.meaning.specs.Lists.{by-test, picked, place-finds, same-eq}
+use Rattle.meaning.specs.Card.{Route, Tree, Use, Card, free, mapped, awaiting, labelCount, fresh, withRoutes, withTrees, withLabels, withLabel, bare, treeAt, isFor, routePlace}
 use Rattle.meaning.specs.Events.{baseOutside, setUse, setLabel}
 use Rattle.octets.specs.Part.{mid, tab}
 use Rattle.octets.proofs.Tab.{tab-length, tab-get, tab-ext, tab-set, tab-snoc, tab-cut, put-in, put-end}
-use Rattle.table.specs.Memory.{upTo, textAt, nameLimit, treeName, labelName, rootName, baseIn, nextIn, routeCount, treeCount, routeIn, markAt, markUse, isFreeAt, labelIn, ownPlace, ownLabel, treeIn, cardOf}
+use Rattle.table.specs.Memory.{upTo, textAt, nameLimit, treeName, labelName, rootName, baseIn, nextIn, routeCount, treeCount, routeIn, markAt, markUse, markPlace, isFreeAt, isMappedAt, labelIn, carriesAt, ownPlace, ownLabel, treeIn, cardOf}
 use Rattle.table.proofs.Memory.{upTo-le, upTo-in, treeCount-le, Agree, base-same, next-same, route-same, routes-same, own-same, own-kept, tree-with, tree-same, trees-same, label-same, labels-same, agree-refl, agree-set, tree-at}
-use Rattle.table.proofs.Marks.{free-at, mapped-at, unmapped-free, label-free, label-mapped, carried-in, not-far, not-mapped, not-named, own-some, own-none, own-beside}
+use Rattle.table.proofs.Marks.{free-at, mapped-at, mapped-use, unmapped-free, label-free, label-mapped, label-awaiting, carried-in, not-far, not-mapped, not-named, own-some, own-none, own-beside}
+use Rattle.table.proofs.Laws.{label-at}
 use Rattle.rows.specs.Parts.{Written, Closed, Lowered}
 use Rattle.rows.proofs.Parts.{written, Carries, lower, text-carried, text-put}
+use Rattle.rows.proofs.Lower.{use-kept}
 
 -- ---- the rest of the card
 
@@ -376,18 +379,18 @@ set-route ns os o i via hl e h =
     count : getD ms 2 0 ≡ getD ns 2 0
     count = getD-set-other ns (4 + i) 2 via 0 (λ e. omega arith)
 
--- no entry yet: one behind the others
-pub add-route : (ns os qs o : List ℕ) (i n via : ℕ) → length ns ≡ 1444 → i ≡ routePlace o (cardOf ns os) → n ≡ routeCount ns → n ≤ i → n < 32 → length o ≤ 16
+-- one behind the others
+pub append-route : (ns os qs o : List ℕ) (n via : ℕ) → length ns ≡ 1444 → n ≡ routeCount ns → n < 32 → length o ≤ 16
     → Written (17600 + n * 17) (length o ∷ o) os qs
-    → cardOf (set (set ns (4 + n) via) 2 (n + 1)) qs ≡ withRoutes (put (cardOf ns os .routes) (routePlace o (cardOf ns os)) (record { root = o; via = via })) (cardOf ns os)
-unfolding routeCount cardOf routePlace rootName
-add-route ns os qs o i n via hl e hn le h32 ho w =
+    → cardOf (set (set ns (4 + n) via) 2 (n + 1)) qs ≡ withRoutes (cardOf ns os .routes ++ (record { root = o; via = via } ∷ [])) (cardOf ns os)
+unfolding routeCount cardOf rootName
+append-route ns os qs o n via hl hn h32 ho w =
     but-routes ns ms os qs _
     (λ j x y. keep j (λ e. omega arith) (λ e. omega arith))
     (λ j x y. keep j (λ e. omega arith) (λ e. omega arith))
     (λ j x y. keep j (λ e. omega arith) (λ e. omega arith))
     (λ j x y. w .rest j (λ u v. omega arith))
-    (rw (count, put-end (tab (routeCount ns) (routeIn ns os)) (place (isFor o) (tab (routeCount ns) (routeIn ns os))) (record { root = o; via = via }) (omega (arith, tab-length (routeCount ns) (routeIn ns os), place-le (isFor o) (tab (routeCount ns) (routeIn ns os)))), ← hn)
+    (rw (count, ← hn)
     (tab-snoc n (routeIn ns os) (routeIn ms qs) _
     (λ j lt. route-same ns ms os qs j (λ k x y. keep k (λ e. omega arith) (λ e. omega arith)) (λ k x y. w .rest k (λ u v. omega arith)))
     (route-is ms qs o n via (text-put 16 (17600 + n * 17) o os qs ho w)
@@ -401,3 +404,139 @@ add-route ns os qs o i n via hl e hn le h32 ho w =
 
     keep : (j : ℕ) → (j ≡ 2 → ⊥) → (j ≡ 4 + n → ⊥) → getD ms j 0 ≡ getD ns j 0
     keep j ne me = getD-set-other (set ns (4 + n) via) 2 j (n + 1) 0 ne ∙ getD-set-other ns (4 + n) j via 0 me
+
+-- no entry yet: that is where it is put
+pub add-route : (ns os o : List ℕ) (c : Card) (i n via : ℕ) → i ≡ routePlace o (cardOf ns os) → n ≡ routeCount ns → n ≤ i
+    → c ≡ withRoutes (cardOf ns os .routes ++ (record { root = o; via = via } ∷ [])) (cardOf ns os)
+    → c ≡ withRoutes (put (cardOf ns os .routes) (routePlace o (cardOf ns os)) (record { root = o; via = via })) (cardOf ns os)
+unfolding routePlace cardOf
+add-route ns os o c i n via e hn le h =
+    h ∙ ap (λ (rs : List Route). withRoutes rs (cardOf ns os)) (sym (put-end (tab (routeCount ns) (routeIn ns os)) (place (isFor o) (tab (routeCount ns) (routeIn ns os))) (record { root = o; via = via }) (omega (arith, tab-length (routeCount ns) (routeIn ns os), place-le (isFor o) (tab (routeCount ns) (routeIn ns os))))))
+
+-- ---- a label's use, and who carries it
+
+-- a tree that does not carry the label at its own place p: it has another label, or none
+not-own : (ns os : List ℕ) (p j : ℕ) → j < treeCount ns → (treeAt j (cardOf ns os) .label ≡ baseIn ns + p → ⊥) → ownPlace ns j ≡ p → carriesAt ns j p ≡ false
+not-own ns os p j lt ne e =
+    by-test (carriesAt ns j p)
+    (λ t. absurd (ne (label-at ns os j lt ∙ rw e (own-some ns j p t))))
+    (λ t. t)
+
+module _ (ns os qs a : List ℕ) (p n v : ℕ) (m : Bool) (hp : p < 256) (hn : n < 16) (ha : length a ≤ 54) (w : Written (3520 + p * 55) (length a ∷ a) os qs) where
+  used : (ms : List ℕ) → markUse (markAt ms p) ≡ pick m (n + 1) (n + 17) → labelIn ms qs p ≡ pick m (mapped n a) (awaiting n a)
+  unfolding labelName
+  used ms e =
+      by-test m
+      (λ t.
+      let u : markUse (markAt ms p) ≡ n + 1 = e ∙ rw t refl in
+      let back : markUse (markAt ms p) - 1 ≡ n = omega arith in
+      rw (t, label-mapped ms p qs (omega arith) (omega arith), back, text-put nameLimit (3520 + p * 55) a os qs ha w) refl)
+      (λ t.
+      let u : markUse (markAt ms p) ≡ n + 17 = e ∙ rw t refl in
+      let back : markUse (markAt ms p) - 17 ≡ n = omega arith in
+      rw (t, label-awaiting ms p qs (omega arith), back, text-put nameLimit (3520 + p * 55) a os qs ha w) refl)
+
+  pub put-use : length ns ≡ 1444 → ((j : ℕ) → j < treeCount ns → treeAt j (cardOf ns os) .label ≡ baseIn ns + p → ⊥) → v ≡ pick m (n + 1) (n + 17)
+      → cardOf (set ns (1188 + p) (v + 16384)) qs ≡ withLabels (set (cardOf ns os .labels) p (pick m (mapped n a) (awaiting n a))) (cardOf ns os)
+  put-use hl hc hv =
+      but-rows ns ms os qs (cardOf ns os .trees) (set (cardOf ns os .labels) p (pick m (mapped n a) (awaiting n a)))
+      (agree-set 0 3 ns (1188 + p) (v + 16384) (λ x y. omega arith))
+      (agree-set 4 32 ns (1188 + p) (v + 16384) (λ x y. omega arith))
+      (λ j x y. w .rest j (λ u z. omega arith))
+      (unfold cardOf treeCount in rw count (tab-ext (treeCount ns) (treeIn ms qs) (treeIn ns os) (λ j lt. tree j lt)))
+      (unfold cardOf in tab-set 256 (labelIn ns os) (labelIn ms qs) p _ hp
+      (used ms (let e = now in let k = small in omega arith ∙ hv))
+      (λ q ne lt. label-same ns ms os qs q (agree-set (1188 + q) 1 ns (1188 + p) (v + 16384) (λ x y. ne (omega arith))) (λ j x y. w .rest j (λ u z. ne (omega arith)))))
+      ∙ unfold cardOf withTrees withLabels in refl
+    where
+      ms : List ℕ
+      ms = set ns (1188 + p) (v + 16384)
+
+      small : v < 256
+      small = rw hv (picked (λ (k : ℕ). k < 256) m (λ _. omega arith) (λ _. omega arith))
+
+      now : markAt ms p ≡ v + 16384
+      now = getD-set-same ns (1188 + p) (v + 16384) 0 (omega arith)
+
+      count : getD ms 3 0 ≡ getD ns 3 0
+      count = getD-set-other ns (1188 + p) 3 (v + 16384) 0 (λ e. omega arith)
+
+      nowhere : markPlace (markAt ms p) ≡ 64
+      nowhere = let e = now in let k = small in omega arith
+
+      tree : (j : ℕ) → j < treeCount ns → treeIn ms qs j ≡ treeIn ns os j
+      tree j lt =
+          let j64 : j < 64 = omega (arith, treeCount-le ns) in
+          let o : ownPlace ms j ≡ ownPlace ns j = getD-set-other ns (1188 + p) (36 + j) (v + 16384) 0 (λ e. omega arith) in
+          tree-same ns ms os qs j
+          (rw o (own-beside ns p (v + 16384) j (ownPlace ns j) (λ e. (rw e (not-own ns os p j lt (hc j lt) e), rw e (not-named ms j p (λ z. omega (arith, nowhere)))))))
+          (agree-set (100 + j * 17) 17 ns (1188 + p) (v + 16384) (λ x y. omega arith))
+          (λ k x y. w .rest k (λ u z. omega arith))
+
+pub attach : (ns os : List ℕ) (p i : ℕ) → length ns ≡ 1444 → p < 256 → i < treeCount ns → i < 64 → isMappedAt ns p ≡ true → ((j : ℕ) → j < treeCount ns → treeAt j (cardOf ns os) .label ≡ baseIn ns + p → ⊥)
+    → cardOf (set (set ns (1188 + p) (markUse (markAt ns p) + 256 * i)) (36 + i) p) os ≡ setLabel i (baseIn ns + p) (cardOf ns os)
+unfolding setLabel
+attach ns os p i hl hp hi h64 hm hc =
+    but-trees ns ms os os (set (cardOf ns os .trees) i (withLabel (baseIn ns + p) (treeAt i (cardOf ns os))))
+    (λ j x y. keep j (λ e. omega arith) (λ e. omega arith))
+    (λ j x y. keep j (λ e. omega arith) (λ e. omega arith))
+    (agree-refl 17600 544 os)
+    uses
+    (unfold cardOf treeCount in rw count (tab-set (treeCount ns) (treeIn ns os) (treeIn ms os) i _ hi this other))
+  where
+    v : ℕ
+    v = markUse (markAt ns p) + 256 * i
+
+    ks : List ℕ
+    ks = set ns (1188 + p) v
+
+    ms : List ℕ
+    ms = set ks (36 + i) p
+
+    keep : (j : ℕ) → (j ≡ 1188 + p → ⊥) → (j ≡ 36 + i → ⊥) → getD ms j 0 ≡ getD ns j 0
+    keep j ne me = getD-set-other ks (36 + i) j p 0 me ∙ getD-set-other ns (1188 + p) j v 0 ne
+
+    count : getD ms 3 0 ≡ getD ns 3 0
+    count = keep 3 (λ e. omega arith) (λ e. omega arith)
+
+    then-use : markUse v ≡ markUse (markAt ns p)
+    then-use = omega arith
+
+    then-place : markPlace v ≡ i
+    then-place = omega arith
+
+    now : markAt ms p ≡ v
+    now = getD-set-other ks (36 + i) (1188 + p) p 0 (λ e. omega arith) ∙ getD-set-same ns (1188 + p) v 0 (omega arith)
+
+    own : ownPlace ms i ≡ p
+    own = getD-set-same ks (36 + i) p 0 (rw length-set (omega arith))
+
+    uses : (q : ℕ) → q < 256 → labelIn ms os q ≡ labelIn ns os q
+    uses q lt =
+        by-test (eqb q p)
+        (λ t. let e : q ≡ p = eqb-true q p t in rw e (use-kept ns ms os p (ap markUse now ∙ then-use)))
+        (λ t. label-same ns ms os os q (λ j x y. keep j (λ e. eqb-false q p t (omega arith)) (λ e. omega arith)) (agree-refl (3520 + q * 55) 55 os))
+
+    carried : ownLabel ms i (ownPlace ms i) ≡ baseIn ns + p
+    carried =
+        let u = mapped-use ns p hm in
+        let k : markUse (markAt ms p) ≡ markUse (markAt ns p) = ap markUse now ∙ then-use in
+        rw (own, own-some ms i p (carried-in ms i p hp (mapped-at ms p (omega arith) (omega arith)) (ap markPlace now ∙ then-place)))
+        (ap (λ (b : ℕ). b + p) (base-same ns ms os os (λ j x y. keep j (λ e. omega arith) (λ e. omega arith))))
+
+    this : treeIn ms os i ≡ withLabel (baseIn ns + p) (treeAt i (cardOf ns os))
+    this =
+        rw (tree-at ns os i hi)
+        (tree-with ns ms os os i (baseIn ns + p) carried
+        (λ j x y. keep j (λ e. omega arith) (λ e. omega arith))
+        (agree-refl (i * 55) 55 os))
+
+    other : (j : ℕ) → (j ≡ i → ⊥) → j < treeCount ns → treeIn ms os j ≡ treeIn ns os j
+    other j ne lt =
+        let j64 : j < 64 = omega (arith, treeCount-le ns) in
+        let o : ownPlace ms j ≡ ownPlace ns j = keep (36 + j) (λ e. omega arith) (λ e. ne (omega arith)) in
+        tree-same ns ms os os j
+        (rw o (own-same ks ms os os j (ownPlace ns j) (agree-set 0 1 ks (36 + i) p (λ x y. omega arith)) (λ h. getD-set-other ks (36 + i) (1188 + ownPlace ns j) p 0 (λ e. omega arith))
+        ∙ own-beside ns p v j (ownPlace ns j) (λ e. (rw e (not-own ns os p j lt (hc j lt) e), rw e (not-named ks j p (λ z. ne (sym z ∙ ap markPlace (getD-set-same ns (1188 + p) v 0 (omega arith)) ∙ then-place)))))))
+        (λ k x y. keep k (λ e. omega arith) (λ e. omega arith))
+        (agree-refl (j * 55) 55 os)

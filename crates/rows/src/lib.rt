@@ -3,11 +3,11 @@ ghost use mathlib.Core.Path.{_≡_};
 ghost use mathlib.Core.Bool.{true};
 ghost use mathlib.Core.List.{List, [], _∷_, _++_};
 ghost use Prim.Native.Nat.{ℕ, _+_, _-_, _≤_, _<_};
-ghost use lib.ListN.{length, replicate};
-ghost use Rattle.meaning.specs.Octets.{put, cut};
-ghost use Rattle.meaning.specs.Card.{Card, fresh, withTrees, withRoutes, bare, treeAt, mapped, routePlace};
+ghost use lib.ListN.{length, replicate, set};
+ghost use Rattle.meaning.specs.Octets.{pick, put, cut};
+ghost use Rattle.meaning.specs.Card.{Card, fresh, withTrees, withRoutes, withLabels, bare, treeAt, mapped, awaiting, routePlace};
 ghost use Rattle.meaning.specs.Events.{setUse, setLabel};
-ghost use Rattle.table.specs.Memory.{cardOf, baseIn, treeCount, routeCount, isFreeAt};
+ghost use Rattle.table.specs.Memory.{cardOf, baseIn, treeCount, routeCount, isFreeAt, isMappedAt};
 ghost use Rattle.rows.specs.Parts.{Written, Closed, Lowered, LoweredOne};
 
 fn tree_count(numbers: &[u64]) -> usize
@@ -128,7 +128,56 @@ pub fn map_label(numbers: &mut [u64], names: &mut [u8], p: usize, i: usize, n: u
     numbers[36 + i] = p as u64;
 }
 
+// The number of a use: mapped to neighbour n, or awaiting release from it.
+fn use_of(held: bool, n: u64) -> u64
+    requires { ⌜ n < 16 ⌝ }
+    ensures { λ r. ⌜ (r ≡ pick held (n + 1) (n + 17)) × (r ≤ 32) ⌝ }
+{
+    if held { n + 1 } else { n + 17 }
+}
+
+// The label at place p of the block, which no tree carries, is from now on mapped to neighbour n for that name, or awaits release
+// from n. Its mark names place 64, where no tree stands.
+pub fn put_use(
+    numbers: &mut [u64],
+    names: &mut [u8],
+    p: usize,
+    held: bool,
+    n: u64,
+    name: &[u8],
+)
+    requires { ⌜ (length (now numbers) ≡ 1444) × (length (now names) ≡ 18144) × (p < 256) × (n < 16) × (length (now name) ≤ 54)
+        × ((j : ℕ) → j < treeCount (now numbers) → treeAt j (cardOf (now numbers) (now names)) .label ≡ baseIn (now numbers) + p → ⊥) ⌝ }
+    ensures { λ _. ⌜ cardOf (now (numbers .exit)) (now (names .exit))
+        ≡ withLabels (set (cardOf (now (numbers .entry)) (now (names .entry)) .labels) p (pick held (mapped n (now (name .entry))) (awaiting n (now (name .entry))))) (cardOf (now (numbers .entry)) (now (names .entry))) ⌝ }
+{
+    put_text(names, 3520 + p * 55, name);
+    numbers[1188 + p] = use_of(held, n) + 16384;
+}
+
+// The tree at place i carries from now on the label at place p of the block, which is mapped and which no tree carries.
+pub fn attach(numbers: &mut [u64], i: usize, p: usize)
+    requires { ⌜ (length (now numbers) ≡ 1444) × (p < 256) × (i < treeCount (now numbers)) × (i < 64) × (isMappedAt (now numbers) p ≡ true)
+        × ((os : List ℕ) (j : ℕ) → j < treeCount (now numbers) → treeAt j (cardOf (now numbers) os) .label ≡ baseIn (now numbers) + p → ⊥) ⌝ }
+    ensures { λ _. ⌜ ((os : List ℕ) → cardOf (now (numbers .exit)) os ≡ setLabel i (baseIn (now (numbers .entry)) + p) (cardOf (now (numbers .entry)) os)) ⌝ }
+{
+    numbers[1188 + p] = numbers[1188 + p] % 256 + 256 * i as u64;
+    numbers[36 + i] = p as u64;
+}
+
 // ---- routes
+
+// A route comes, behind the others.
+pub fn append_route(numbers: &mut [u64], names: &mut [u8], root: &[u8], via: u64)
+    requires { ⌜ (length (now numbers) ≡ 1444) × (length (now names) ≡ 18144) × (routeCount (now numbers) < 32) × (length (now root) ≤ 16) ⌝ }
+    ensures { λ _. ⌜ cardOf (now (numbers .exit)) (now (names .exit))
+        ≡ withRoutes (cardOf (now (numbers .entry)) (now (names .entry)) .routes ++ (record { root = now (root .entry); via = via } ∷ [])) (cardOf (now (numbers .entry)) (now (names .entry))) ⌝ }
+{
+    let n = route_count(numbers);
+    put_text(names, 17600 + n * 17, root);
+    numbers[4 + n] = via;
+    numbers[2] = (n + 1) as u64;
+}
 
 // The route of the root whose place is i: its entry, or a new one behind the others.
 pub fn put_route(numbers: &mut [u64], names: &mut [u8], i: usize, root: &[u8], via: u64)
@@ -143,9 +192,7 @@ pub fn put_route(numbers: &mut [u64], names: &mut [u8], i: usize, root: &[u8], v
         numbers[4 + i] = via;
         return;
     }
-    put_text(names, 17600 + n * 17, root);
-    numbers[4 + n] = via;
-    numbers[2] = (n + 1) as u64;
+    append_route(numbers, names, root, via);
 }
 
 // A root's entry goes, and the gap is closed.

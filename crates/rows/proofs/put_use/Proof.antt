@@ -1,0 +1,56 @@
+use Rattle.rows.proofs.Rows.{put-use}
+use native.Mathlib.Omega.{arith}
+use borrow.Author.Needs.{needs}
+use Rattle.rows.proofs.put_use.Statement.{statement}
+use Rattle.rows.proofs.put_use.Tie as tie
+
+mul-put-text : tie.Need-mul-put-text
+mul-put-text c = search needs
+
+add-put-text : tie.Need-add-put-text
+add-put-text c = search needs
+
+put-text-requires : tie.Need-put-text-requires
+put-text-requires c κs = search needs
+
+use-of-requires : tie.Need-use-of-requires
+use-of-requires c κs = search needs
+
+add-numbers : tie.Need-add-numbers
+add-numbers c = omega (arith, c .use-of .ensures .1)
+
+add-numbers-2 : tie.Need-add-numbers-2
+add-numbers-2 c = search needs
+
+mul-numbers : tie.Need-mul-numbers
+mul-numbers c = search needs
+
+slice-write-numbers : tie.Need-slice-write-numbers
+slice-write-numbers c = search needs
+
+same-length : tie.Need-same-length
+same-length c = search needs
+
+same-length-2 : tie.Need-same-length-2
+same-length-2 c = search needs
+
+returns : tie.Need-returns
+returns c =
+    let s = c .before .before .before .before .before .before .before .before in
+    put-use (s .args .numbers .now) (s .args .names .now) _ (s .args .name .now) (s .args .p) (s .args .n) _ (s .args .held) (s .pre .2) (s .pre .3) (s .pre .4) (c .before .before .before .put-text .ensures) (s .pre .0) (s .pre .5) (c .use-of .ensures .0)
+
+pub put-use-spec : {M : Type 1} → statement M
+put-use-spec =
+    tie.close
+    (tie.spec
+    mul-put-text
+    add-put-text
+    put-text-requires
+    use-of-requires
+    add-numbers
+    add-numbers-2
+    mul-numbers
+    slice-write-numbers
+    same-length
+    same-length-2
+    returns)
