@@ -138,14 +138,7 @@ fn use_of(held: bool, n: u64) -> u64
 
 // The label at place p of the block, which no tree carries, is from now on mapped to neighbour n for that name, or awaits release
 // from n. Its mark names place 64, where no tree stands.
-pub fn put_use(
-    numbers: &mut [u64],
-    names: &mut [u8],
-    p: usize,
-    held: bool,
-    n: u64,
-    name: &[u8],
-)
+pub fn put_use(numbers: &mut [u64], names: &mut [u8], p: usize, held: bool, n: u64, name: &[u8])
     requires { ⌜ (length (now numbers) ≡ 1444) × (length (now names) ≡ 18144) × (p < 256) × (n < 16) × (length (now name) ≤ 54)
         × ((j : ℕ) → j < treeCount (now numbers) → treeAt j (cardOf (now numbers) (now names)) .label ≡ baseIn (now numbers) + p → ⊥) ⌝ }
     ensures { λ _. ⌜ cardOf (now (numbers .exit)) (now (names .exit))

@@ -1,0 +1,99 @@
+-- The fields of a save's records, as the code reads them: octets in a space, numbers, names. Assumes nothing.
+use Prim.Native.Nat.{ℕ, zero, suc, _+_, _*_, _-_, _/_, _%_, _≤_, _<_}
+use native.Mathlib.Nat.{suc-mul, add-zero}
+use native.Mathlib.Omega.{arith}
+use mathlib.Core.Path.{_≡_, refl, sym, ap, ap₂, _∙_}
+use mathlib.Core.Bool.{Bool, true, false}
+use mathlib.Core.List.{List, [], _∷_, _++_, append-assoc}
+use lib.ListN.{length, take, drop, getD, length-append, length-take, length-drop, drop-of-length-le}
+use lib.Seq.{take-take, take-all, take-length, take-at, drop-drop, getD-drop, length-take-le}
+use lib.Dec.{eqb, ltb}
+use borrow.Author.Tests.{ltb-true, ltb-false}
+use Rattle.meaning.specs.Octets.{pick, two, twoAt, fourAt}
+use Rattle.meaning.specs.Lists.{by-test, picked}
+use Rattle.meaning.specs.Wire.{element}
+use Rattle.meaning.specs.Save.{spacedIn, nameIn}
+use Rattle.octets.specs.Part.{mid}
+use Rattle.octets.proofs.Laws.{mid-length}
+use Rattle.table.specs.Memory.{upTo}
+
+-- ---- numbers behind what was dropped
+
+module _ (o : List ℕ) (at : ℕ) where
+  pub two-drop : (i : ℕ) → twoAt (drop at o) i ≡ twoAt o (at + i)
+  unfolding twoAt
+  two-drop i =
+      let e : at + (i + 1) ≡ at + i + 1 = omega arith in
+      ap₂ (λ (x y : ℕ). x * 256 + y) (getD-drop at o i 0) (getD-drop at o (i + 1) 0 ∙ ap (λ (k : ℕ). getD o k 0) e)
+
+  pub four-drop : (i : ℕ) → fourAt (drop at o) i ≡ fourAt o (at + i)
+  unfolding fourAt
+  four-drop i =
+      let e : at + (i + 2) ≡ at + i + 2 = omega arith in
+      ap₂ (λ (x y : ℕ). x * 65536 + y) (two-drop i) (two-drop (i + 2) ∙ ap (twoAt o) e)
+
+-- ---- octets in a space
+
+upTo-take : (n k : ℕ) (l : List ℕ) → take (upTo n k) l ≡ take k (take n l)
+unfolding upTo
+upTo-take n k l =
+    by-test (ltb k n)
+    (λ t. let h : k < n = ltb-true k n t in rw t (sym (take-take k n l (omega arith))))
+    (λ t. let h : n ≤ k = ltb-false k n t in rw t (sym (take-all k (take n l) (simp length-take (omega arith)))))
+
+pub spaced-at : (o : List ℕ) (at n k e m : ℕ) → at < length o → k ≡ getD o at 0 → m ≡ upTo n k → e ≡ upTo (length o - (at + 1)) m
+    → (take (at + 1 + e - (at + 1)) (drop (at + 1) o) ≡ spacedIn n (drop at o)) × (length (take (at + 1 + e - (at + 1)) (drop (at + 1) o)) ≤ n)
+unfolding spacedIn
+spaced-at o at n k e m h hk hm he =
+    let size : at + 1 + e - (at + 1) ≡ e = omega arith in
+    let rest : length (drop (at + 1) o) ≡ length o - (at + 1) = length-drop (at + 1) o in
+    let cut : take e (drop (at + 1) o) ≡ take k (take n (drop (at + 1) o)) =
+    rw (he, ← rest) (upTo-take (length (drop (at + 1) o)) m (drop (at + 1) o) ∙ ap (take m) (take-length (drop (at + 1) o)) ∙ rw hm (upTo-take n k (drop (at + 1) o))) in
+    let first : getD (drop at o) 0 0 ≡ k = getD-drop at o 0 0 ∙ rw (add-zero at) (sym hk) in
+    (rw (size, first, drop-drop 1 at o) cut, rw (size, cut) (simp length-take (omega arith)))
+
+pub spaced-out : (o : List ℕ) (at n : ℕ) → length o ≤ at → (_≡_ {A = List ℕ} [] (spacedIn n (drop at o))) × (0 ≤ n)
+unfolding spacedIn
+spaced-out o at n h = (rw (drop-of-length-le o {i = at} h) refl, omega arith)
+
+-- ---- a name
+
+pub two-small : (n : ℕ) → n < 256 → two n ≡ 0 ∷ n ∷ []
+unfolding two
+two-small n h =
+    let high : n / 256 % 256 ≡ 0 = omega arith in
+    let low : n % 256 ≡ n = omega arith in
+    cc
+
+pub head-put : (out : List ℕ) (f k : ℕ) → out ≡ 6 ∷ 0 ∷ f ∷ k ∷ [] → f ≡ pick (eqb k 4) 1 2 → out ≡ 6 ∷ (two (pick (eqb k 4) 1 2) ++ (k ∷ []))
+head-put out f k e h =
+    let small : f < 256 = rw h (picked (λ (n : ℕ). n < 256) (eqb k 4) (λ _. omega arith) (λ _. omega arith)) in
+    rw (← h, two-small f small) e
+
+-- one part more at the front
+take-mid : (a k e : ℕ) (xs p ys : List ℕ) → take a xs ≡ p → a ≤ length xs → length ys ≡ k → e ≡ a + k → take e (mid a k xs ys) ≡ p ++ ys
+take-mid a k e xs p ys hp ha hy he =
+    let l : length (take a xs ++ ys) ≡ e = length-append (take a xs) ys ∙ omega (arith, length-take-le a xs ha) in
+    ap (take e) (sym (append-assoc (take a xs) ys (drop k (drop a xs)))) ∙ take-at (take a xs ++ ys) (drop k (drop a xs)) e l ∙ ap (λ (l : List ℕ). l ++ ys) hp
+
+regroup : (us vs ws zs : List ℕ) → ((us ++ vs) ++ ws) ++ zs ≡ us ++ (vs ++ (ws ++ zs))
+regroup us vs ws zs = simp append-assoc
+
+-- the four parts of a name, each written behind the others
+module _ (xs us vs ws zs root opaque : List ℕ) (a b e : ℕ) (hl : length xs ≡ 54) (hr : length root ≤ 16) (ho : length opaque ≤ 32) (ha : a ≡ 4 + length root) (hb : b ≡ a + 2) (he : e ≡ b + length opaque) where
+  pub name-put : us ≡ 6 ∷ (two (pick (eqb (length root) 4) 1 2) ++ (length root ∷ [])) → vs ≡ root → ws ≡ two (length opaque) → zs ≡ opaque
+      → take e (mid b (e - b) (mid a (b - a) (mid 4 (a - 4) (mid 0 4 xs us) vs) ws) zs) ≡ element (pick (eqb (length root) 4) 1 2) root opaque
+  unfolding element two
+  name-put hu hv hw hz =
+      let p : take 4 (mid 0 4 xs us) ≡ us = take-mid 0 4 4 xs [] us refl (omega arith) (ap length hu) refl in
+      let lp : length (mid 0 4 xs us) ≡ 54 = mid-length 0 4 xs us (omega arith) (ap length hu) ∙ hl in
+      let q : take a (mid 4 (a - 4) (mid 0 4 xs us) vs) ≡ us ++ vs = take-mid 4 (a - 4) a (mid 0 4 xs us) us vs p (omega arith) (ap length hv ∙ omega arith) (omega arith) in
+      let lq : length (mid 4 (a - 4) (mid 0 4 xs us) vs) ≡ 54 = mid-length 4 (a - 4) (mid 0 4 xs us) vs (omega arith) (ap length hv ∙ omega arith) ∙ lp in
+      let r : take b (mid a (b - a) (mid 4 (a - 4) (mid 0 4 xs us) vs) ws) ≡ (us ++ vs) ++ ws = take-mid a (b - a) b (mid 4 (a - 4) (mid 0 4 xs us) vs) (us ++ vs) ws q (omega arith) (ap length hw ∙ omega arith) (omega arith) in
+      let lr : length (mid a (b - a) (mid 4 (a - 4) (mid 0 4 xs us) vs) ws) ≡ 54 = mid-length a (b - a) (mid 4 (a - 4) (mid 0 4 xs us) vs) ws (omega arith) (ap length hw ∙ omega arith) ∙ lq in
+      take-mid b (e - b) e (mid a (b - a) (mid 4 (a - 4) (mid 0 4 xs us) vs) ws) ((us ++ vs) ++ ws) zs r (omega arith) (ap length hz ∙ omega arith) (omega arith)
+      ∙ regroup us vs ws zs ∙ rw (hu, hv, hw, hz) refl
+
+pub name-in : (o root opaque : List ℕ) (at : ℕ) → root ≡ spacedIn 16 (drop at o) → opaque ≡ spacedIn 32 (drop (at + 17) o) → element (pick (eqb (length root) 4) 1 2) root opaque ≡ nameIn (drop at o)
+unfolding nameIn
+name-in o root opaque at hr ho = rw (hr, ho, ← drop-drop 17 at o) refl
