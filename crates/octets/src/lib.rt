@@ -89,6 +89,17 @@ pub fn copy(dst: &mut [u8], src: &[u8])
     }
 }
 
+pub fn copy_numbers(dst: &mut [u64], src: &[u64])
+    requires { ⌜ length (now src) ≡ length (now dst) ⌝ }
+    ensures { λ _. ⌜ now (dst .exit) ≡ now (src .entry) ⌝ }
+{
+    let mut i = 0;
+    while i < src.len() {
+        dst[i] = src[i];
+        i += 1;
+    }
+}
+
 // Eight octets from one place of a slice to another, all read before one is written: one load and one store when compiled.
 fn copy_eight(s: &mut [u8], from: usize, to: usize)
     requires { ⌜ (from + 8 ≤ length (now s)) × (to + 8 ≤ length (now s)) ⌝ }

@@ -284,3 +284,19 @@ fn read_labels(octets: &[u8], numbers: &mut [u64], names: &mut [u8])
     );
     label_trees(numbers, names);
 }
+
+// The table in the octets, into memory that held anything. False where the octets can be no save.
+pub fn decode(octets: &[u8], numbers: &mut [u64], names: &mut [u8]) -> bool
+    requires { ⌜ (length (now numbers) ≡ 1444) × (length (now names) ≡ 18144) ⌝ }
+    ensures { λ r. ⌜ (r ≡ true → cardOf (now (numbers .exit)) (now (names .exit)) ≡ tableIn (now (octets .entry))) × (r ≡ false → isSave (now (octets .entry)) ≡ false) ⌝ }
+{
+    if !is_head(octets) {
+        return false;
+    }
+    read_rows(octets, numbers, names);
+    if !rules::names_once(numbers, names) {
+        return false;
+    }
+    read_labels(octets, numbers, names);
+    true
+}
