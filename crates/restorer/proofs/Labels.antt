@@ -1,17 +1,17 @@
 -- The labels' records, one after the other, and the label that each tree then carries. Assumes nothing.
-use Prim.Native.Nat.{ℕ, zero, suc, _+_, _*_, _-_, _%_, _≤_, _<_, suc-le-suc}
+use Prim.Native.Nat.{ℕ, zero, suc, _+_, _*_, _-_, _%_, _≤_, _<_}
 use native.Mathlib.Nat.{suc-mul, not-suc-le-zero, le-of-suc-le-suc}
 use native.Mathlib.Numerals.{add-one}
 use native.Mathlib.Omega.{arith}
-use mathlib.Core.Path.{_≡_, refl, sym, ap, ap₂, _∙_}
+use mathlib.Core.Path.{_≡_, refl, sym, ap, _∙_}
 use mathlib.Core.Bool.{Bool, true, false}
-use mathlib.Core.List.{List, [], _∷_, _++_}
+use mathlib.Core.List.{List, [], _∷_}
 use lib.ListN.{length, drop, getD, set, length-set}
 use lib.Seq.{drop-drop, getD-drop, set-getD, set-out}
 use lib.Dec.{eqb, leb, ltb}
 use borrow.Author.Tests.{lt-ltb, le-ltb, ltb-true, ltb-false, leb-true, leb-false}
 use Rattle.meaning.specs.Octets.{pick, place, any, same, fourAt}
-use Rattle.meaning.specs.Lists.{by-test, place-finds, same-eq, same-refl, same-no}
+use Rattle.meaning.specs.Lists.{by-test, place-finds, same-eq, same-no}
 use Rattle.meaning.specs.Card.{Tree, Use, free, mapped, awaiting, Card, withTrees, withLabels, withLabel, bare, treeAt, named}
 use Rattle.meaning.specs.Events.{setLabel}
 use Rattle.meaning.specs.Save.{nameIn, useRead, usesRead, isMappedFor, labelled, allLabelled, onceEach, sameName}

@@ -1,20 +1,20 @@
 -- What a save's head has to say, and the whole table from its parts. Assumes nothing.
-use Prim.Native.Nat.{ℕ, zero, suc, _+_, _*_, _-_, _≤_, _<_}
+use Prim.Native.Nat.{ℕ, suc, _+_, _*_, _-_, _≤_}
 use native.Mathlib.Omega.{arith}
-use mathlib.Core.Path.{_≡_, refl, sym, ap, ap₂, _∙_}
-use mathlib.Core.Bool.{Bool, true, false, not, _&&_}
+use mathlib.Core.Path.{_≡_, refl, sym, ap, _∙_}
+use mathlib.Core.Bool.{Bool, true, false}
 use mathlib.Core.List.{List, [], _∷_, _++_}
-use lib.ListN.{length, drop, getD, replicate}
-use lib.Seq.{drop-drop}
-use lib.Dec.{eqb, leb, ltb}
+use lib.ListN.{length, take, drop, getD, replicate}
+use lib.Seq.{drop-drop, take-append-seam}
+use lib.Dec.{leb}
 use borrow.Author.Tests.{leb-true, not-true, not-false}
-use Rattle.meaning.specs.Octets.{pick, any, same, twoAt, fourAt}
-use Rattle.meaning.specs.Lists.{by-test}
+use Rattle.meaning.specs.Octets.{any, same, two, four, twoAt, fourAt}
+use Rattle.meaning.specs.Lists.{by-test, same-eq}
 use Rattle.meaning.specs.RoundTrip.{both}
-use Rattle.meaning.specs.Card.{Route, Tree, Use, free, Card, fresh, withNext, withRoutes, withTrees, withLabels, withLabel, bare, treeAt, named}
-use Rattle.meaning.specs.Events.{baseOutside}
-use Rattle.meaning.specs.Save.{treeRead, routesRead, treesRead, usesRead, labelled, allLabelled, onceEach, sameName, keepsRules, tableIn, isSave}
-use Rattle.table.specs.Memory.{cardOf}
+use Rattle.meaning.specs.Card.{Route, Tree, Use, free, Card, fresh, withNext, withRoutes, withTrees, withLabels, withLabel, treeAt, named}
+use Rattle.meaning.specs.Events.{baseOutside, refuse}
+use Rattle.meaning.specs.Calls.{over}
+use Rattle.meaning.specs.Save.{marked, headSaved, routesRead, treesRead, usesRead, labelled, allLabelled, onceEach, sameName, keepsRules, saved, tableIn, isSave, restore}
 use Rattle.table.proofs.Marks.{never}
 use Rattle.restorer.specs.Stages.{Unlabelled, headRead, treesBegin, rowsRead}
 use Rattle.restorer.proofs.Rows.{routes-many, trees-many, trees-bare}
@@ -49,18 +49,29 @@ unfolding onceEach allLabelled
 all-once b us [] = refl
 all-once b us (t ∷ ts) = rw (any-named b us t ts, all-once b us ts) refl
 
+-- the number of labels in the head of a save, which has not more than there are
+written-labels : (c : Card) (rest : List ℕ) → twoAt (headSaved c ++ rest) 13 ≤ 256
+unfolding headSaved marked four two twoAt
+written-labels c rest = omega arith
+
+saved-labels : (c : Card) → twoAt (saved c) 13 ≤ 256
+unfolding saved
+saved-labels c = written-labels c _
+
 module _ (o : List ℕ) where
   pub record Head : Type 0 where
     pub low : 16 ≤ fourAt o 3
     pub high : fourAt o 3 ≤ 1048320
     pub routes : getD o 11 0 ≤ 32
     pub trees : getD o 12 0 ≤ 64
+    pub labels : twoAt o 13 ≤ 256
     pub names : onceEach sameName (rowsRead o .trees) ≡ true
 
   saved-head : isSave o ≡ true → Head
   unfolding isSave tableIn rowsRead withTrees treesBegin
   saved-head e =
       let us : List Use = usesRead (fourAt o 3) (twoAt o 13) (drop (getD o 12 0 * 118) (drop (15 + getD o 11 0 * 21) o)) (replicate 256 free) in
+      let again : saved (tableIn o) ≡ o = same-eq (saved (tableIn o)) o (both (keepsRules (tableIn o)) _ e .1) in
       let k = keeps-parts (tableIn o) (both (keepsRules (tableIn o)) _ e .0) in
       let b = base-inside (fourAt o 3) (k .0) in
       record {
@@ -68,6 +79,7 @@ module _ (o : List ℕ) where
         high = b .1;
         routes = rw (routes-many (getD o 11 0) (drop 15 o)) at (k .1);
         trees = rw (all-length (fourAt o 3) us (treesRead (getD o 12 0) (drop (15 + getD o 11 0 * 21) o)), trees-many (getD o 12 0) (drop (15 + getD o 11 0 * 21) o)) at (k .2);
+        labels = rw again at (saved-labels (tableIn o));
         names = sym (all-once (fourAt o 3) us (treesRead (getD o 12 0) (drop (15 + getD o 11 0 * 21) o))) ∙ k .3;
       }
 
@@ -98,3 +110,31 @@ module _ (o : List ℕ) where
       → n ≡ twoAt o 13 → routes ≡ getD o 11 0 → trees ≡ getD o 12 0 → t ≡ tableIn o
   unfolding tableIn rowsRead headRead treesBegin withLabels withTrees withRoutes withNext fresh
   table-whole n routes trees c d t ec ed et en er es = rw (et, ed, ec, en, er, es, ← drop-drop (getD o 12 0 * 118) (15 + getD o 11 0 * 21) o) refl
+
+  pub names-not : (c : Card) → c ≡ rowsRead o → onceEach sameName (c .trees) ≡ false → isSave o ≡ false
+  names-not c e n = no-save (λ h. never (sym n ∙ ap (λ (x : Card). onceEach sameName (x .trees)) e ∙ h .names))
+
+  -- ---- the octets that its save are
+
+  pub not-taken : (c : Card) → c ≡ tableIn o → keepsRules c ≡ false → isSave o ≡ false
+  unfolding isSave
+  not-taken c e k = rw (← e, k) refl
+
+  pub taken : (c : Card) (r : Bool) → c ≡ tableIn o → keepsRules c ≡ true → r ≡ same (saved c) o → r ≡ isSave o
+  unfolding isSave
+  taken c r e k h = rw (← e, k) h
+
+  pub refused : (c : Card) → isSave o ≡ false → (19 ≡ restore o c .answer) × (c ≡ restore o c .card)
+  unfolding restore refuse
+  refused c e = rw e (refl, refl)
+
+  pub restored : (c d : Card) → isSave o ≡ true → d ≡ tableIn o → (0 ≡ restore o c .answer) × (d ≡ restore o c .card)
+  unfolding restore
+  restored c d e h = rw e (refl, h)
+
+-- what was written over the front
+pub over-front : (s t l : List ℕ) (n : ℕ) → l ≡ over s t → n ≡ length s → take (n - 0) l ≡ s
+unfolding over
+over-front s t l n e h =
+    let k : n - 0 ≡ length s = omega arith in
+    rw (k, e) (take-append-seam s (drop (length s) t))

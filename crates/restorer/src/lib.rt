@@ -4,10 +4,10 @@ ghost use mathlib.Core.Bool.{true, false};
 ghost use mathlib.Core.List.{List, [], _∷_, _++_};
 ghost use Prim.Native.Nat.{ℕ, _+_, _-_, _*_, _≤_, _<_};
 ghost use lib.ListN.{length, take, drop, set, getD};
-ghost use Rattle.meaning.specs.Octets.{pick, place, two, fourAt};
+ghost use Rattle.meaning.specs.Octets.{pick, place, same, two, fourAt};
 ghost use lib.Dec.{eqb};
 ghost use Rattle.meaning.specs.Card.{withRoutes, withTrees, withLabels, bare, treeAt};
-ghost use Rattle.meaning.specs.Save.{spacedIn, nameIn, routeRead, treeRead, useRead, foursIn, routesRead, treesRead, usesRead, isMappedFor, labelled, allLabelled, sameName, onceEach, tableIn, isSave};
+ghost use Rattle.meaning.specs.Save.{spacedIn, nameIn, routeRead, treeRead, useRead, foursIn, routesRead, treesRead, usesRead, isMappedFor, labelled, allLabelled, sameName, onceEach, saved, tableIn, isSave, restore};
 ghost use Rattle.table.specs.Memory.{cardOf, treeCount, routeCount, upTo, isMappedAt, labelIn};
 ghost use Rattle.restorer.specs.Stages.{withBranches, Unlabelled, Ready, rowsRead};
 
@@ -235,7 +235,7 @@ fn label_trees(numbers: &mut [u64], names: &[u8])
 
 // ---- the whole
 
-// A head that no table keeping the rules would write: a base out of range, or too many routes or trees.
+// Whether the head may be that of a save: its base is in range, and its routes, trees and labels are not too many.
 fn is_head(octets: &[u8]) -> bool
     ensures { λ r. ⌜ (r ≡ true → (16 ≤ fourAt (now (octets .entry)) 3) × (fourAt (now (octets .entry)) 3 ≤ 1048320) × (getD (now (octets .entry)) 11 0 ≤ 32) × (getD (now (octets .entry)) 12 0 ≤ 64))
         × (r ≡ false → isSave (now (octets .entry)) ≡ false) ⌝ }
@@ -248,6 +248,9 @@ fn is_head(octets: &[u8]) -> bool
         return false;
     }
     if 32 < octets::at(octets, 11) {
+        return false;
+    }
+    if 256 < octets::two_at(octets, 13) {
         return false;
     }
     octets::at(octets, 12) <= 64
@@ -299,4 +302,56 @@ pub fn decode(octets: &[u8], numbers: &mut [u64], names: &mut [u8]) -> bool
     }
     read_labels(octets, numbers, names);
     true
+}
+
+// ---- the call
+
+// Whether the save of the table in the memory is these octets.
+fn is_saved_as(numbers: &[u64], names: &[u8], octets: &[u8]) -> bool
+    requires { ⌜ (length (now numbers) ≡ 1444) × (length (now names) ≡ 18144) ⌝ }
+    ensures { λ r. ⌜ r ≡ same (saved (cardOf (now (numbers .entry)) (now (names .entry)))) (now (octets .entry)) ⌝ }
+{
+    if octets.len() != saver::saved_size(numbers) {
+        return false;
+    }
+    let mut again = [0u8; 23343];
+    let n = saver::write_save(numbers, names, &mut again);
+    octets::equal(&again[0..n], octets)
+}
+
+// Whether the octets are a save; where they are, its table is in the memory, which held anything.
+fn is_taken(octets: &[u8], numbers: &mut [u64], names: &mut [u8]) -> bool
+    requires { ⌜ (length (now numbers) ≡ 1444) × (length (now names) ≡ 18144) ⌝ }
+    ensures { λ r. ⌜ (r ≡ isSave (now (octets .entry))) × (r ≡ true → cardOf (now (numbers .exit)) (now (names .exit)) ≡ tableIn (now (octets .entry))) ⌝ }
+{
+    if !decode(octets, numbers, names) {
+        return false;
+    }
+    if !rules::keeps_rules(numbers, names) {
+        return false;
+    }
+    is_saved_as(numbers, names, octets)
+}
+
+fn put_over(numbers: &mut [u64], names: &mut [u8], from: &[u64], octets: &[u8])
+    requires { ⌜ (length (now from) ≡ length (now numbers)) × (length (now octets) ≡ length (now names)) ⌝ }
+    ensures { λ _. ⌜ (now (numbers .exit) ≡ now (from .entry)) × (now (names .exit) ≡ now (octets .entry)) ⌝ }
+{
+    octets::copy_numbers(numbers, from);
+    octets::copy(names, octets);
+}
+
+// Takes back a save: 0, with its table in the card's memory, or 19, with the memory as it was. The table is read into memory of the
+// call's own first, so that octets that are no save change nothing.
+pub fn restore(numbers: &mut [u64; 1444], names: &mut [u8; 18144], octets: &[u8]) -> u32
+    ensures { λ r. ⌜ (r ≡ restore (now (octets .entry)) (cardOf (now (numbers .entry)) (now (names .entry))) .answer)
+        × (cardOf (now (numbers .exit)) (now (names .exit)) ≡ restore (now (octets .entry)) (cardOf (now (numbers .entry)) (now (names .entry))) .card) ⌝ }
+{
+    let mut read = [0u64; 1444];
+    let mut held = [0u8; 18144];
+    if !is_taken(octets, &mut read, &mut held) {
+        return 19;
+    }
+    put_over(numbers, names, &read, &held);
+    0
 }

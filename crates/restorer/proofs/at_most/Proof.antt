@@ -1,8 +1,7 @@
-use borrow.Author.Needs.{needs}
-use Rattle.table.specs.Memory.{upTo}
-use borrow.Author.Tests.{lt-ltb, le-ltb}
-use mathlib.Core.Path.{_≡_, refl, sym, ap, _∙_}
 use native.Mathlib.Omega.{arith}
+use mathlib.Core.Path.{refl}
+use borrow.Author.Tests.{lt-ltb, le-ltb}
+use Rattle.table.specs.Memory.{upTo}
 use Rattle.restorer.proofs.at_most.Statement.{statement}
 use Rattle.restorer.proofs.at_most.Tie as tie
 

@@ -1,6 +1,6 @@
 use Prim.Native.Nat.{_-_}
-use mathlib.Core.Path.{_≡_, refl, sym, ap, _∙_}
 use native.Mathlib.Omega.{arith}
+use mathlib.Core.Path.{_≡_}
 use borrow.Author.Needs.{needs}
 use Rattle.restorer.proofs.enter_name.Statement.{statement}
 use Rattle.restorer.proofs.enter_name.Tie as tie

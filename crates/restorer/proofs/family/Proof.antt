@@ -1,7 +1,5 @@
-use borrow.Author.Needs.{needs}
+use mathlib.Core.Path.{refl}
 use borrow.Author.Tests.{eq-eqb, ne-eqb}
-use mathlib.Core.Path.{_≡_, refl, sym, ap, _∙_}
-use native.Mathlib.Omega.{arith}
 use Rattle.restorer.proofs.family.Statement.{statement}
 use Rattle.restorer.proofs.family.Tie as tie
 

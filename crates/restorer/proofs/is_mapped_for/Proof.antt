@@ -1,10 +1,8 @@
-use Rattle.restorer.proofs.Labels.{mapped-not, mapped-named}
-use Rattle.table.proofs.Marks.{never}
-use Rattle.meaning.specs.Octets.{same}
-use mathlib.Core.Bool.{true, false}
-use mathlib.Core.Path.{_≡_, refl, sym, ap, _∙_}
-use native.Mathlib.Omega.{arith}
+use mathlib.Core.Path.{sym, ap, _∙_}
 use borrow.Author.Needs.{needs}
+use Rattle.meaning.specs.Octets.{same}
+use Rattle.table.proofs.Marks.{never}
+use Rattle.restorer.proofs.Labels.{mapped-not, mapped-named}
 use Rattle.restorer.proofs.is_mapped_for.Statement.{statement}
 use Rattle.restorer.proofs.is_mapped_for.Tie as tie
 

@@ -1,7 +1,5 @@
-use Rattle.restorer.proofs.Labels.{label-out, label-in, none-has}
-use mathlib.Core.Path.{_≡_, refl, sym, ap, _∙_}
-use native.Mathlib.Omega.{arith}
 use borrow.Author.Needs.{needs}
+use Rattle.restorer.proofs.Labels.{label-out, label-in, none-has}
 use Rattle.restorer.proofs.label_tree.Statement.{statement}
 use Rattle.restorer.proofs.label_tree.Tie as tie
 

@@ -1,11 +1,10 @@
-use borrow.Author.Needs.{needs}
-use Rattle.restorer.proofs.Labels.{Labelled, labelled-none, labelled-in, labelled-ready, labelled-more, labelled-all}
-use Rattle.table.specs.Memory.{treeCount}
-use lib.ListN.{length}
-use Prim.Native.Nat.{_<_}
-use Prim.Native.Nat.{_-_, _≤_}
-use mathlib.Core.Path.{_≡_, refl, sym, ap, _∙_}
+use Prim.Native.Nat.{_<_, _-_, _≤_}
 use native.Mathlib.Omega.{arith}
+use mathlib.Core.Path.{_≡_, refl, _∙_}
+use lib.ListN.{length}
+use borrow.Author.Needs.{needs}
+use Rattle.table.specs.Memory.{treeCount}
+use Rattle.restorer.proofs.Labels.{Labelled, labelled-none, labelled-in, labelled-ready, labelled-more, labelled-all}
 use Rattle.restorer.proofs.label_trees.Statement.{statement}
 use Rattle.restorer.proofs.label_trees.Tie as tie
 

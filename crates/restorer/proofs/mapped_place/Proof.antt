@@ -1,14 +1,14 @@
+use Prim.Native.Nat.{_+_, _-_, _≤_}
+use native.Mathlib.Omega.{arith}
+use mathlib.Core.Path.{_≡_, sym, _∙_}
+use lib.ListN.{drop}
 use borrow.Author.Needs.{needs}
-use Rattle.restorer.proofs.Labels.{mapped-start}
-use Rattle.table.specs.Memory.{cardOf, labelIn}
-use Rattle.octets.proofs.Tab.{place-hit, place-miss, place-none}
-use Rattle.octets.specs.Part.{tab}
 use Rattle.meaning.specs.Save.{isMappedFor}
 use Rattle.meaning.specs.Octets.{place}
-use lib.ListN.{drop}
-use Prim.Native.Nat.{_+_, _-_, _≤_}
-use mathlib.Core.Path.{_≡_, refl, sym, ap, _∙_}
-use native.Mathlib.Omega.{arith}
+use Rattle.octets.proofs.Tab.{place-hit, place-miss, place-none}
+use Rattle.octets.specs.Part.{tab}
+use Rattle.table.specs.Memory.{cardOf, labelIn}
+use Rattle.restorer.proofs.Labels.{mapped-start}
 use Rattle.restorer.proofs.mapped_place.Statement.{statement}
 use Rattle.restorer.proofs.mapped_place.Tie as tie
 

@@ -1,7 +1,5 @@
-use Rattle.restorer.proofs.Read.{head-put}
-use mathlib.Core.Path.{_≡_, refl, sym, ap, _∙_}
-use native.Mathlib.Omega.{arith}
 use borrow.Author.Needs.{needs}
+use Rattle.restorer.proofs.Read.{head-put}
 use Rattle.restorer.proofs.put_head.Statement.{statement}
 use Rattle.restorer.proofs.put_head.Tie as tie
 

@@ -1,7 +1,7 @@
-use Rattle.restorer.proofs.Read.{name-put, name-in}
-use mathlib.Core.Path.{_≡_, refl, sym, ap, _∙_}
 use native.Mathlib.Omega.{arith}
+use mathlib.Core.Path.{refl, _∙_}
 use borrow.Author.Needs.{needs}
+use Rattle.restorer.proofs.Read.{name-put, name-in}
 use Rattle.restorer.proofs.put_name.Statement.{statement}
 use Rattle.restorer.proofs.put_name.Tie as tie
 

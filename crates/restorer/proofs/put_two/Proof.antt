@@ -1,7 +1,7 @@
-use Rattle.restorer.proofs.Read.{two-small}
-use mathlib.Core.Path.{_≡_, refl, sym, ap, _∙_}
 use native.Mathlib.Omega.{arith}
+use mathlib.Core.Path.{sym, _∙_}
 use borrow.Author.Needs.{needs}
+use Rattle.restorer.proofs.Read.{two-small}
 use Rattle.restorer.proofs.put_two.Statement.{statement}
 use Rattle.restorer.proofs.put_two.Tie as tie
 

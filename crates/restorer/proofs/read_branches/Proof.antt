@@ -1,10 +1,10 @@
+use Prim.Native.Nat.{ℕ, _-_, _≤_}
+use native.Mathlib.Omega.{arith}
+use mathlib.Core.List.{List}
+use mathlib.Core.Path.{_≡_, refl, _∙_}
+use lib.ListN.{length}
 use borrow.Author.Needs.{needs}
 use Rattle.restorer.proofs.Rows.{Branched, branched-none, branched-in, branched-more, branched-all}
-use lib.ListN.{length}
-use mathlib.Core.List.{List}
-use Prim.Native.Nat.{ℕ, _-_, _≤_}
-use mathlib.Core.Path.{_≡_, refl, sym, ap, _∙_}
-use native.Mathlib.Omega.{arith}
 use Rattle.restorer.proofs.read_branches.Statement.{statement}
 use Rattle.restorer.proofs.read_branches.Tie as tie
 

@@ -1,11 +1,10 @@
-use Rattle.restorer.proofs.Labels.{unlabelled-kept, once-kept}
-use Rattle.table.specs.Memory.{cardOf}
-use Rattle.restorer.proofs.Labels.{unlabelled-kept}
-use Rattle.restorer.proofs.Whole.{rows-unlabelled, table-whole}
-use Rattle.meaning.specs.Card.{Card}
-use mathlib.Core.Path.{_≡_, refl, sym, ap, _∙_}
 use native.Mathlib.Omega.{arith}
+use mathlib.Core.Path.{_∙_}
 use borrow.Author.Needs.{needs}
+use Rattle.meaning.specs.Card.{Card}
+use Rattle.table.specs.Memory.{cardOf}
+use Rattle.restorer.proofs.Labels.{unlabelled-kept, once-kept}
+use Rattle.restorer.proofs.Whole.{rows-unlabelled, table-whole}
 use Rattle.restorer.proofs.read_labels.Statement.{statement}
 use Rattle.restorer.proofs.read_labels.Tie as tie
 

@@ -1,9 +1,5 @@
-use Rattle.restorer.proofs.Rows.{route-read}
-use Rattle.meaning.specs.Card.{Route, withRoutes}
-use mathlib.Core.List.{[], _∷_, _++_}
-use mathlib.Core.Path.{_≡_, refl, sym, ap, _∙_}
-use native.Mathlib.Omega.{arith}
 use borrow.Author.Needs.{needs}
+use Rattle.restorer.proofs.Rows.{route-read}
 use Rattle.restorer.proofs.read_route.Statement.{statement}
 use Rattle.restorer.proofs.read_route.Tie as tie
 

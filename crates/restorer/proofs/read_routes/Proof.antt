@@ -1,12 +1,12 @@
+use Prim.Native.Nat.{_-_, _≤_}
+use native.Mathlib.Omega.{arith}
+use mathlib.Core.Path.{_≡_, refl, _∙_}
+use lib.ListN.{length, drop}
 use borrow.Author.Needs.{needs}
-use Rattle.restorer.proofs.Rows.{routes-none, routes-more, routes-room}
-use Rattle.table.specs.Memory.{cardOf}
 use Rattle.meaning.specs.Save.{routesRead}
 use Rattle.meaning.specs.Card.{withRoutes}
-use lib.ListN.{length, drop}
-use Prim.Native.Nat.{_-_, _≤_}
-use mathlib.Core.Path.{_≡_, refl, sym, ap, _∙_}
-use native.Mathlib.Omega.{arith}
+use Rattle.table.specs.Memory.{cardOf}
+use Rattle.restorer.proofs.Rows.{routes-none, routes-more, routes-room}
 use Rattle.restorer.proofs.read_routes.Statement.{statement}
 use Rattle.restorer.proofs.read_routes.Tie as tie
 

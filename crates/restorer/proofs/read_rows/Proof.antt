@@ -1,8 +1,7 @@
-use Rattle.restorer.proofs.Whole.{rows-whole, head-empty, still-empty}
-use Rattle.meaning.specs.Card.{Card}
-use mathlib.Core.Path.{_≡_, refl, sym, ap, _∙_}
 use native.Mathlib.Omega.{arith}
+use mathlib.Core.Path.{_∙_}
 use borrow.Author.Needs.{needs}
+use Rattle.restorer.proofs.Whole.{rows-whole, head-empty, still-empty}
 use Rattle.restorer.proofs.read_rows.Statement.{statement}
 use Rattle.restorer.proofs.read_rows.Tie as tie
 

@@ -1,11 +1,11 @@
-use lib.Dec.{eqb}
+use native.Mathlib.Omega.{arith}
 use mathlib.Core.Bool.{not}
-use Rattle.restorer.proofs.Rows.{entered, changed, tree-made}
+use mathlib.Core.Path.{sym, ap, _∙_}
+use lib.Dec.{eqb}
+use borrow.Author.Needs.{needs}
 use Rattle.table.proofs.Memory.{trees-length}
 use Rattle.table.specs.Memory.{cardOf}
-use mathlib.Core.Path.{_≡_, refl, sym, ap, _∙_}
-use native.Mathlib.Omega.{arith}
-use borrow.Author.Needs.{needs}
+use Rattle.restorer.proofs.Rows.{entered, changed, tree-made}
 use Rattle.restorer.proofs.read_tree.Statement.{statement}
 use Rattle.restorer.proofs.read_tree.Tie as tie
 

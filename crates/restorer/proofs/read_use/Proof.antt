@@ -1,9 +1,9 @@
-use lib.Dec.{eqb}
 use Prim.Native.Nat.{_-_, _%_}
-use Rattle.restorer.proofs.Labels.{use-out, use-put, none-carries}
-use mathlib.Core.Path.{_≡_, refl, sym, ap, _∙_}
 use native.Mathlib.Omega.{arith}
+use mathlib.Core.Path.{_≡_, ap}
+use lib.Dec.{eqb}
 use borrow.Author.Needs.{needs}
+use Rattle.restorer.proofs.Labels.{use-out, use-put, none-carries}
 use Rattle.restorer.proofs.read_use.Statement.{statement}
 use Rattle.restorer.proofs.read_use.Tie as tie
 

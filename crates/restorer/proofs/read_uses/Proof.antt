@@ -1,12 +1,12 @@
-use borrow.Author.Needs.{needs}
-use Rattle.restorer.proofs.Labels.{labels-none, labels-more, unlabelled-kept}
-use Rattle.table.specs.Memory.{cardOf}
-use Rattle.meaning.specs.Save.{usesRead}
-use Rattle.meaning.specs.Card.{Card, withLabels}
-use lib.ListN.{length, drop}
 use Prim.Native.Nat.{_-_, _≤_}
-use mathlib.Core.Path.{_≡_, refl, sym, ap, _∙_}
 use native.Mathlib.Omega.{arith}
+use mathlib.Core.Path.{_≡_, refl, _∙_}
+use lib.ListN.{length, drop}
+use borrow.Author.Needs.{needs}
+use Rattle.meaning.specs.Save.{usesRead}
+use Rattle.meaning.specs.Card.{withLabels}
+use Rattle.table.specs.Memory.{cardOf}
+use Rattle.restorer.proofs.Labels.{labels-none, labels-more, unlabelled-kept}
 use Rattle.restorer.proofs.read_uses.Statement.{statement}
 use Rattle.restorer.proofs.read_uses.Tie as tie
 

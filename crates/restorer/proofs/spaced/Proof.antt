@@ -1,7 +1,5 @@
-use Rattle.restorer.proofs.Read.{spaced-at, spaced-out}
-use mathlib.Core.Path.{_≡_, refl, sym, ap, _∙_}
-use native.Mathlib.Omega.{arith}
 use borrow.Author.Needs.{needs}
+use Rattle.restorer.proofs.Read.{spaced-at, spaced-out}
 use Rattle.restorer.proofs.spaced.Statement.{statement}
 use Rattle.restorer.proofs.spaced.Tie as tie
 
