@@ -1,6 +1,5 @@
 -- The laws by which the writer of saves follows the definitions. Assumes nothing.
 use Prim.Native.Nat.{ℕ, zero, suc, _+_, _*_, _-_, _%_, _≤_, _<_}
-use native.Mathlib.Nat.{suc-add}
 use native.Mathlib.Omega.{arith}
 use mathlib.Core.Path.{_≡_, refl, sym, ap, ap₂, _∙_}
 use mathlib.Core.Bool.{true, false}
@@ -9,7 +8,6 @@ use lib.ListN.{length, take, drop, getD, set, length-append, length-drop, drop-o
 use lib.Seq.{take-all}
 use borrow.Author.Tests.{lt-ltb, le-ltb}
 use Rattle.meaning.specs.Octets.{pick, two, four}
-use Rattle.meaning.specs.Lists.{append-nil}
 use Rattle.meaning.specs.Wire.{rootLength, rootIn, opaqueIn}
 use Rattle.meaning.specs.Card.{Card, Route, Tree, Use, mapped, awaiting, isFree, treeAt, freeLabels}
 use Rattle.meaning.specs.Save.{padded, spaced, nameSaved, marked, headSaved, routeSaved, foursOf, treeSaved, useSaved, routesSaved, treesSaved, usesSaved, saved, save}
@@ -17,12 +15,12 @@ use Rattle.meaning.specs.Events.{roomShort, refuse}
 use Rattle.meaning.specs.Calls.{over, Does}
 use Rattle.octets.specs.Part.{mid, tab}
 use Rattle.octets.proofs.Laws.{front, front-more, copy-done, mid-none}
-use Rattle.octets.proofs.Tab.{tab-length, tab-get, tab-ext, tab-is}
+use Rattle.octets.proofs.Tab.{tab-is}
 use Rattle.table.specs.Memory.{cardOf, baseIn, routeCount, treeCount, routeIn, treeIn, labelIn}
 use Rattle.table.proofs.Memory.{routes-length, trees-length, labels-length, tree-at}
 use Rattle.table.proofs.Laws.{branches-length}
 use Rattle.saver.specs.Laid.{laid}
-use Rattle.saver.proofs.Parts.{joined, joined-first, joined-ext, joined-length, all-joined, laid-all, laid-part, laid-then, laid-length, Rows, rows-none, rows-room, rows-lent, rows-done, two-parts}
+use Rattle.saver.proofs.Parts.{laid-part, laid-then, laid-all, two-parts, joined, joined-first, joined-ext, joined-length, all-joined, Lot, Stand, rows-lent, rows-done}
 use Rattle.saver.proofs.Sizes.{padded-at, padded-length, space-length, name-length, head-length, route-length, fours-length, tree-length, use-length, use-none, uses-length}
 
 -- ---- a text in its space: the octets written from the front, and their number before them
@@ -104,6 +102,15 @@ head-is ns os b i r t f eb ei er et ef =
 
 -- ---- rows
 
+-- the labels' numbers rise
+uses-joined : (n l : ℕ) (f : ℕ → Use) → usesSaved l (tab n f) ≡ joined n (λ i. useSaved (l + i) (f i))
+unfolding usesSaved tab
+uses-joined zero l f = unfold joined in refl
+uses-joined (suc n) l f =
+    let z : l + 0 ≡ l = omega arith in
+    ap₂ _++_ (ap (λ (k : ℕ). useSaved k (f 0)) (sym z)) (uses-joined n (suc l) (λ i. f (suc i)) ∙ joined-ext n _ _ (λ i h. let q : suc l + i ≡ l + suc i = omega arith in ap (λ (k : ℕ). useSaved k (f (suc i))) q))
+    ∙ sym (joined-first n (λ i. useSaved (l + i) (f i)))
+
 module _ (ns os : List ℕ) where
   abbrev pub routeRow : ℕ → List ℕ
   routeRow i = routeSaved (routeIn ns os i)
@@ -122,54 +129,43 @@ module _ (ns os : List ℕ) where
   unfolding cardOf treesSaved
   trees-rows = all-joined treeSaved treesSaved refl (λ x xs. refl) (treeCount ns) (treeIn ns os)
 
--- the labels' numbers rise
-uses-joined : (n l : ℕ) (f : ℕ → Use) → usesSaved l (tab n f) ≡ joined n (λ i. useSaved (l + i) (f i))
-unfolding usesSaved tab
-uses-joined zero l f = unfold joined in refl
-uses-joined (suc n) l f =
-    let z : l + 0 ≡ l = omega arith in
-    ap₂ _++_ (ap (λ (k : ℕ). useSaved k (f 0)) (sym z)) (uses-joined n (suc l) (λ i. f (suc i)) ∙ joined-ext n _ _ (λ i h. let q : suc l + i ≡ l + suc i = omega arith in ap (λ (k : ℕ). useSaved k (f (suc i))) q))
-    ∙ sym (joined-first n (λ i. useSaved (l + i) (f i)))
+  pub labels-rows : usesSaved (baseIn ns) (cardOf ns os .labels) ≡ joined 256 labelRow
+  unfolding cardOf
+  labels-rows = uses-joined 256 (baseIn ns) (labelIn ns os)
 
-pub labels-rows : (ns os : List ℕ) → usesSaved (baseIn ns) (cardOf ns os .labels) ≡ joined 256 (labelRow ns os)
-unfolding cardOf
-labels-rows ns os = uses-joined 256 (baseIn ns) (labelIn ns os)
+  module _ (at : ℕ) (xs : List ℕ) where
+    abbrev pub routes-lot : at + length (routesSaved (cardOf ns os .routes)) ≤ length xs → Lot
+    routes-lot h = record { row = routeRow; many = routeCount ns; from = at; whole = routesSaved (cardOf ns os .routes); out = xs; all = routes-rows; fits = h }
+
+    abbrev pub trees-lot : at + length (treesSaved (cardOf ns os .trees)) ≤ length xs → Lot
+    trees-lot h = record { row = treeRow; many = treeCount ns; from = at; whole = treesSaved (cardOf ns os .trees); out = xs; all = trees-rows; fits = h }
+
+    abbrev pub labels-lot : at + length (usesSaved (baseIn ns) (cardOf ns os .labels)) ≤ length xs → Lot
+    labels-lot h = record { row = labelRow; many = 256; from = at; whole = usesSaved (baseIn ns) (cardOf ns os .labels); out = xs; all = labels-rows; fits = h }
 
 -- ---- sixteen fours
 
 abbrev pub fourRow : List ℕ → ℕ → List ℕ
 fourRow bs k = four (getD bs k 0)
 
-four-length : (bs : List ℕ) (k : ℕ) → length (fourRow bs k) ≡ 4
-unfolding four
-four-length bs k = refl
-
-fours-rows : (bs : List ℕ) → length bs ≡ 16 → foursOf bs ≡ joined 16 (fourRow bs)
-unfolding foursOf
-fours-rows bs e =
-    ap foursOf (tab-is bs 16 (λ k. getD bs k 0) 0 e (λ k h. refl)) ∙ all-joined four foursOf refl (λ x xs. refl) 16 (λ k. getD bs k 0)
-
 module _ (bs xs : List ℕ) (l : length bs ≡ 16) (e : length xs ≡ 64) where
-  abbrev pub Fours : ℕ → List ℕ → Type 0
-  Fours k ys = Rows (fourRow bs) 16 0 xs k (k * 4) ys
+  pub fours-rows : foursOf bs ≡ joined 16 (fourRow bs)
+  unfolding foursOf
+  fours-rows = ap foursOf (tab-is bs 16 (λ k. getD bs k 0) 0 l (λ k h. refl)) ∙ all-joined four foursOf refl (λ x xs. refl) 16 (λ k. getD bs k 0)
 
-  sized : length (foursOf bs) ≡ 64
+  pub sized : length (foursOf bs) ≡ 64
   sized = fours-length bs ∙ ap (λ (k : ℕ). k * 4) l
 
-  fits : 0 + length (foursOf bs) ≤ length xs
-  fits = omega (arith, sized)
+  abbrev pub fours-lot : Lot
+  fours-lot = record { row = fourRow bs; many = 16; from = 0; whole = foursOf bs; out = xs; all = fours-rows; fits = omega (arith, sized) }
 
-  pub fours-none : Fours 0 xs
-  fours-none = rows-none (fourRow bs) 16 0 (foursOf bs) xs (fours-rows bs l) fits
-
-  pub fours-next : (k : ℕ) (ys r : List ℕ) → k < 16 → Fours k ys → r ≡ fourRow bs k → Fours (k + 1) (mid (k * 4) (k * 4 + 4 - k * 4) ys r)
+  pub fours-next : (k : ℕ) (ys r : List ℕ) → k < 16 → Stand fours-lot k (k * 4) ys → r ≡ fourRow bs k → Stand fours-lot (k + 1) ((k + 1) * 4) (mid (k * 4) (k * 4 + 4 - k * 4) ys r)
   fours-next k ys r h p er =
       let q : (k + 1) * 4 ≡ k * 4 + 4 = omega arith in
-      rw q (rows-lent (fourRow bs) 16 0 (foursOf bs) xs (fours-rows bs l) fits k (k * 4) ys p 4 r h er (four-length bs k))
+      rw q (rows-lent fours-lot k (k * 4) ys p 4 r h er (unfold four in refl))
 
-  pub fours-done : (k : ℕ) (ys : List ℕ) → 16 ≤ k → Fours k ys → ys ≡ foursOf bs
-  fours-done k ys h p =
-      rows-done (fourRow bs) 16 0 (foursOf bs) xs (fours-rows bs l) fits k (k * 4) ys p h .0 ∙ laid-all (foursOf bs) xs (omega (arith, sized))
+  pub fours-done : (k : ℕ) (ys : List ℕ) → 16 ≤ k → Stand fours-lot k (k * 4) ys → ys ≡ foursOf bs
+  fours-done k ys h p = rows-done fours-lot k (k * 4) ys p h .0 ∙ laid-all (foursOf bs) xs (omega (arith, sized))
 
 -- ---- a label in use
 

@@ -5,7 +5,7 @@ use native.Mathlib.Numerals.{add-one}
 use native.Mathlib.Omega.{arith}
 use mathlib.Core.Path.{_≡_, refl, sym, ap, ap₂, _∙_}
 use mathlib.Core.List.{List, [], _∷_, _++_, append-assoc}
-use lib.ListN.{length, drop, length-append, drop-of-length-le}
+use lib.ListN.{length, length-append, drop-of-length-le}
 use lib.Dec.{eqb}
 use borrow.Author.Tests.{eqb-true, eqb-false}
 use Rattle.meaning.specs.Lists.{by-test, append-nil}
@@ -74,34 +74,48 @@ module _ {A : Type 0} (one : A → List ℕ) (all : List A → List ℕ) (none :
   all-joined zero f = none
   all-joined (suc n) f = more (f 0) (tab n (λ i. f (suc i))) ∙ ap (λ (l : List ℕ). one (f 0) ++ l) (all-joined n (λ i. f (suc i))) ∙ sym (joined-first n (λ i. one (f i)))
 
--- a loop that lays one row after the other: i of n rows stand from a place on, and the next comes at `at`
+-- What a loop lays row by row: so many rows, from a place of the output on; they are the whole, and it finds room.
+pub record Lot : Type 0 where
+  pub row : ℕ → List ℕ
+  pub many : ℕ
+  pub from : ℕ
+  pub whole : List ℕ
+  pub out : List ℕ
+  pub all : whole ≡ joined many row
+  pub fits : from + length whole ≤ length out
+
+-- i of n rows stand in ys, and the next comes at `at`
 abbrev pub Rows : (ℕ → List ℕ) → ℕ → ℕ → List ℕ → ℕ → ℕ → List ℕ → Type 0
 Rows g n from xs i at ys = (i ≤ n) × (length ys ≡ length xs) × (at ≡ from + length (joined i g)) × (ys ≡ laid from (joined i g) xs)
 
--- s: all rows
-module _ (g : ℕ → List ℕ) (n from : ℕ) (s xs : List ℕ) (all : s ≡ joined n g) (fits : from + length s ≤ length xs) where
-  within : (i : ℕ) → i < n → from + length (joined i g) + length (g i) ≤ length xs
-  within i h = omega (arith, joined-within i n g h, ap length all)
+abbrev pub Stand : Lot → ℕ → ℕ → List ℕ → Type 0
+Stand t = Rows (t .row) (t .many) (t .from) (t .out)
 
-  pub rows-none : Rows g n from xs 0 from xs
+module _ (t : Lot) where
+  within : (i : ℕ) → i < t .many → t .from + length (joined i (t .row)) + length (t .row i) ≤ length (t .out)
+  within i h = omega (arith, joined-within i (t .many) (t .row) h, ap length (t .all), t .fits)
+
+  pub rows-none : Stand t 0 (t .from) (t .out)
   unfolding joined
-  rows-none = (omega arith, refl, omega arith, mid-none from xs)
+  rows-none = (omega arith, refl, omega arith, mid-none (t .from) (t .out))
 
-  module _ (i at : ℕ) (ys : List ℕ) (rows : Rows g n from xs i at ys) where
-    pub rows-room : (w : ℕ) → i < n → length (g i) ≡ w → at + w ≤ length ys
+  module _ (i at : ℕ) (ys : List ℕ) (rows : Stand t i at ys) where
+    pub rows-room : (w : ℕ) → i < t .many → length (t .row i) ≡ w → at + w ≤ length ys
     rows-room w h ew = omega (arith, within i h)
 
-    pub rows-more : (k : ℕ) (r zs : List ℕ) → i < n → r ≡ g i → length (g i) ≡ k → zs ≡ mid at k ys r → Rows g n from xs (i + 1) (at + k) zs
+    pub rows-more : (k : ℕ) (r zs : List ℕ) → i < t .many → r ≡ t .row i → length (t .row i) ≡ k → zs ≡ mid at k ys r → Stand t (i + 1) (at + k) zs
     rows-more k r zs h er ek ez =
         let w = within i h in
-        let j : joined (i + 1) g ≡ joined i g ++ g i = joined-more i g in
-        let e : zs ≡ laid from (joined i g ++ g i) xs = ez ∙ ap (mid at k ys) er ∙ laid-then from at k (joined i g) (g i) xs ys (omega arith) (rows .3) (rows .2) ek in
-        let l : length (joined i g ++ g i) ≡ length (joined i g) + length (g i) = length-append (joined i g) (g i) in
-        rw j (omega arith, ap length e ∙ laid-length from (joined i g ++ g i) xs (omega arith), omega arith, e)
+        let stood = joined i (t .row) in
+        let j : joined (i + 1) (t .row) ≡ stood ++ t .row i = joined-more i (t .row) in
+        let e : zs ≡ laid (t .from) (stood ++ t .row i) (t .out) =
+        ez ∙ ap (mid at k ys) er ∙ laid-then (t .from) at k stood (t .row i) (t .out) ys (omega arith) (rows .3) (rows .2) ek in
+        let l : length (stood ++ t .row i) ≡ length stood + length (t .row i) = length-append stood (t .row i) in
+        rw j (omega arith, ap length e ∙ laid-length (t .from) (stood ++ t .row i) (t .out) (omega arith), omega arith, e)
 
     -- a row written to the part that is lent for it
-    pub rows-lent : (w : ℕ) (r : List ℕ) → i < n → r ≡ g i → length (g i) ≡ w → Rows g n from xs (i + 1) (at + w) (mid at (at + w - at) ys r)
+    pub rows-lent : (w : ℕ) (r : List ℕ) → i < t .many → r ≡ t .row i → length (t .row i) ≡ w → Stand t (i + 1) (at + w) (mid at (at + w - at) ys r)
     rows-lent w r h er ew = let q : at + w - at ≡ w = omega arith in rw q (rows-more w r (mid at w ys r) h er ew refl)
 
-    pub rows-done : n ≤ i → (ys ≡ laid from s xs) × (at ≡ from + length s)
-    rows-done h = let e : i ≡ n = omega arith in rw (all, ← e) (rows .3, rows .2)
+    pub rows-done : t .many ≤ i → (ys ≡ laid (t .from) (t .whole) (t .out)) × (at ≡ t .from + length (t .whole))
+    rows-done h = let e : i ≡ t .many = omega arith in rw (t .all, ← e) (rows .3, rows .2)

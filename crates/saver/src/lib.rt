@@ -2,8 +2,8 @@
 // The writer has a core, which says what becomes of the whole output, and a call that hands back the part that holds the save.
 ghost use mathlib.Core.Path.{_≡_};
 ghost use mathlib.Core.Bool.{false};
-ghost use mathlib.Core.List.{List, [], _∷_, _++_};
-ghost use Prim.Native.Nat.{ℕ, _+_, _-_, _≤_, _<_};
+ghost use mathlib.Core.List.{List, _∷_, _++_};
+ghost use Prim.Native.Nat.{ℕ, _+_, _≤_, _<_};
 ghost use lib.ListN.{length, take};
 ghost use denote.Ref.{ptr};
 ghost use Rattle.meaning.specs.Octets.{pick, four};

@@ -1,3 +1,4 @@
+-- `saver::fitting` meets its contract: all of the text, or as much as there is room. Assumes nothing.
 use native.Mathlib.Omega.{arith}
 use mathlib.Core.Path.{sym, ap}
 use lib.ListN.{length}

@@ -1,3 +1,4 @@
+-- `saver::leaf_octet` meets its contract: by what `is_leaf` answers. Assumes nothing.
 use mathlib.Core.Path.{sym, ap, _∙_}
 use mathlib.Core.Bool.{Bool}
 use Rattle.meaning.specs.Octets.{pick}

@@ -1,4 +1,6 @@
+-- `saver::opaque_of` meets its contract: what stands behind the opaque length field, if anything. Assumes nothing.
 use Rattle.saver.proofs.Laws.{opaque-none, opaque-all}
+use native.Mathlib.Omega.{arith}
 use borrow.Author.Needs.{needs}
 use Rattle.saver.proofs.opaque_of.Statement.{statement}
 use Rattle.saver.proofs.opaque_of.Tie as tie
@@ -20,7 +22,9 @@ part-result-end : tie.Need-part-result-end
 part-result-end c = search needs
 
 returns : tie.Need-returns
-returns c = opaque-none _ _ (c .before .before .root-length .ensures .0) (c .before .if1 .taken)
+returns c =
+    let n = c .before .before .root-length in
+    opaque-none (c .before .before .before .before .args .name .now) (n .result) (n .ensures .0) (omega arith)
 
 sub-result-2 : tie.Need-sub-result-2
 sub-result-2 c = search needs

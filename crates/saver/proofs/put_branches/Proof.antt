@@ -1,3 +1,4 @@
+-- `saver::put_branches` meets its contract: the invariant is that k fours stand. Assumes nothing.
 use borrow.Author.Needs.{needs}
 use Prim.Native.Nat.{ℕ, _+_, _*_, _-_, _≤_}
 use native.Mathlib.Omega.{arith}
@@ -9,8 +10,8 @@ use Rattle.meaning.specs.Card.{treeAt}
 use Rattle.table.specs.Memory.{cardOf}
 use Rattle.table.proofs.Laws.{branches-length}
 use Rattle.octets.specs.Part.{mid}
-use Rattle.saver.proofs.Parts.{Rows}
-use Rattle.saver.proofs.Laws.{fourRow, fours-none, fours-next, fours-done}
+use Rattle.saver.proofs.Parts.{Rows, rows-none}
+use Rattle.saver.proofs.Laws.{fourRow, fours-lot, fours-next, fours-done}
 use Rattle.saver.proofs.put_branches.Statement.{statement}
 use Rattle.saver.proofs.put_branches.Tie as tie
 use Rattle.saver.proofs.put_four.Reads as put-four-reads
@@ -23,7 +24,7 @@ abbrev μ-loop : tie.MeasureT-loop
 μ-loop numbers i out₀ k₀ out k = 16 - k
 
 loop-holds : tie.Need-loop-holds Inv-loop μ-loop
-loop-holds c = let s = c .before .before in (omega arith, refl, λ os. fours-none (treeAt (s .args .i) (cardOf (s .args .numbers .now) os) .branches) (s .args .out .now) (branches-length _ os _ (s .pre .1)) (s .pre .3))
+loop-holds c = let s = c .before .before in (omega arith, refl, λ os. rows-none (fours-lot (treeAt (s .args .i) (cardOf (s .args .numbers .now) os) .branches) (s .args .out .now) (branches-length _ os _ (s .pre .1)) (s .pre .3)))
 
 mul-a : tie.Need-mul-a Inv-loop μ-loop
 mul-a c = search needs

@@ -1,3 +1,4 @@
+-- `saver::put_four` meets its contract: the octets of the array are those of the definition. Assumes nothing.
 use Rattle.meaning.specs.Octets.{four}
 use borrow.Author.Needs.{needs}
 use Rattle.saver.proofs.put_four.Statement.{statement}

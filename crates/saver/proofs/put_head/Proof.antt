@@ -1,3 +1,4 @@
+-- `saver::put_head` meets its contract: the octets of the array are those of the definition, one by one. Assumes nothing.
 use mathlib.Core.Path.{_∙_}
 use Rattle.meaning.specs.Octets.{two, four}
 use Rattle.meaning.specs.Save.{marked}

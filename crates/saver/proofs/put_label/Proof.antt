@@ -1,3 +1,4 @@
+-- `saver::put_label` meets its contract: of a free label the record is empty, and of any other it has 59 octets. Assumes nothing.
 use native.Mathlib.Omega.{arith}
 use mathlib.Core.Path.{sym, _∙_}
 use Prim.Native.Nat.{_+_}

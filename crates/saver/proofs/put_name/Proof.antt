@@ -1,3 +1,4 @@
+-- `saver::put_name` meets its contract: two spaces, one behind the other, are the name. Assumes nothing.
 use Rattle.saver.proofs.Laws.{name-put}
 use borrow.Author.Needs.{needs}
 use Rattle.saver.proofs.put_name.Statement.{statement}

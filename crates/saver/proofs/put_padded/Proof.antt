@@ -1,3 +1,4 @@
+-- `saver::put_padded` meets its contract: the octets from the front, where those past the text read as 0. Assumes nothing.
 use borrow.Author.Needs.{needs}
 use Prim.Native.Nat.{_-_, _≤_}
 use native.Mathlib.Omega.{arith}

@@ -1,3 +1,4 @@
+-- `saver::put_route` meets its contract: four octets and a space are the route. Assumes nothing.
 use Rattle.table.specs.Memory.{routeIn}
 use Rattle.saver.proofs.Laws.{route-put}
 use borrow.Author.Needs.{needs}

@@ -1,4 +1,4 @@
-use mathlib.Core.List.{[]}
+-- `saver::put_space` meets its contract: two parts of the output, one behind the other, are the space. Assumes nothing.
 use Rattle.saver.proofs.Laws.{space-put}
 use borrow.Author.Needs.{needs}
 use Rattle.saver.proofs.put_space.Statement.{statement}

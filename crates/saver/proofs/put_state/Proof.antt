@@ -1,3 +1,4 @@
+-- `saver::put_state` meets its contract: nine octets and the name are the record. Assumes nothing.
 use Rattle.meaning.specs.Octets.{four}
 use Rattle.meaning.specs.Save.{marked}
 use Rattle.saver.proofs.Laws.{state-put}

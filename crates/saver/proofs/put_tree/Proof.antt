@@ -1,3 +1,4 @@
+-- `saver::put_tree` meets its contract: four parts of the output, one behind the other, are the tree. Assumes nothing.
 use Rattle.meaning.specs.Card.{treeAt}
 use Rattle.table.specs.Memory.{cardOf}
 use Rattle.table.proofs.Laws.{branches-length}

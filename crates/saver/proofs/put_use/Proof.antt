@@ -1,3 +1,4 @@
+-- `saver::put_use` meets its contract: the label is mapped, or it awaits release; its record is that of the definition. Assumes nothing.
 use mathlib.Core.Path.{sym, ap, _∙_}
 use Prim.Native.Nat.{ℕ, _+_}
 use Rattle.meaning.specs.Card.{mapped}

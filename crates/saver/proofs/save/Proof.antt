@@ -1,3 +1,4 @@
+-- `saver::save` meets its contract: the part that is handed back is exactly what the core wrote. Assumes nothing.
 use mathlib.Core.Path.{refl}
 use Rattle.meaning.specs.Handed.{handed, handed-count}
 use borrow.Author.Needs.{needs}

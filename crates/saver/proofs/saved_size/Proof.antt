@@ -1,3 +1,4 @@
+-- `saver::saved_size` meets its contract: the sum of the sizes of all records. Assumes nothing.
 use native.Mathlib.Omega.{arith}
 use Rattle.saver.proofs.Laws.{saved-size}
 use borrow.Author.Needs.{needs}

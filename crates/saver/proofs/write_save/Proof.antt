@@ -1,3 +1,4 @@
+-- `saver::write_save` meets its contract: the head, the routes, the trees and the labels, each behind the one before, are the save. Assumes nothing.
 use native.Mathlib.Omega.{arith}
 use Rattle.saver.proofs.Laws.{parts-length, parts-laid}
 use borrow.Author.Needs.{needs}
