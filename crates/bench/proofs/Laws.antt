@@ -8,7 +8,7 @@ use mathlib.Core.List.{List, [], _∷_, _++_, append-assoc}
 use lib.ListN.{length, take, drop, getD, set, length-append, length-drop, length-set}
 use lib.Seq.{length-take-le, take-append-add, take-at, take-suc, take-suc-set}
 use borrow.Author.Tests.{lt-leb}
-use Rattle.orders.specs.Line.{ascii, Puts, hexOf, Said, orderOf, meant, Lies, InLine}
+use Rattle.orders.specs.Line.{ascii, Puts, hexOf, Said, orderOf, meant, Lies, SaveLies, InLine}
 use Rattle.orders.specs.declared.Order.{Order}
 use Rattle.orders.proofs.Order.{the-type}
 use denote.Enum.Declared.{tagOf}
@@ -107,20 +107,22 @@ is-feed word before after leaf bs r a = record { leaf = leaf; branches = bs; lin
 pub lies : (l : List ℕ) (r o : Order) → InLine l r → r ≡ o → InLine l o
 lies l r o h e = rw e at h
 
-pub event-other : (l : List ℕ) (o : Order) (text : List ℕ) → OneOf (0 ∷ 1 ∷ 2 ∷ 3 ∷ 8 ∷ 9 ∷ 10 ∷ []) (tagOf the-type o) → IsEventLine (meant l o) text
+pub event-other : (l : List ℕ) (o : Order) (text : List ℕ) → OneOf (0 ∷ 1 ∷ 2 ∷ 3 ∷ 8 ∷ 9 ∷ 10 ∷ 12 ∷ 13 ∷ []) (tagOf the-type o) → IsEventLine (meant l o) text
 unfolding meant
 event-other l Order.Blank text h = tt
 event-other l Order.Bad text h = tt
 event-other l (Order.Start n) text h = tt
 event-other l (Order.Room n) text h = tt
-event-other l (Order.Take n s e) text h = absurd (miss (0 ∷ 1 ∷ 2 ∷ 3 ∷ 8 ∷ 9 ∷ 10 ∷ []) 4 tt h)
-event-other l (Order.Join s e) text h = absurd (miss (0 ∷ 1 ∷ 2 ∷ 3 ∷ 8 ∷ 9 ∷ 10 ∷ []) 5 tt h)
-event-other l (Order.Leave s e) text h = absurd (miss (0 ∷ 1 ∷ 2 ∷ 3 ∷ 8 ∷ 9 ∷ 10 ∷ []) 6 tt h)
-event-other l (Order.Route s e n) text h = absurd (miss (0 ∷ 1 ∷ 2 ∷ 3 ∷ 8 ∷ 9 ∷ 10 ∷ []) 7 tt h)
+event-other l (Order.Take n s e) text h = absurd (miss (0 ∷ 1 ∷ 2 ∷ 3 ∷ 8 ∷ 9 ∷ 10 ∷ 12 ∷ 13 ∷ []) 4 tt h)
+event-other l (Order.Join s e) text h = absurd (miss (0 ∷ 1 ∷ 2 ∷ 3 ∷ 8 ∷ 9 ∷ 10 ∷ 12 ∷ 13 ∷ []) 5 tt h)
+event-other l (Order.Leave s e) text h = absurd (miss (0 ∷ 1 ∷ 2 ∷ 3 ∷ 8 ∷ 9 ∷ 10 ∷ 12 ∷ 13 ∷ []) 6 tt h)
+event-other l (Order.Route s e n) text h = absurd (miss (0 ∷ 1 ∷ 2 ∷ 3 ∷ 8 ∷ 9 ∷ 10 ∷ 12 ∷ 13 ∷ []) 7 tt h)
 event-other l (Order.Label n) text h = tt
 event-other l (Order.Tree s e) text h = tt
 event-other l Order.Free text h = tt
-event-other l (Order.Notice n k s e) text h = absurd (miss (0 ∷ 1 ∷ 2 ∷ 3 ∷ 8 ∷ 9 ∷ 10 ∷ []) 11 tt h)
+event-other l (Order.Notice n k s e) text h = absurd (miss (0 ∷ 1 ∷ 2 ∷ 3 ∷ 8 ∷ 9 ∷ 10 ∷ 12 ∷ 13 ∷ []) 11 tt h)
+event-other l Order.Save text h = tt
+event-other l (Order.Restore s e) text h = tt
 
 pub event-line : (l : List ℕ) (o : Order) (number : ℕ) (text : List ℕ) → OneOf (4 ∷ 5 ∷ 6 ∷ 7 ∷ 11 ∷ []) (tagOf the-type o) → IsEventLine (meant l o) text → IsLine (meant l o) number text
 unfolding meant
@@ -136,13 +138,15 @@ event-line l (Order.Label n) number text h e = absurd (miss (4 ∷ 5 ∷ 6 ∷ 7
 event-line l (Order.Tree s f) number text h e = absurd (miss (4 ∷ 5 ∷ 6 ∷ 7 ∷ 11 ∷ []) 9 tt h)
 event-line l Order.Free number text h e = absurd (miss (4 ∷ 5 ∷ 6 ∷ 7 ∷ 11 ∷ []) 10 tt h)
 event-line l (Order.Notice n k s f) number text h e = e
+event-line l Order.Save number text h e = absurd (miss (4 ∷ 5 ∷ 6 ∷ 7 ∷ 11 ∷ []) 12 tt h)
+event-line l (Order.Restore s f) number text h e = absurd (miss (4 ∷ 5 ∷ 6 ∷ 7 ∷ 11 ∷ []) 13 tt h)
 
-pub room-other : (l : List ℕ) (o : Order) (room : ℕ) → OneOf (0 ∷ 1 ∷ 2 ∷ 4 ∷ 5 ∷ 6 ∷ 7 ∷ 8 ∷ 9 ∷ 10 ∷ 11 ∷ []) (tagOf the-type o) → room ≡ roomAfter room (meant l o)
+pub room-other : (l : List ℕ) (o : Order) (room : ℕ) → OneOf (0 ∷ 1 ∷ 2 ∷ 4 ∷ 5 ∷ 6 ∷ 7 ∷ 8 ∷ 9 ∷ 10 ∷ 11 ∷ 12 ∷ 13 ∷ []) (tagOf the-type o) → room ≡ roomAfter room (meant l o)
 unfolding meant
 room-other l Order.Blank room h = refl
 room-other l Order.Bad room h = refl
 room-other l (Order.Start n) room h = refl
-room-other l (Order.Room n) room h = absurd (miss (0 ∷ 1 ∷ 2 ∷ 4 ∷ 5 ∷ 6 ∷ 7 ∷ 8 ∷ 9 ∷ 10 ∷ 11 ∷ []) 3 tt h)
+room-other l (Order.Room n) room h = absurd (miss (0 ∷ 1 ∷ 2 ∷ 4 ∷ 5 ∷ 6 ∷ 7 ∷ 8 ∷ 9 ∷ 10 ∷ 11 ∷ 12 ∷ 13 ∷ []) 3 tt h)
 room-other l (Order.Take n s e) room h = refl
 room-other l (Order.Join s e) room h = refl
 room-other l (Order.Leave s e) room h = refl
@@ -151,9 +155,14 @@ room-other l (Order.Label n) room h = refl
 room-other l (Order.Tree s e) room h = refl
 room-other l Order.Free room h = refl
 room-other l (Order.Notice n k s e) room h = refl
+room-other l Order.Save room h = refl
+room-other l (Order.Restore s e) room h = refl
 
 pub short : (l : List ℕ) (s e : ℕ) → Lies l s e → length (take (e - s) (drop s l)) ≤ 8192
 short l s e h = let n = length-take-le (e - s) (drop s l) (simp length-drop (omega arith)) in omega arith
+
+pub save-short : (l : List ℕ) (s e : ℕ) → SaveLies l s e → length (take (e - s) (drop s l)) ≤ 46686
+save-short l s e h = let n = length-take-le (e - s) (drop s l) (simp length-drop (omega arith)) in omega arith
 
 -- ---- a line that comes octet by octet
 

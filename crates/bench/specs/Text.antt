@@ -16,7 +16,7 @@ unfoldable pub recordsText : List ℕ → List ℕ
 recordsText [] = []
 recordsText (o ∷ os) = 32 ∷ hexOf (o ∷ os)
 
--- `WORD ANSWER RECORDS`
+-- `WORD ANSWER RECORDS`, and so a save
 unfoldable pub eventLine : List ℕ → ℕ → List ℕ → List ℕ
 eventLine word answer records = word ++ (32 ∷ numeral answer ++ (recordsText records ++ (10 ∷ [])))
 
@@ -74,6 +74,8 @@ IsEventLine (Said.label n) text = Unit
 IsEventLine (Said.tree element) text = Unit
 IsEventLine Said.free text = Unit
 IsEventLine (Said.notice n number octets) text = IsEvent (ascii "notice") text
+IsEventLine Said.save text = Unit
+IsEventLine (Said.restore octets) text = Unit
 
 -- the line for any order, on the line of that number
 abbrev pub IsLine : Said → ℕ → List ℕ → Type 0
@@ -89,6 +91,8 @@ IsLine (Said.label n) number text = IsFeed (ascii "label") text
 IsLine (Said.tree element) number text = IsFeed (ascii "tree") text
 IsLine Said.free number text = IsCount (ascii "free") text
 IsLine (Said.notice n refusal octets) number text = IsEvent (ascii "notice") text
+IsLine Said.save number text = IsEvent (ascii "save") text
+IsLine (Said.restore octets) number text = IsCount (ascii "restore") text
 
 -- the room from here on
 abbrev pub roomAfter : ℕ → Said → ℕ
@@ -104,9 +108,11 @@ roomAfter room (Said.label n) = room
 roomAfter room (Said.tree element) = room
 roomAfter room Said.free = room
 roomAfter room (Said.notice n number octets) = room
+roomAfter room Said.save = room
+roomAfter room (Said.restore octets) = room
 
 pub record Answers (said : Said) (number before room r : ℕ) (text : List ℕ) : Type 0 where
-  pub short : r ≤ 20480
+  pub short : r ≤ 47104
   pub line : IsLine said number (take r text)
   pub next : room ≡ roomAfter before said
 

@@ -5,7 +5,7 @@ ghost use Prim.Native.Nat.{ℕ, _+_, _*_, _≤_};
 ghost use lib.ListN.{length, take};
 ghost use Rattle.orders.specs.Line.{ascii, orderOf, meant, InLine, numeral, hexOf};
 ghost use Rattle.bench.specs.Text.{countLine, recordsText, eventLine, branchText, branchesFrom, leafText, feedLine, Adds};
-ghost use Rattle.bench.specs.Text.{IsEvent, IsFeed, IsLine, IsEventLine, roomAfter, Answers, Keeps};
+ghost use Rattle.bench.specs.Text.{IsCount, IsEvent, IsFeed, IsLine, IsEventLine, roomAfter, Answers, Keeps};
 use card::Feed;
 use orders::Order;
 
@@ -60,19 +60,19 @@ fn put_records(text: &mut [u8], at: usize, records: &[u8]) -> usize
 
 // As many octets as an answer has room for.
 fn shown(records: &[u8]) -> &[u8]
-    ensures { λ r. ⌜ (now r ≡ take 9984 (now (records .entry))) × (length (now r) ≤ 9984) ⌝ }
+    ensures { λ r. ⌜ (now r ≡ take 23343 (now (records .entry))) × (length (now r) ≤ 23343) ⌝ }
 {
-    if 9984 < records.len() {
-        return &records[0..9984];
+    if 23343 < records.len() {
+        return &records[0..23343];
     }
     records
 }
 
 // `WORD ANSWER`, and the records' octets where there are any.
 fn put_event(text: &mut [u8], word: &[u8], answer: u32, records: &[u8]) -> usize
-    requires { ⌜ (length (now word) ≤ 8) × (20480 ≤ length (now text)) ⌝ }
-    ensures { λ r. ⌜ Adds (eventLine (now (word .entry)) answer (take 9984 (now (records .entry)))) (now (text .entry)) (now (text .exit)) 0 r ⌝ }
-    ensures { λ r. ⌜ r ≤ 20480 ⌝ }
+    requires { ⌜ (length (now word) ≤ 8) × (47104 ≤ length (now text)) ⌝ }
+    ensures { λ r. ⌜ Adds (eventLine (now (word .entry)) answer (take 23343 (now (records .entry)))) (now (text .entry)) (now (text .exit)) 0 r ⌝ }
+    ensures { λ r. ⌜ r ≤ 47104 ⌝ }
 {
     let at = put(text, 0, word);
     let at = put(text, at, b" ");
@@ -130,9 +130,9 @@ fn put_leaf(text: &mut [u8], at: usize, leaf: bool) -> usize
 }
 
 fn put_feed(text: &mut [u8], word: &[u8], feed: Feed) -> usize
-    requires { ⌜ (length (now word) ≤ 8) × (20480 ≤ length (now text)) ⌝ }
+    requires { ⌜ (length (now word) ≤ 8) × (47104 ≤ length (now text)) ⌝ }
     ensures { λ r. ⌜ Adds (feedLine (now (word .entry)) (feed .leaf) (feed .branches)) (now (text .entry)) (now (text .exit)) 0 r ⌝ }
-    ensures { λ r. ⌜ r ≤ 20480 ⌝ }
+    ensures { λ r. ⌜ r ≤ 47104 ⌝ }
 {
     let branches = feed.branches;
     let start = put(text, 0, word);
@@ -153,7 +153,14 @@ fn output() -> [u8; 9984]
     [0; 9984]
 }
 
-// The octets of output that an event is lent: as many as the room says, or all.
+// The longest save: 32 routes, 64 trees and 256 labels behind the head.
+fn longest_save() -> [u8; 23343]
+    ensures { λ r. ⌜ 23343 ≡ length r ⌝ }
+{
+    [0; 23343]
+}
+
+// The octets of output that an event or a save is lent: as many as the room says, or all.
 fn lent(out: &mut [u8], room: u32) -> &mut [u8]
     ensures { λ r. ⌜ now r ≡ take room (now (out .entry)) ⌝ }
 {
@@ -172,8 +179,8 @@ fn on_take(
     room: u32,
     text: &mut [u8],
 ) -> usize
-    requires { ⌜ (length (now hex) ≤ 8192) × (20480 ≤ length (now text)) ⌝ }
-    ensures { λ r. ⌜ (r ≤ 20480) × IsEvent (ascii "take") (take r (now (text .exit))) ⌝ }
+    requires { ⌜ (length (now hex) ≤ 8192) × (47104 ≤ length (now text)) ⌝ }
+    ensures { λ r. ⌜ (r ≤ 47104) × IsEvent (ascii "take") (take r (now (text .exit))) ⌝ }
 {
     let mut message = io::buffer();
     let n = orders::decode_hex(hex, &mut message);
@@ -197,8 +204,8 @@ fn on_join(
     room: u32,
     text: &mut [u8],
 ) -> usize
-    requires { ⌜ (length (now hex) ≤ 8192) × (20480 ≤ length (now text)) ⌝ }
-    ensures { λ r. ⌜ (r ≤ 20480) × IsEvent (ascii "join") (take r (now (text .exit))) ⌝ }
+    requires { ⌜ (length (now hex) ≤ 8192) × (47104 ≤ length (now text)) ⌝ }
+    ensures { λ r. ⌜ (r ≤ 47104) × IsEvent (ascii "join") (take r (now (text .exit))) ⌝ }
 {
     let mut element = io::buffer();
     let n = orders::decode_hex(hex, &mut element);
@@ -221,8 +228,8 @@ fn on_leave(
     room: u32,
     text: &mut [u8],
 ) -> usize
-    requires { ⌜ (length (now hex) ≤ 8192) × (20480 ≤ length (now text)) ⌝ }
-    ensures { λ r. ⌜ (r ≤ 20480) × IsEvent (ascii "leave") (take r (now (text .exit))) ⌝ }
+    requires { ⌜ (length (now hex) ≤ 8192) × (47104 ≤ length (now text)) ⌝ }
+    ensures { λ r. ⌜ (r ≤ 47104) × IsEvent (ascii "leave") (take r (now (text .exit))) ⌝ }
 {
     let mut element = io::buffer();
     let n = orders::decode_hex(hex, &mut element);
@@ -246,8 +253,8 @@ fn on_route(
     room: u32,
     text: &mut [u8],
 ) -> usize
-    requires { ⌜ (length (now hex) ≤ 8192) × (20480 ≤ length (now text)) ⌝ }
-    ensures { λ r. ⌜ (r ≤ 20480) × IsEvent (ascii "route") (take r (now (text .exit))) ⌝ }
+    requires { ⌜ (length (now hex) ≤ 8192) × (47104 ≤ length (now text)) ⌝ }
+    ensures { λ r. ⌜ (r ≤ 47104) × IsEvent (ascii "route") (take r (now (text .exit))) ⌝ }
 {
     let mut root = io::buffer();
     let n = orders::decode_hex(hex, &mut root);
@@ -273,8 +280,8 @@ fn on_notice(
     room: u32,
     text: &mut [u8],
 ) -> usize
-    requires { ⌜ (length (now hex) ≤ 8192) × (20480 ≤ length (now text)) ⌝ }
-    ensures { λ r. ⌜ (r ≤ 20480) × IsEvent (ascii "notice") (take r (now (text .exit))) ⌝ }
+    requires { ⌜ (length (now hex) ≤ 8192) × (47104 ≤ length (now text)) ⌝ }
+    ensures { λ r. ⌜ (r ≤ 47104) × IsEvent (ascii "notice") (take r (now (text .exit))) ⌝ }
 {
     let mut refused = io::buffer();
     let n = orders::decode_hex(hex, &mut refused);
@@ -292,8 +299,8 @@ fn on_notice(
 }
 
 fn on_tree(numbers: &[u64; 1444], names: &[u8; 18144], hex: &[u8], text: &mut [u8]) -> usize
-    requires { ⌜ (length (now hex) ≤ 8192) × (20480 ≤ length (now text)) ⌝ }
-    ensures { λ r. ⌜ (r ≤ 20480) × IsFeed (ascii "tree") (take r (now (text .exit))) ⌝ }
+    requires { ⌜ (length (now hex) ≤ 8192) × (47104 ≤ length (now text)) ⌝ }
+    ensures { λ r. ⌜ (r ≤ 47104) × IsFeed (ascii "tree") (take r (now (text .exit))) ⌝ }
 {
     let mut element = io::buffer();
     let n = orders::decode_hex(hex, &mut element);
@@ -304,6 +311,32 @@ fn on_tree(numbers: &[u64; 1444], names: &[u8; 18144], hex: &[u8], text: &mut [u
     )
 }
 
+// The table as octets, for a card swap.
+fn on_save(numbers: &[u64; 1444], names: &[u8; 18144], room: u32, text: &mut [u8]) -> usize
+    requires { ⌜ 47104 ≤ length (now text) ⌝ }
+    ensures { λ r. ⌜ (r ≤ 47104) × IsEvent (ascii "save") (take r (now (text .exit))) ⌝ }
+{
+    let mut out = longest_save();
+    let mut answer: u32 = 0;
+    let octets = saver::save(numbers, names, lent(&mut out, room), &mut answer);
+    put_event(text, b"save", answer, octets)
+}
+
+fn on_restore(
+    numbers: &mut [u64; 1444],
+    names: &mut [u8; 18144],
+    hex: &[u8],
+    text: &mut [u8],
+) -> usize
+    requires { ⌜ (length (now hex) ≤ 46686) × (47104 ≤ length (now text)) ⌝ }
+    ensures { λ r. ⌜ (r ≤ 47104) × IsCount (ascii "restore") (take r (now (text .exit))) ⌝ }
+{
+    let mut octets = longest_save();
+    let n = orders::decode_hex(hex, &mut octets);
+    let answer = restorer::restore(numbers, names, &octets[..n]);
+    put_count(text, b"restore", answer as u64)
+}
+
 fn on_event(
     numbers: &mut [u64; 1444],
     names: &mut [u8; 18144],
@@ -312,8 +345,8 @@ fn on_event(
     room: u32,
     text: &mut [u8],
 ) -> usize
-    requires { ⌜ InLine (now line) order × (20480 ≤ length (now text)) ⌝ }
-    ensures { λ r. ⌜ (r ≤ 20480) × IsEventLine (meant (now (line .entry)) order) (take r (now (text .exit))) ⌝ }
+    requires { ⌜ InLine (now line) order × (47104 ≤ length (now text)) ⌝ }
+    ensures { λ r. ⌜ (r ≤ 47104) × IsEventLine (meant (now (line .entry)) order) (take r (now (text .exit))) ⌝ }
 {
     match order {
         Order::Take {
@@ -346,8 +379,8 @@ fn obey(
     room: u32,
     text: &mut [u8],
 ) -> usize
-    requires { ⌜ InLine (now line) order × (20480 ≤ length (now text)) ⌝ }
-    ensures { λ r. ⌜ (r ≤ 20480) × IsLine (meant (now (line .entry)) order) number (take r (now (text .exit))) ⌝ }
+    requires { ⌜ InLine (now line) order × (47104 ≤ length (now text)) ⌝ }
+    ensures { λ r. ⌜ (r ≤ 47104) × IsLine (meant (now (line .entry)) order) number (take r (now (text .exit))) ⌝ }
 {
     match order {
         Order::Blank => 0,
@@ -357,6 +390,8 @@ fn obey(
         Order::Label(label) => put_feed(text, b"label", card::lookup_label(numbers, label)),
         Order::Tree { start, end } => on_tree(numbers, names, &line[start..end], text),
         Order::Free => put_count(text, b"free", card::free_labels(numbers) as u64),
+        Order::Save => on_save(numbers, names, room, text),
+        Order::Restore { start, end } => on_restore(numbers, names, &line[start..end], text),
         _ => on_event(numbers, names, line, order, room, text),
     }
 }
@@ -384,7 +419,7 @@ fn answer(
     room: u32,
     text: &mut [u8],
 ) -> Answered
-    requires { ⌜ 20480 ≤ length (now text) ⌝ }
+    requires { ⌜ 47104 ≤ length (now text) ⌝ }
     ensures { λ r. ⌜ Answers (orderOf (now (line .entry))) number room (r .room) (r .length) (now (text .exit)) ⌝ }
 {
     let order = orders::read_order(line);
@@ -424,8 +459,8 @@ fn reply(
     number: u64,
     state: State,
 ) -> Answered
-    requires { ⌜ 20480 ≤ length (now text) ⌝ }
-    ensures { λ r. ⌜ r .length ≤ 20480 ⌝ }
+    requires { ⌜ 47104 ≤ length (now text) ⌝ }
+    ensures { λ r. ⌜ r .length ≤ 47104 ⌝ }
     ensures { λ r. ⌜ ((o : List ℕ) → Keeps (now (line .entry)) (state .kept) o → length (now (line .entry)) ≡ 65536 → Answers (orderOf o) number (state .room) (r .room) (r .length) (now (text .exit))) ⌝ }
 {
     let kept = state.kept;
@@ -445,7 +480,7 @@ fn end_line(
     text: &mut [u8],
     state: State,
 ) -> State
-    requires { ⌜ 20480 ≤ length (now text) ⌝ }
+    requires { ⌜ 47104 ≤ length (now text) ⌝ }
 {
     let number = std::num::wrapping_add_u64(state.number, 1);
     let done = reply(numbers, names, line, text, number, state);
@@ -467,7 +502,7 @@ fn take_octet(
     c: u8,
     state: State,
 ) -> State
-    requires { ⌜ 20480 ≤ length (now text) ⌝ }
+    requires { ⌜ 47104 ≤ length (now text) ⌝ }
 {
     if c == b'\n' {
         return end_line(numbers, names, line, text, state);
@@ -488,7 +523,7 @@ fn take_chunk(
     chunk: &[u8],
     from: State,
 ) -> State
-    requires { ⌜ 20480 ≤ length (now text) ⌝ }
+    requires { ⌜ 47104 ≤ length (now text) ⌝ }
 {
     let mut state = from;
     let mut i = 0;
@@ -504,7 +539,7 @@ fn step(
     numbers: &mut [u64; 1444],
     names: &mut [u8; 18144],
     line: &mut [u8; 65536],
-    text: &mut [u8; 20480],
+    text: &mut [u8; 47104],
     state: State,
 ) -> State {
     let mut chunk = io::large_buffer();
@@ -524,17 +559,18 @@ fn step(
     }
 }
 
+// The room is at first that of the longest save: events have no more than their buffer of it.
 // A proved loop has to end, and nothing says that the input does: the loop counts its turns down, from a number that no run uses up.
 fn main() {
     let mut numbers = [0u64; 1444];
     let mut names = [0u8; 18144];
     let mut line = [0u8; 65536];
-    let mut text = [0u8; 20480];
+    let mut text = [0u8; 47104];
     card::start(&mut numbers, 16);
     let mut state = State {
         number: 0,
         kept: 0,
-        room: 9984,
+        room: 23343,
         more: true,
     };
     let mut turns = u64::MAX;

@@ -1,6 +1,6 @@
 use native.Mathlib.Omega.{arith}
 use mathlib.Core.Path.{refl}
-use Rattle.bench.proofs.Laws.{is-count, is-feed, lies, short, event-line}
+use Rattle.bench.proofs.Laws.{is-count, is-feed, lies, short, save-short, event-line}
 use Rattle.orders.specs.Line.{ascii, meant}
 use borrow.Author.Needs.{needs}
 use Rattle.bench.proofs.obey.Statement.{statement}
@@ -87,6 +87,27 @@ cast-put-count-3 c = search needs
 put-count-requires-4 : tie.Need-put-count-requires-4
 put-count-requires-4 c κs = search needs
 
+enum-told-4 : tie.Need-enum-told-4
+enum-told-4 c = search needs
+
+on-save-requires : tie.Need-on-save-requires
+on-save-requires c κs = search needs
+
+enum-known-order-5 : tie.Need-enum-known-order-5
+enum-known-order-5 c = search needs
+
+sub-on-restore : tie.Need-sub-on-restore
+sub-on-restore c = lies _ _ _ (c .before .before .before .before .before .before .before .pre .0) (c .before .before .before .order5 .given .1) .0
+
+part-on-restore-start : tie.Need-part-on-restore-start
+part-on-restore-start c = lies _ _ _ (c .before .before .before .before .before .before .before .pre .0) (c .before .before .before .order5 .given .1) .0
+
+part-on-restore-end : tie.Need-part-on-restore-end
+part-on-restore-end c = lies _ _ _ (c .before .before .before .before .before .before .before .pre .0) (c .before .before .before .order5 .given .1) .1
+
+on-restore-requires : tie.Need-on-restore-requires
+on-restore-requires c κs = (save-short _ _ _ (lies _ _ _ (c .before .before .before .before .before .before .before .before .before .pre .0) (c .before .before .before .before .before .order5 .given .1)), c .before .before .before .before .before .before .before .before .before .pre .1)
+
 on-event-requires : tie.Need-on-event-requires
 on-event-requires c κs = search needs
 
@@ -140,7 +161,21 @@ same-length-7 : tie.Need-same-length-7
 same-length-7 c = search needs
 
 returns-8 : tie.Need-returns-8
-returns-8 c = (c .before .before .on-event .ensures .0, event-line _ (c .before .before .before .before .before .before .before .before .before .args .order) _ _ (c .before .before .before .before .before .before .match .keys8) (c .before .before .on-event .ensures .1))
+unfolding meant ascii
+returns-8 c = (c .before .before .on-save .ensures .0, rw (c .before .before .before .before .before .before .enum-told4 .given .1) (c .before .before .on-save .ensures .1))
+
+same-length-8 : tie.Need-same-length-8
+same-length-8 c = search needs
+
+returns-9 : tie.Need-returns-9
+unfolding meant ascii
+returns-9 c = (c .before .before .on-restore .ensures .0, rw (c .before .before .before .before .before .before .before .before .order5 .given .1) (c .before .before .on-restore .ensures .1))
+
+same-length-9 : tie.Need-same-length-9
+same-length-9 c = search needs
+
+returns-10 : tie.Need-returns-10
+returns-10 c = (c .before .before .on-event .ensures .0, event-line _ (c .before .before .before .before .before .before .before .before .before .args .order) _ _ (c .before .before .before .before .before .before .match .keys10) (c .before .before .on-event .ensures .1))
 
 pub obey-spec : {M : Type 1} → statement M
 obey-spec =
@@ -173,6 +208,13 @@ obey-spec =
     free-labels-requires
     cast-put-count-3
     put-count-requires-4
+    enum-told-4
+    on-save-requires
+    enum-known-order-5
+    sub-on-restore
+    part-on-restore-start
+    part-on-restore-end
+    on-restore-requires
     on-event-requires
     returns
     same-length
@@ -188,4 +230,8 @@ obey-spec =
     same-length-6
     returns-7
     same-length-7
-    returns-8)
+    returns-8
+    same-length-8
+    returns-9
+    same-length-9
+    returns-10)

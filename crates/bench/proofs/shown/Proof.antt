@@ -17,7 +17,7 @@ returns : tie.Need-returns
 returns c = search needs
 
 returns-2 : tie.Need-returns-2
-returns-2 c = (sym (take-all 9984 (c .before .args .records .now) (c .if1 .left)), c .if1 .left)
+returns-2 c = (sym (take-all 23343 (c .before .args .records .now) (c .if1 .left)), c .if1 .left)
 
 pub shown-spec : {M : Type 1} → statement M
 shown-spec = tie.close (tie.spec sub-result part-result-start part-result-end returns returns-2)
