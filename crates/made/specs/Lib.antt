@@ -4,3 +4,4 @@ pub mod Neap
 pub mod Spring
 pub mod Drought
 pub mod Trickle
+pub mod Swap
