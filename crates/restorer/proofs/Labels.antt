@@ -18,8 +18,8 @@ use Rattle.meaning.specs.Save.{nameIn, useRead, usesRead, isMappedFor, labelled
 use Rattle.octets.specs.Part.{tab}
 use Rattle.table.specs.Memory.{cardOf, baseIn, treeCount, markAt, markUse, isFreeAt, isMappedAt, labelIn, labelName}
 use Rattle.table.proofs.Memory.{base-range, trees-length, labels-length}
-use Rattle.table.proofs.Marks.{never, mapped-at, mapped-use, taken-use, label-free, label-mapped, label-awaiting}
-use Rattle.table.proofs.Laws.{label-at}
+use Rattle.table.proofs.Marks.{never, mapped-use, label-free, label-mapped}
+use Rattle.table.proofs.Laws.{label-at, awaited-is}
 use Rattle.restorer.specs.Stages.{Unlabelled, Ready}
 use Rattle.restorer.proofs.Read.{four-drop}
 
@@ -95,11 +95,7 @@ module _ (ns os a : List ℕ) where
   mapped-not p m =
       by-test (isFreeAt ns p)
       (λ e. rw (label-free ns p os e) refl)
-      (λ e.
-      let u = taken-use ns p e in
-      by-test (leb (markUse (markAt ns p)) 16)
-      (λ t. absurd (never (sym m ∙ mapped-at ns p (u .0) (leb-true _ _ t))))
-      (λ t. let k : 16 < markUse (markAt ns p) = leb-false _ _ t in rw (label-awaiting ns p os k (u .1)) refl))
+      (λ e. rw (awaited-is ns p os e m) refl)
 
   pub mapped-named : (p : ℕ) → isMappedAt ns p ≡ true → isMappedFor a (labelIn ns os p) ≡ same (labelName os p) a
   unfolding isMappedFor
