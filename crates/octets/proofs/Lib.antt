@@ -1,2 +1,3 @@
 pub mod Laws
 pub mod Tab
+pub mod Bits
