@@ -172,7 +172,7 @@ fn lent(out: &mut [u8], room: u32) -> &mut [u8]
 }
 
 fn on_take(
-    numbers: &mut [u64; 1444],
+    numbers: &mut [u64; 1448],
     names: &mut [u8; 18144],
     neighbour: u32,
     hex: &[u8],
@@ -198,7 +198,7 @@ fn on_take(
 }
 
 fn on_join(
-    numbers: &mut [u64; 1444],
+    numbers: &mut [u64; 1448],
     names: &mut [u8; 18144],
     hex: &[u8],
     room: u32,
@@ -222,7 +222,7 @@ fn on_join(
 }
 
 fn on_leave(
-    numbers: &mut [u64; 1444],
+    numbers: &mut [u64; 1448],
     names: &mut [u8; 18144],
     hex: &[u8],
     room: u32,
@@ -246,7 +246,7 @@ fn on_leave(
 }
 
 fn on_route(
-    numbers: &mut [u64; 1444],
+    numbers: &mut [u64; 1448],
     names: &mut [u8; 18144],
     hex: &[u8],
     via: u32,
@@ -273,7 +273,7 @@ fn on_route(
 
 // Why a message was refused, to the neighbour that sent it.
 fn on_notice(
-    numbers: &mut [u64; 1444],
+    numbers: &mut [u64; 1448],
     neighbour: u32,
     number: u32,
     hex: &[u8],
@@ -298,7 +298,7 @@ fn on_notice(
     put_event(text, b"notice", answer, record)
 }
 
-fn on_tree(numbers: &[u64; 1444], names: &[u8; 18144], hex: &[u8], text: &mut [u8]) -> usize
+fn on_tree(numbers: &[u64; 1448], names: &[u8; 18144], hex: &[u8], text: &mut [u8]) -> usize
     requires { ⌜ (length (now hex) ≤ 8192) × (47104 ≤ length (now text)) ⌝ }
     ensures { λ r. ⌜ (r ≤ 47104) × IsFeed (ascii "tree") (take r (now (text .exit))) ⌝ }
 {
@@ -312,7 +312,7 @@ fn on_tree(numbers: &[u64; 1444], names: &[u8; 18144], hex: &[u8], text: &mut [u
 }
 
 // The table as octets, for a card swap.
-fn on_save(numbers: &[u64; 1444], names: &[u8; 18144], room: u32, text: &mut [u8]) -> usize
+fn on_save(numbers: &[u64; 1448], names: &[u8; 18144], room: u32, text: &mut [u8]) -> usize
     requires { ⌜ 47104 ≤ length (now text) ⌝ }
     ensures { λ r. ⌜ (r ≤ 47104) × IsEvent (ascii "save") (take r (now (text .exit))) ⌝ }
 {
@@ -323,7 +323,7 @@ fn on_save(numbers: &[u64; 1444], names: &[u8; 18144], room: u32, text: &mut [u8
 }
 
 fn on_restore(
-    numbers: &mut [u64; 1444],
+    numbers: &mut [u64; 1448],
     names: &mut [u8; 18144],
     hex: &[u8],
     text: &mut [u8],
@@ -338,7 +338,7 @@ fn on_restore(
 }
 
 fn on_event(
-    numbers: &mut [u64; 1444],
+    numbers: &mut [u64; 1448],
     names: &mut [u8; 18144],
     line: &[u8],
     order: Order,
@@ -371,7 +371,7 @@ fn on_event(
 
 // Does what is ordered, and writes the answer to the front of `text`.
 fn obey(
-    numbers: &mut [u64; 1444],
+    numbers: &mut [u64; 1448],
     names: &mut [u8; 18144],
     line: &[u8],
     order: Order,
@@ -412,7 +412,7 @@ fn next_room(room: u32, order: Order) -> u32
 }
 
 fn answer(
-    numbers: &mut [u64; 1444],
+    numbers: &mut [u64; 1448],
     names: &mut [u8; 18144],
     line: &[u8],
     number: u64,
@@ -452,7 +452,7 @@ fn keep(line: &mut [u8], kept: usize, c: u8) -> usize
 
 // What the line that is kept is answered with. One too long to keep is a bad line.
 fn reply(
-    numbers: &mut [u64; 1444],
+    numbers: &mut [u64; 1448],
     names: &mut [u8; 18144],
     line: &[u8],
     text: &mut [u8],
@@ -474,7 +474,7 @@ fn reply(
 }
 
 fn end_line(
-    numbers: &mut [u64; 1444],
+    numbers: &mut [u64; 1448],
     names: &mut [u8; 18144],
     line: &[u8],
     text: &mut [u8],
@@ -495,7 +495,7 @@ fn end_line(
 }
 
 fn take_octet(
-    numbers: &mut [u64; 1444],
+    numbers: &mut [u64; 1448],
     names: &mut [u8; 18144],
     line: &mut [u8],
     text: &mut [u8],
@@ -516,7 +516,7 @@ fn take_octet(
 }
 
 fn take_chunk(
-    numbers: &mut [u64; 1444],
+    numbers: &mut [u64; 1448],
     names: &mut [u8; 18144],
     line: &mut [u8],
     text: &mut [u8],
@@ -536,7 +536,7 @@ fn take_chunk(
 
 // Reads once, and answers the lines that end in what came. At the end of the input, what is kept is a line too.
 fn step(
-    numbers: &mut [u64; 1444],
+    numbers: &mut [u64; 1448],
     names: &mut [u8; 18144],
     line: &mut [u8; 65536],
     text: &mut [u8; 47104],
@@ -562,7 +562,7 @@ fn step(
 // The room is at first that of the longest save: events have no more than their buffer of it.
 // A proved loop has to end, and nothing says that the input does: the loop counts its turns down, from a number that no run uses up.
 fn main() {
-    let mut numbers = [0u64; 1444];
+    let mut numbers = [0u64; 1448];
     let mut names = [0u8; 18144];
     let mut line = [0u8; 65536];
     let mut text = [0u8; 47104];

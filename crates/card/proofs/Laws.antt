@@ -18,7 +18,7 @@ use Rattle.octets.specs.Part.{tab}
 use Rattle.octets.proofs.Tab.{tab-length}
 use Rattle.table.specs.Memory.{cardOf, baseIn, treeCount, markAt, markUse, isFreeAt, labelIn}
 use Rattle.table.proofs.Memory.{trees-length}
-use Rattle.table.proofs.Marks.{taken-use, label-free, label-mapped, label-awaiting}
+use Rattle.table.proofs.Marks.{label-free, label-mapped, label-awaiting}
 use Rattle.table.proofs.Laws.{use-in}
 use Rattle.trees.specs.End.{joinOf, leaveOf}
 use Rattle.trees.proofs.Laws.{does-refused, standing-at, not-standing}
@@ -200,11 +200,11 @@ none-in l c ns os p e =
     by-test (isFreeAt ns p)
     (λ x. rw (label-free ns p os x) (unfold feedOfUse in refl))
     (λ x.
-    by-test (leb (markUse (markAt ns p)) 16)
+    by-test (ltb (markUse (markAt ns p)) 16)
     (λ y.
-    let q : markUse (markAt ns p) - 1 ≡ 17 = sym (ap mappedTo (label-mapped ns p os (taken-use ns p x) (leb-true _ _ y)) ∙ unfold mappedTo in refl) ∙ e in
-    absurd (omega (arith, taken-use ns p x, leb-true (markUse (markAt ns p)) 16 y)))
-    (λ y. rw (label-awaiting ns p os (leb-false _ _ y)) (unfold feedOfUse in refl)))
+    let q : markUse (markAt ns p) ≡ 17 = sym (ap mappedTo (label-mapped ns p os x (ltb-true _ _ y)) ∙ unfold mappedTo in refl) ∙ e in
+    absurd (omega (arith, ltb-true (markUse (markAt ns p)) 16 y)))
+    (λ y. rw (label-awaiting ns p os x (ltb-false _ _ y)) (unfold feedOfUse in refl)))
 
 module _ (ns os : List ℕ) (l : ℕ) where
   outside : (baseIn ns ≤ l → l < baseIn ns + 256 → ⊥) → useOf l (cardOf ns os) ≡ free

@@ -15,7 +15,7 @@ use reader::Read;
 // ---- start
 
 // A fresh card, whatever the memory held: 0, or 17 and a fresh card of base 16.
-pub fn start(numbers: &mut [u64; 1444], base: u32) -> u32
+pub fn start(numbers: &mut [u64; 1448], base: u32) -> u32
     ensures { λ r. ⌜ (r ≡ start base .answer) × ((os : List ℕ) → cardOf (now (numbers .exit)) os ≡ start base .card) ⌝ }
 {
     if base < 16 {
@@ -42,7 +42,7 @@ fn on_message(
     out: &mut [u8],
     answer: &mut u32,
 ) -> usize
-    requires { ⌜ (length (now numbers) ≡ 1444) × (length (now names) ≡ 18144) × (n < 16) × (16 ≤ label) × (length (now name) ≤ 54) ⌝ }
+    requires { ⌜ (length (now numbers) ≡ 1448) × (length (now names) ≡ 18144) × (n < 16) × (16 ≤ label) × (length (now name) ≤ 54) ⌝ }
     ensures { λ r. ⌜ Does (finish (length (now (out .entry))) (cardOf (now (numbers .entry)) (now (names .entry))) (onMessage (cardOf (now (numbers .entry)) (now (names .entry))) n (record { kind = kind; name = now (name .entry); label = label })))
         (now (answer .exit)) r (now (out .entry)) (now (out .exit)) (cardOf (now (numbers .exit)) (now (names .exit))) ⌝ }
 {
@@ -69,7 +69,7 @@ fn on_read(
     out: &mut [u8],
     answer: &mut u32,
 ) -> usize
-    requires { ⌜ (length (now numbers) ≡ 1444) × (length (now names) ≡ 18144) × (n < 16) ⌝ }
+    requires { ⌜ (length (now numbers) ≡ 1448) × (length (now names) ≡ 18144) × (n < 16) ⌝ }
     ensures { λ r. ⌜ Does (finish (length (now (out .entry))) (cardOf (now (numbers .entry)) (now (names .entry))) (onRead (cardOf (now (numbers .entry)) (now (names .entry))) n (now (message .entry))))
         (now (answer .exit)) r (now (out .entry)) (now (out .exit)) (cardOf (now (numbers .exit)) (now (names .exit))) ⌝ }
 {
@@ -97,7 +97,7 @@ fn on_read(
 }
 
 pub fn receive_core(
-    numbers: &mut [u64; 1444],
+    numbers: &mut [u64; 1448],
     names: &mut [u8; 18144],
     neighbour: u32,
     message: &[u8],
@@ -115,7 +115,7 @@ pub fn receive_core(
 }
 
 pub fn receive<'a>(
-    numbers: &mut [u64; 1444],
+    numbers: &mut [u64; 1448],
     names: &mut [u8; 18144],
     neighbour: u32,
     message: &[u8],
@@ -132,7 +132,7 @@ pub fn receive<'a>(
 // ---- local leaf orders, on the octets of one element
 
 pub fn join_core(
-    numbers: &mut [u64; 1444],
+    numbers: &mut [u64; 1448],
     names: &mut [u8; 18144],
     element: &[u8],
     out: &mut [u8],
@@ -150,7 +150,7 @@ pub fn join_core(
 }
 
 pub fn join<'a>(
-    numbers: &mut [u64; 1444],
+    numbers: &mut [u64; 1448],
     names: &mut [u8; 18144],
     element: &[u8],
     out: &'a mut [u8],
@@ -164,7 +164,7 @@ pub fn join<'a>(
 }
 
 pub fn leave_core(
-    numbers: &mut [u64; 1444],
+    numbers: &mut [u64; 1448],
     names: &mut [u8; 18144],
     element: &[u8],
     out: &mut [u8],
@@ -182,7 +182,7 @@ pub fn leave_core(
 }
 
 pub fn leave<'a>(
-    numbers: &mut [u64; 1444],
+    numbers: &mut [u64; 1448],
     names: &mut [u8; 18144],
     element: &[u8],
     out: &'a mut [u8],
@@ -208,7 +208,7 @@ fn not_root(root: &[u8]) -> bool
 }
 
 pub fn route_core(
-    numbers: &mut [u64; 1444],
+    numbers: &mut [u64; 1448],
     names: &mut [u8; 18144],
     root: &[u8],
     via: u32,
@@ -230,7 +230,7 @@ pub fn route_core(
 }
 
 pub fn route<'a>(
-    numbers: &mut [u64; 1444],
+    numbers: &mut [u64; 1448],
     names: &mut [u8; 18144],
     root: &[u8],
     via: u32,
@@ -254,7 +254,7 @@ pub struct Feed {
 
 // Where the tree at place i leads while u is its upstream, whose own branch is held.
 fn feed_at(numbers: &[u64], i: usize, u: u64) -> Feed
-    requires { ⌜ (length (now numbers) ≡ 1444) × (i < treeCount (now numbers)) × (i < 64) ⌝ }
+    requires { ⌜ (length (now numbers) ≡ 1448) × (i < treeCount (now numbers)) × (i < 64) ⌝ }
     ensures { λ r. ⌜ ((os : List ℕ) → feedIn (r .branches) (r .leaf) ≡ feedOf u (treeAt i (cardOf (now (numbers .entry)) os))) ⌝ }
 {
     let mut branches = table::branches(numbers, i);
@@ -277,7 +277,7 @@ fn no_feed() -> Feed
 }
 
 fn find_label(numbers: &[u64], label: u64) -> Feed
-    requires { ⌜ length (now numbers) ≡ 1444 ⌝ }
+    requires { ⌜ length (now numbers) ≡ 1448 ⌝ }
     ensures { λ r. ⌜ ((os : List ℕ) → feedIn (r .branches) (r .leaf) ≡ lookupLabel label (cardOf (now (numbers .entry)) os)) ⌝ }
 {
     let sender = table::mapped_to(numbers, label);
@@ -292,7 +292,7 @@ fn find_label(numbers: &[u64], label: u64) -> Feed
 }
 
 fn find_name(numbers: &[u64], names: &[u8], element: &[u8]) -> Feed
-    requires { ⌜ (length (now numbers) ≡ 1444) × (length (now names) ≡ 18144) ⌝ }
+    requires { ⌜ (length (now numbers) ≡ 1448) × (length (now names) ≡ 18144) ⌝ }
     ensures { λ r. ⌜ feedIn (r .branches) (r .leaf) ≡ lookupName (now (element .entry)) (cardOf (now (numbers .entry)) (now (names .entry))) ⌝ }
 {
     if reader::element_refusal(element) != 0 {
@@ -306,19 +306,19 @@ fn find_name(numbers: &[u64], names: &[u8], element: &[u8]) -> Feed
     no_feed()
 }
 
-pub fn lookup_label(numbers: &[u64; 1444], label: u32) -> Feed
+pub fn lookup_label(numbers: &[u64; 1448], label: u32) -> Feed
     ensures { λ r. ⌜ ((os : List ℕ) → feedIn (r .branches) (r .leaf) ≡ lookupLabel label (cardOf (now (numbers .entry)) os)) ⌝ }
 {
     find_label(numbers, label as u64)
 }
 
-pub fn lookup_name(numbers: &[u64; 1444], names: &[u8; 18144], element: &[u8]) -> Feed
+pub fn lookup_name(numbers: &[u64; 1448], names: &[u8; 18144], element: &[u8]) -> Feed
     ensures { λ r. ⌜ feedIn (r .branches) (r .leaf) ≡ lookupName (now (element .entry)) (cardOf (now (numbers .entry)) (now (names .entry))) ⌝ }
 {
     find_name(numbers, names, element)
 }
 
-pub fn free_labels(numbers: &[u64; 1444]) -> u32
+pub fn free_labels(numbers: &[u64; 1448]) -> u32
     ensures { λ r. ⌜ ((os : List ℕ) → r ≡ freeLabels (cardOf (now (numbers .entry)) os)) ⌝ }
 {
     table::free_labels(numbers) as u32

@@ -11,7 +11,7 @@ ghost use Rattle.table.specs.Memory.{cardOf};
 ghost use Rattle.card.specs.Calls.{feedIn};
 
 #[no_mangle]
-pub extern "C" fn card_start(numbers: &mut [u64; 1444], base: u32) -> u32
+pub extern "C" fn card_start(numbers: &mut [u64; 1448], base: u32) -> u32
     ensures { λ r. ⌜ (r ≡ start base .answer) × ((os : List ℕ) → cardOf (now (numbers .exit)) os ≡ start base .card) ⌝ }
 {
     card::start(numbers, base)
@@ -21,7 +21,7 @@ pub extern "C" fn card_start(numbers: &mut [u64; 1444], base: u32) -> u32
 
 #[no_mangle]
 pub extern "C" fn card_receive(
-    numbers: &mut [u64; 1444],
+    numbers: &mut [u64; 1448],
     names: &mut [u8; 18144],
     neighbour: u32,
     message: &[u8],
@@ -36,7 +36,7 @@ pub extern "C" fn card_receive(
 
 #[no_mangle]
 pub extern "C" fn card_join(
-    numbers: &mut [u64; 1444],
+    numbers: &mut [u64; 1448],
     names: &mut [u8; 18144],
     element: &[u8],
     out: &mut [u8],
@@ -50,7 +50,7 @@ pub extern "C" fn card_join(
 
 #[no_mangle]
 pub extern "C" fn card_leave(
-    numbers: &mut [u64; 1444],
+    numbers: &mut [u64; 1448],
     names: &mut [u8; 18144],
     element: &[u8],
     out: &mut [u8],
@@ -64,7 +64,7 @@ pub extern "C" fn card_leave(
 
 #[no_mangle]
 pub extern "C" fn card_route(
-    numbers: &mut [u64; 1444],
+    numbers: &mut [u64; 1448],
     names: &mut [u8; 18144],
     root: &[u8],
     via: u32,
@@ -81,7 +81,7 @@ pub extern "C" fn card_route(
 
 #[no_mangle]
 pub extern "C" fn card_lookup_label(
-    numbers: &[u64; 1444],
+    numbers: &[u64; 1448],
     label: u32,
     branches: &mut [u64; 16],
 ) -> bool
@@ -95,7 +95,7 @@ pub extern "C" fn card_lookup_label(
 
 #[no_mangle]
 pub extern "C" fn card_lookup_name(
-    numbers: &[u64; 1444],
+    numbers: &[u64; 1448],
     names: &[u8; 18144],
     element: &[u8],
     branches: &mut [u64; 16],
@@ -109,7 +109,7 @@ pub extern "C" fn card_lookup_name(
 }
 
 #[no_mangle]
-pub extern "C" fn card_free_labels(numbers: &[u64; 1444]) -> u32
+pub extern "C" fn card_free_labels(numbers: &[u64; 1448]) -> u32
     ensures { λ r. ⌜ ((os : List ℕ) → r ≡ freeLabels (cardOf (now (numbers .entry)) os)) ⌝ }
 {
     card::free_labels(numbers)

@@ -25,7 +25,7 @@ fn give_up(
     at: usize,
     id: u32,
 ) -> Written
-    requires { ⌜ (length (now numbers) ≡ 1444) × (length (now names) ≡ 18144) × (i < treeCount (now numbers)) × (i < 64)
+    requires { ⌜ (length (now numbers) ≡ 1448) × (length (now names) ≡ 18144) × (i < treeCount (now numbers)) × (i < 64)
         × (treeAt i (cardOf (now numbers) (now names)) .label ≡ 0 → ⊥)
         × (at + (24 + length (treeAt i (cardOf (now numbers) (now names)) .name)) ≤ length (now out)) ⌝ }
     ensures { λ r. ⌜ Wrote (giveUp i (cardOf (now (numbers .entry)) (now (names .entry)))) id at (now (out .entry)) (now (out .exit)) (cardOf (now (numbers .exit)) (now (names .entry))) (r .at) (r .id)
@@ -48,7 +48,7 @@ fn let_go(
     at: usize,
     id: u32,
 ) -> Written
-    requires { ⌜ (length (now numbers) ≡ 1444) × (length (now names) ≡ 18144) × (i < treeCount (now numbers)) × (i < 64)
+    requires { ⌜ (length (now numbers) ≡ 1448) × (length (now names) ≡ 18144) × (i < treeCount (now numbers)) × (i < 64)
         × (at + length (records id (letGo i (cardOf (now numbers) (now names)) .sent)) ≤ length (now out)) ⌝ }
     ensures { λ r. ⌜ Wrote (letGo i (cardOf (now (numbers .entry)) (now (names .entry)))) id at (now (out .entry)) (now (out .exit)) (cardOf (now (numbers .exit)) (now (names .entry))) (r .at) (r .id)
         × (freeLabels (cardOf (now (numbers .exit)) (now (names .entry))) ≡ freeLabels (cardOf (now (numbers .entry)) (now (names .entry)))) ⌝ }
@@ -68,7 +68,7 @@ fn give(
     at: usize,
     id: u32,
 ) -> Written
-    requires { ⌜ (length (now numbers) ≡ 1444) × (length (now names) ≡ 18144) × (i < treeCount (now numbers)) × (i < 64) × (u < 16)
+    requires { ⌜ (length (now numbers) ≡ 1448) × (length (now names) ≡ 18144) × (i < treeCount (now numbers)) × (i < 64) × (u < 16)
         × (0 < freeLabels (cardOf (now numbers) (now names)))
         × (at + (24 + length (treeAt i (cardOf (now numbers) (now names)) .name)) ≤ length (now out)) ⌝ }
     ensures { λ r. ⌜ Wrote (give i u (cardOf (now (numbers .entry)) (now (names .entry)))) id at (now (out .entry)) (now (out .exit)) (cardOf (now (numbers .exit)) (now (names .exit))) (r .at) (r .id)
@@ -92,7 +92,7 @@ pub fn take_up(
     at: usize,
     id: u32,
 ) -> Written
-    requires { ⌜ (length (now numbers) ≡ 1444) × (length (now names) ≡ 18144) × (i < treeCount (now numbers)) × (i < 64) × (u ≤ 17) × (u ≡ 16 → ⊥)
+    requires { ⌜ (length (now numbers) ≡ 1448) × (length (now names) ≡ 18144) × (i < treeCount (now numbers)) × (i < 64) × (u ≤ 17) × (u ≡ 16 → ⊥)
         × (needMove u ≤ freeLabels (cardOf (now numbers) (now names)))
         × (at + length (records id (takeUp i u (cardOf (now numbers) (now names)) .sent)) ≤ length (now out)) ⌝ }
     ensures { λ r. ⌜ Wrote (takeUp i u (cardOf (now (numbers .entry)) (now (names .entry)))) id at (now (out .entry)) (now (out .exit)) (cardOf (now (numbers .exit)) (now (names .exit))) (r .at) (r .id)
@@ -113,7 +113,7 @@ pub fn move_label(
     at: usize,
     id: u32,
 ) -> Written
-    requires { ⌜ (length (now numbers) ≡ 1444) × (length (now names) ≡ 18144) × (i < treeCount (now numbers)) × (i < 64) × (u ≤ 17) × (u ≡ 16 → ⊥)
+    requires { ⌜ (length (now numbers) ≡ 1448) × (length (now names) ≡ 18144) × (i < treeCount (now numbers)) × (i < 64) × (u ≤ 17) × (u ≡ 16 → ⊥)
         × (needMove u ≤ freeLabels (cardOf (now numbers) (now names)))
         × (at + moveSize (treeAt i (cardOf (now numbers) (now names))) u ≤ length (now out)) ⌝ }
     ensures { λ r. ⌜ Wrote (moveLabel i u (cardOf (now (numbers .entry)) (now (names .entry)))) id at (now (out .entry)) (now (out .exit)) (cardOf (now (numbers .exit)) (now (names .exit))) (r .at) (r .id)
@@ -135,7 +135,7 @@ pub fn relabel(
     at: usize,
     id: u32,
 ) -> Written
-    requires { ⌜ (length (now numbers) ≡ 1444) × (length (now names) ≡ 18144) × (i < treeCount (now numbers)) × (i < 64) × (u ≤ 17) × (u ≡ 16 → ⊥)
+    requires { ⌜ (length (now numbers) ≡ 1448) × (length (now names) ≡ 18144) × (i < treeCount (now numbers)) × (i < 64) × (u ≤ 17) × (u ≡ 16 → ⊥)
         × (need (cardOf (now numbers) (now names)) (treeAt i (cardOf (now numbers) (now names))) u ≤ freeLabels (cardOf (now numbers) (now names)))
         × (at + relabelSize (cardOf (now numbers) (now names)) (treeAt i (cardOf (now numbers) (now names))) u ≤ length (now out)) ⌝ }
     ensures { λ r. ⌜ Wrote (relabel i u (cardOf (now (numbers .entry)) (now (names .entry)))) id at (now (out .entry)) (now (out .exit)) (cardOf (now (numbers .exit)) (now (names .exit))) (r .at) (r .id) ⌝ }
@@ -148,7 +148,7 @@ pub fn relabel(
 
 // How many octets the records of a move have.
 pub fn move_size(numbers: &[u64], names: &[u8], i: usize, u: u64) -> usize
-    requires { ⌜ (length (now numbers) ≡ 1444) × (length (now names) ≡ 18144) × (i < treeCount (now numbers)) × (i < 64) ⌝ }
+    requires { ⌜ (length (now numbers) ≡ 1448) × (length (now names) ≡ 18144) × (i < treeCount (now numbers)) × (i < 64) ⌝ }
     ensures { λ r. ⌜ (r ≡ moveSize (treeAt i (cardOf (now (numbers .entry)) (now (names .entry)))) u) × (r ≤ 156) ⌝ }
 {
     let size = 24 + table::tree_name(names, i).len();
@@ -165,7 +165,7 @@ pub fn move_size(numbers: &[u64], names: &[u8], i: usize, u: u64) -> usize
 }
 
 pub fn relabel_size(numbers: &[u64], names: &[u8], i: usize, u: u64) -> usize
-    requires { ⌜ (length (now numbers) ≡ 1444) × (length (now names) ≡ 18144) × (i < treeCount (now numbers)) × (i < 64) ⌝ }
+    requires { ⌜ (length (now numbers) ≡ 1448) × (length (now names) ≡ 18144) × (i < treeCount (now numbers)) × (i < 64) ⌝ }
     ensures { λ r. ⌜ (r ≡ relabelSize (cardOf (now (numbers .entry)) (now (names .entry))) (treeAt i (cardOf (now (numbers .entry)) (now (names .entry)))) u) × (r ≤ 156) ⌝ }
 {
     if table::held_for(numbers, i) == u {
@@ -176,7 +176,7 @@ pub fn relabel_size(numbers: &[u64], names: &[u8], i: usize, u: u64) -> usize
 
 // 12 for the tree at place i, which is to hold a label for u.
 pub fn labels_short(numbers: &[u64], i: usize, u: u64) -> bool
-    requires { ⌜ (length (now numbers) ≡ 1444) × (i < treeCount (now numbers)) × (i < 64) ⌝ }
+    requires { ⌜ (length (now numbers) ≡ 1448) × (i < treeCount (now numbers)) × (i < 64) ⌝ }
     ensures { λ r. ⌜ ((os : List ℕ) → r ≡ labelsShort (cardOf (now (numbers .entry)) os) (need (cardOf (now (numbers .entry)) os) (treeAt i (cardOf (now (numbers .entry)) os)) u)) ⌝ }
 {
     if table::held_for(numbers, i) == u {
@@ -190,7 +190,7 @@ pub fn labels_short(numbers: &[u64], i: usize, u: u64) -> bool
 
 // The neighbour that a tree of this name, if it is not empty, holds a label for; 17 for none.
 pub fn upstream_of(numbers: &[u64], names: &[u8], name: &[u8]) -> u64
-    requires { ⌜ (length (now numbers) ≡ 1444) × (length (now names) ≡ 18144) ⌝ }
+    requires { ⌜ (length (now numbers) ≡ 1448) × (length (now names) ≡ 18144) ⌝ }
     ensures { λ r. ⌜ (r ≡ upstream (routeOf (rootIn (now (name .entry))) (cardOf (now (numbers .entry)) (now (names .entry))))) × (r ≤ 17) × (r ≡ 16 → ⊥) ⌝ }
 {
     let via = table::route_of(numbers, names, reader::root_of(name));
@@ -200,7 +200,7 @@ pub fn upstream_of(numbers: &[u64], names: &[u8], name: &[u8]) -> u64
 // The neighbour for which the tree at place i holds a label where u is its upstream, once neighbour n's branch is x (16: nobody's
 // changes) and its leaf mark is `leaf`; 17 for none.
 pub fn holder_then(numbers: &[u64], i: usize, n: usize, x: u64, leaf: bool, u: u64) -> u64
-    requires { ⌜ (length (now numbers) ≡ 1444) × (i < treeCount (now numbers)) × (i < 64) ⌝ }
+    requires { ⌜ (length (now numbers) ≡ 1448) × (i < treeCount (now numbers)) × (i < 64) ⌝ }
     ensures { λ r. ⌜ ((os : List ℕ) → r ≡ holder u (withLeaf leaf (withBranch n x (treeAt i (cardOf (now (numbers .entry)) os))))) ⌝ }
 {
     if leaf {
@@ -214,7 +214,7 @@ pub fn holder_then(numbers: &[u64], i: usize, n: usize, x: u64, leaf: bool, u: u
 
 // The same of the tree as it is.
 pub fn holder(numbers: &[u64], i: usize, u: u64) -> u64
-    requires { ⌜ (length (now numbers) ≡ 1444) × (i < treeCount (now numbers)) × (i < 64) ⌝ }
+    requires { ⌜ (length (now numbers) ≡ 1448) × (i < treeCount (now numbers)) × (i < 64) ⌝ }
     ensures { λ r. ⌜ ((os : List ℕ) → r ≡ holder u (treeAt i (cardOf (now (numbers .entry)) os))) ⌝ }
 {
     holder_then(numbers, i, 16, 0, table::is_leaf(numbers, i), u)

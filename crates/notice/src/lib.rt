@@ -166,7 +166,7 @@ fn tell(
     out: &mut [u8],
     answer: &mut u32,
 ) -> usize
-    requires { ⌜ (length (now numbers) ≡ 1444) × (neighbour ≤ 15) ⌝ }
+    requires { ⌜ (length (now numbers) ≡ 1448) × (neighbour ≤ 15) ⌝ }
     ensures { λ r. ⌜ ((os : List ℕ) → Does (notice (length (now (out .entry))) (cardOf (now (numbers .entry)) os) neighbour number (now (octets .entry)))
         (now (answer .exit)) r (now (out .entry)) (now (out .exit)) (cardOf (now (numbers .exit)) os)) ⌝ }
 {
@@ -187,7 +187,7 @@ fn tell(
 
 // From the refused octets and the refusal's number. The names are not needed: the card is that of any names.
 pub fn notice_core(
-    numbers: &mut [u64; 1444],
+    numbers: &mut [u64; 1448],
     neighbour: u32,
     number: u32,
     octets: &[u8],
@@ -205,7 +205,7 @@ pub fn notice_core(
 }
 
 pub fn notice<'a>(
-    numbers: &mut [u64; 1444],
+    numbers: &mut [u64; 1448],
     neighbour: u32,
     number: u32,
     octets: &[u8],

@@ -76,7 +76,7 @@ fn put_name(octets: &[u8], at: usize, out: &mut [u8]) -> usize
 // ---- routes
 
 fn read_route(octets: &[u8], at: usize, numbers: &mut [u64], names: &mut [u8])
-    requires { ⌜ (length (now numbers) ≡ 1444) × (length (now names) ≡ 18144) × (routeCount (now numbers) < 32) × (at < 1000000000) ⌝ }
+    requires { ⌜ (length (now numbers) ≡ 1448) × (length (now names) ≡ 18144) × (routeCount (now numbers) < 32) × (at < 1000000000) ⌝ }
     ensures { λ _. ⌜ cardOf (now (numbers .exit)) (now (names .exit))
         ≡ withRoutes (cardOf (now (numbers .entry)) (now (names .entry)) .routes ++ (routeRead (drop at (now (octets .entry))) ∷ [])) (cardOf (now (numbers .entry)) (now (names .entry))) ⌝ }
 {
@@ -86,7 +86,7 @@ fn read_route(octets: &[u8], at: usize, numbers: &mut [u64], names: &mut [u8])
 }
 
 fn read_routes(octets: &[u8], n: usize, numbers: &mut [u64], names: &mut [u8])
-    requires { ⌜ (length (now numbers) ≡ 1444) × (length (now names) ≡ 18144) × (n ≤ 32) × (cardOf (now numbers) (now names) .routes ≡ []) ⌝ }
+    requires { ⌜ (length (now numbers) ≡ 1448) × (length (now names) ≡ 18144) × (n ≤ 32) × (cardOf (now numbers) (now names) .routes ≡ []) ⌝ }
     ensures { λ _. ⌜ cardOf (now (numbers .exit)) (now (names .exit)) ≡ withRoutes (routesRead n (drop 15 (now (octets .entry)))) (cardOf (now (numbers .entry)) (now (names .entry))) ⌝ }
 {
     let mut i = 0;
@@ -99,7 +99,7 @@ fn read_routes(octets: &[u8], n: usize, numbers: &mut [u64], names: &mut [u8])
 // ---- trees
 
 fn read_branches(octets: &[u8], at: usize, numbers: &mut [u64], i: usize)
-    requires { ⌜ (length (now numbers) ≡ 1444) × (i < treeCount (now numbers)) × (i < 64) × (at < 1073741824) ⌝ }
+    requires { ⌜ (length (now numbers) ≡ 1448) × (i < treeCount (now numbers)) × (i < 64) × (at < 1073741824) ⌝ }
     ensures { λ _. ⌜ ((os : List ℕ) → cardOf (now (numbers .exit)) os
         ≡ withTrees (set (cardOf (now (numbers .entry)) os .trees) i (withBranches (foursIn 16 (drop at (now (octets .entry)))) (treeAt i (cardOf (now (numbers .entry)) os)))) (cardOf (now (numbers .entry)) os)) ⌝ }
 {
@@ -112,7 +112,7 @@ fn read_branches(octets: &[u8], at: usize, numbers: &mut [u64], i: usize)
 }
 
 fn enter_name(octets: &[u8], at: usize, numbers: &mut [u64], names: &mut [u8])
-    requires { ⌜ (length (now numbers) ≡ 1444) × (length (now names) ≡ 18144) × (treeCount (now numbers) < 64) × (at < 1073741824) ⌝ }
+    requires { ⌜ (length (now numbers) ≡ 1448) × (length (now names) ≡ 18144) × (treeCount (now numbers) < 64) × (at < 1073741824) ⌝ }
     ensures { λ _. ⌜ cardOf (now (numbers .exit)) (now (names .exit))
         ≡ withTrees (cardOf (now (numbers .entry)) (now (names .entry)) .trees ++ (bare (nameIn (drop at (now (octets .entry)))) ∷ [])) (cardOf (now (numbers .entry)) (now (names .entry))) ⌝ }
 {
@@ -122,7 +122,7 @@ fn enter_name(octets: &[u8], at: usize, numbers: &mut [u64], names: &mut [u8])
 }
 
 fn read_tree(octets: &[u8], at: usize, numbers: &mut [u64], names: &mut [u8])
-    requires { ⌜ (length (now numbers) ≡ 1444) × (length (now names) ≡ 18144) × (treeCount (now numbers) < 64) × (at < 1000000000) ⌝ }
+    requires { ⌜ (length (now numbers) ≡ 1448) × (length (now names) ≡ 18144) × (treeCount (now numbers) < 64) × (at < 1000000000) ⌝ }
     ensures { λ _. ⌜ cardOf (now (numbers .exit)) (now (names .exit))
         ≡ withTrees (cardOf (now (numbers .entry)) (now (names .entry)) .trees ++ (treeRead (drop at (now (octets .entry))) ∷ [])) (cardOf (now (numbers .entry)) (now (names .entry))) ⌝ }
 {
@@ -134,7 +134,7 @@ fn read_tree(octets: &[u8], at: usize, numbers: &mut [u64], names: &mut [u8])
 }
 
 fn read_trees(octets: &[u8], at: usize, n: usize, numbers: &mut [u64], names: &mut [u8])
-    requires { ⌜ (length (now numbers) ≡ 1444) × (length (now names) ≡ 18144) × (n ≤ 64) × (at < 65536) × (cardOf (now numbers) (now names) .trees ≡ []) ⌝ }
+    requires { ⌜ (length (now numbers) ≡ 1448) × (length (now names) ≡ 18144) × (n ≤ 64) × (at < 65536) × (cardOf (now numbers) (now names) .trees ≡ []) ⌝ }
     ensures { λ _. ⌜ cardOf (now (numbers .exit)) (now (names .exit)) ≡ withTrees (treesRead n (drop at (now (octets .entry)))) (cardOf (now (numbers .entry)) (now (names .entry))) ⌝ }
 {
     let mut i = 0;
@@ -154,7 +154,7 @@ fn place_of(label: u64, base: u64) -> u64
 }
 
 fn read_use(octets: &[u8], at: usize, numbers: &mut [u64], names: &mut [u8])
-    requires { ⌜ (length (now numbers) ≡ 1444) × (length (now names) ≡ 18144) × (at < 1000000000) × Unlabelled (cardOf (now numbers) (now names)) ⌝ }
+    requires { ⌜ (length (now numbers) ≡ 1448) × (length (now names) ≡ 18144) × (at < 1000000000) × Unlabelled (cardOf (now numbers) (now names)) ⌝ }
     ensures { λ _. ⌜ cardOf (now (numbers .exit)) (now (names .exit))
         ≡ withLabels (set (cardOf (now (numbers .entry)) (now (names .entry)) .labels) (fourAt (drop at (now (octets .entry))) 3 - cardOf (now (numbers .entry)) (now (names .entry)) .base) (useRead (drop at (now (octets .entry))))) (cardOf (now (numbers .entry)) (now (names .entry))) ⌝ }
 {
@@ -170,7 +170,7 @@ fn read_use(octets: &[u8], at: usize, numbers: &mut [u64], names: &mut [u8])
 }
 
 fn read_uses(octets: &[u8], at: usize, n: usize, numbers: &mut [u64], names: &mut [u8])
-    requires { ⌜ (length (now numbers) ≡ 1444) × (length (now names) ≡ 18144) × (n < 65536) × (at < 65536) × Unlabelled (cardOf (now numbers) (now names)) ⌝ }
+    requires { ⌜ (length (now numbers) ≡ 1448) × (length (now names) ≡ 18144) × (n < 65536) × (at < 65536) × Unlabelled (cardOf (now numbers) (now names)) ⌝ }
     ensures { λ _. ⌜ cardOf (now (numbers .exit)) (now (names .exit))
         ≡ withLabels (usesRead (cardOf (now (numbers .entry)) (now (names .entry)) .base) n (drop at (now (octets .entry))) (cardOf (now (numbers .entry)) (now (names .entry)) .labels)) (cardOf (now (numbers .entry)) (now (names .entry))) ⌝ }
 {
@@ -184,7 +184,7 @@ fn read_uses(octets: &[u8], at: usize, n: usize, numbers: &mut [u64], names: &mu
 // ---- the label that each tree carries
 
 fn is_mapped_for(numbers: &[u64], names: &[u8], p: usize, name: &[u8]) -> bool
-    requires { ⌜ (length (now numbers) ≡ 1444) × (length (now names) ≡ 18144) × (p < 256) ⌝ }
+    requires { ⌜ (length (now numbers) ≡ 1448) × (length (now names) ≡ 18144) × (p < 256) ⌝ }
     ensures { λ r. ⌜ (r ≡ isMappedFor (now (name .entry)) (labelIn (now (numbers .entry)) (now (names .entry)) p)) × (r ≡ true → isMappedAt (now (numbers .entry)) p ≡ true) ⌝ }
 {
     if table::mapped_at(numbers, p) == 17 {
@@ -195,7 +195,7 @@ fn is_mapped_for(numbers: &[u64], names: &[u8], p: usize, name: &[u8]) -> bool
 
 // The place of the first label that is mapped for a name; 256 where none is.
 fn mapped_place(numbers: &[u64], names: &[u8], name: &[u8]) -> usize
-    requires { ⌜ (length (now numbers) ≡ 1444) × (length (now names) ≡ 18144) ⌝ }
+    requires { ⌜ (length (now numbers) ≡ 1448) × (length (now names) ≡ 18144) ⌝ }
     ensures { λ r. ⌜ (r ≡ place (isMappedFor (now (name .entry))) (cardOf (now (numbers .entry)) (now (names .entry)) .labels)) × (r ≤ 256) × (r < 256 → isMappedAt (now (numbers .entry)) r ≡ true) ⌝ }
 {
     let mut p = 0;
@@ -209,7 +209,7 @@ fn mapped_place(numbers: &[u64], names: &[u8], name: &[u8]) -> usize
 }
 
 fn label_tree(numbers: &mut [u64], names: &[u8], i: usize)
-    requires { ⌜ (length (now numbers) ≡ 1444) × (length (now names) ≡ 18144) × (i < treeCount (now numbers)) × (i < 64) × Ready i (cardOf (now numbers) (now names)) ⌝ }
+    requires { ⌜ (length (now numbers) ≡ 1448) × (length (now names) ≡ 18144) × (i < treeCount (now numbers)) × (i < 64) × Ready i (cardOf (now numbers) (now names)) ⌝ }
     ensures { λ _. ⌜ cardOf (now (numbers .exit)) (now (names .entry))
         ≡ withTrees (set (cardOf (now (numbers .entry)) (now (names .entry)) .trees) i (labelled (cardOf (now (numbers .entry)) (now (names .entry)) .base) (cardOf (now (numbers .entry)) (now (names .entry)) .labels) (treeAt i (cardOf (now (numbers .entry)) (now (names .entry)))))) (cardOf (now (numbers .entry)) (now (names .entry))) ⌝ }
 {
@@ -221,7 +221,7 @@ fn label_tree(numbers: &mut [u64], names: &[u8], i: usize)
 }
 
 fn label_trees(numbers: &mut [u64], names: &[u8])
-    requires { ⌜ (length (now numbers) ≡ 1444) × (length (now names) ≡ 18144) × Unlabelled (cardOf (now numbers) (now names)) × (onceEach sameName (cardOf (now numbers) (now names) .trees) ≡ true) ⌝ }
+    requires { ⌜ (length (now numbers) ≡ 1448) × (length (now names) ≡ 18144) × Unlabelled (cardOf (now numbers) (now names)) × (onceEach sameName (cardOf (now numbers) (now names) .trees) ≡ true) ⌝ }
     ensures { λ _. ⌜ cardOf (now (numbers .exit)) (now (names .entry))
         ≡ withTrees (allLabelled (cardOf (now (numbers .entry)) (now (names .entry)) .base) (cardOf (now (numbers .entry)) (now (names .entry)) .labels) (cardOf (now (numbers .entry)) (now (names .entry)) .trees)) (cardOf (now (numbers .entry)) (now (names .entry))) ⌝ }
 {
@@ -258,7 +258,7 @@ fn is_head(octets: &[u8]) -> bool
 
 // The head, the routes and the trees, into memory that held anything.
 fn read_rows(octets: &[u8], numbers: &mut [u64], names: &mut [u8])
-    requires { ⌜ (length (now numbers) ≡ 1444) × (length (now names) ≡ 18144) × (16 ≤ fourAt (now octets) 3) × (fourAt (now octets) 3 ≤ 1048320) × (getD (now octets) 11 0 ≤ 32) × (getD (now octets) 12 0 ≤ 64) ⌝ }
+    requires { ⌜ (length (now numbers) ≡ 1448) × (length (now names) ≡ 18144) × (16 ≤ fourAt (now octets) 3) × (fourAt (now octets) 3 ≤ 1048320) × (getD (now octets) 11 0 ≤ 32) × (getD (now octets) 12 0 ≤ 64) ⌝ }
     ensures { λ _. ⌜ cardOf (now (numbers .exit)) (now (names .exit)) ≡ rowsRead (now (octets .entry)) ⌝ }
 {
     rows::start_fresh(numbers, octets::four_at(octets, 3));
@@ -271,7 +271,7 @@ fn read_rows(octets: &[u8], numbers: &mut [u64], names: &mut [u8])
 
 // The labels, where no two trees have one name.
 fn read_labels(octets: &[u8], numbers: &mut [u64], names: &mut [u8])
-    requires { ⌜ (length (now numbers) ≡ 1444) × (length (now names) ≡ 18144) × (getD (now octets) 11 0 ≤ 32) × (getD (now octets) 12 0 ≤ 64)
+    requires { ⌜ (length (now numbers) ≡ 1448) × (length (now names) ≡ 18144) × (getD (now octets) 11 0 ≤ 32) × (getD (now octets) 12 0 ≤ 64)
         × (cardOf (now numbers) (now names) ≡ rowsRead (now octets)) × (onceEach sameName (cardOf (now numbers) (now names) .trees) ≡ true) ⌝ }
     ensures { λ _. ⌜ cardOf (now (numbers .exit)) (now (names .exit)) ≡ tableIn (now (octets .entry)) ⌝ }
 {
@@ -290,7 +290,7 @@ fn read_labels(octets: &[u8], numbers: &mut [u64], names: &mut [u8])
 
 // The table in the octets, into memory that held anything. False where the octets can be no save.
 pub fn decode(octets: &[u8], numbers: &mut [u64], names: &mut [u8]) -> bool
-    requires { ⌜ (length (now numbers) ≡ 1444) × (length (now names) ≡ 18144) ⌝ }
+    requires { ⌜ (length (now numbers) ≡ 1448) × (length (now names) ≡ 18144) ⌝ }
     ensures { λ r. ⌜ (r ≡ true → cardOf (now (numbers .exit)) (now (names .exit)) ≡ tableIn (now (octets .entry))) × (r ≡ false → isSave (now (octets .entry)) ≡ false) ⌝ }
 {
     if !is_head(octets) {
@@ -308,7 +308,7 @@ pub fn decode(octets: &[u8], numbers: &mut [u64], names: &mut [u8]) -> bool
 
 // Whether the save of the table in the memory is these octets.
 fn is_saved_as(numbers: &[u64], names: &[u8], octets: &[u8]) -> bool
-    requires { ⌜ (length (now numbers) ≡ 1444) × (length (now names) ≡ 18144) ⌝ }
+    requires { ⌜ (length (now numbers) ≡ 1448) × (length (now names) ≡ 18144) ⌝ }
     ensures { λ r. ⌜ r ≡ same (saved (cardOf (now (numbers .entry)) (now (names .entry)))) (now (octets .entry)) ⌝ }
 {
     if octets.len() != saver::saved_size(numbers) {
@@ -321,7 +321,7 @@ fn is_saved_as(numbers: &[u64], names: &[u8], octets: &[u8]) -> bool
 
 // Whether the octets are a save; where they are, its table is in the memory, which held anything.
 fn is_taken(octets: &[u8], numbers: &mut [u64], names: &mut [u8]) -> bool
-    requires { ⌜ (length (now numbers) ≡ 1444) × (length (now names) ≡ 18144) ⌝ }
+    requires { ⌜ (length (now numbers) ≡ 1448) × (length (now names) ≡ 18144) ⌝ }
     ensures { λ r. ⌜ (r ≡ isSave (now (octets .entry))) × (r ≡ true → cardOf (now (numbers .exit)) (now (names .exit)) ≡ tableIn (now (octets .entry))) ⌝ }
 {
     if !decode(octets, numbers, names) {
@@ -343,11 +343,11 @@ fn put_over(numbers: &mut [u64], names: &mut [u8], from: &[u64], octets: &[u8])
 
 // Takes back a save: 0, with its table in the card's memory, or 19, with the memory as it was. The table is read into memory of the
 // call's own first, so that octets that are no save change nothing.
-pub fn restore(numbers: &mut [u64; 1444], names: &mut [u8; 18144], octets: &[u8]) -> u32
+pub fn restore(numbers: &mut [u64; 1448], names: &mut [u8; 18144], octets: &[u8]) -> u32
     ensures { λ r. ⌜ (r ≡ restore (now (octets .entry)) (cardOf (now (numbers .entry)) (now (names .entry))) .answer)
         × (cardOf (now (numbers .exit)) (now (names .exit)) ≡ restore (now (octets .entry)) (cardOf (now (numbers .entry)) (now (names .entry))) .card) ⌝ }
 {
-    let mut read = [0u64; 1444];
+    let mut read = [0u64; 1448];
     let mut held = [0u8; 18144];
     if !is_taken(octets, &mut read, &mut held) {
         return 19;

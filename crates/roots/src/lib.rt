@@ -19,7 +19,7 @@ fn is_of_root(names: &[u8], i: usize, root: &[u8]) -> bool
 
 // How many free labels the move of one tree takes, and how many octets its records have.
 fn need_one(numbers: &[u64], names: &[u8], i: usize, root: &[u8], u: u64) -> usize
-    requires { ⌜ (length (now numbers) ≡ 1444) × (length (now names) ≡ 18144) × (i < treeCount (now numbers)) × (i < 64) ⌝ }
+    requires { ⌜ (length (now numbers) ≡ 1448) × (length (now names) ≡ 18144) × (i < treeCount (now numbers)) × (i < 64) ⌝ }
     ensures { λ r. ⌜ (r ≡ needOne (now (root .entry)) u (treeAt i (cardOf (now (numbers .entry)) (now (names .entry))))) × (r ≤ 1) ⌝ }
 {
     if is_of_root(names, i, root) {
@@ -34,7 +34,7 @@ fn need_one(numbers: &[u64], names: &[u8], i: usize, root: &[u8], u: u64) -> usi
 }
 
 fn size_one(numbers: &[u64], names: &[u8], i: usize, root: &[u8], u: u64) -> usize
-    requires { ⌜ (length (now numbers) ≡ 1444) × (length (now names) ≡ 18144) × (i < treeCount (now numbers)) × (i < 64) ⌝ }
+    requires { ⌜ (length (now numbers) ≡ 1448) × (length (now names) ≡ 18144) × (i < treeCount (now numbers)) × (i < 64) ⌝ }
     ensures { λ r. ⌜ (r ≡ sizeOne (now (root .entry)) u (treeAt i (cardOf (now (numbers .entry)) (now (names .entry))))) × (r ≤ 156) ⌝ }
 {
     if is_of_root(names, i, root) {
@@ -46,7 +46,7 @@ fn size_one(numbers: &[u64], names: &[u8], i: usize, root: &[u8], u: u64) -> usi
 
 // How many free labels a move of all trees of a root takes.
 pub fn need_all(numbers: &[u64], names: &[u8], root: &[u8], u: u64) -> usize
-    requires { ⌜ (length (now numbers) ≡ 1444) × (length (now names) ≡ 18144) ⌝ }
+    requires { ⌜ (length (now numbers) ≡ 1448) × (length (now names) ≡ 18144) ⌝ }
     ensures { λ r. ⌜ (r ≡ needAll (now (root .entry)) u (cardOf (now (numbers .entry)) (now (names .entry)))) × (r ≤ 64) ⌝ }
 {
     let n = table::tree_count(numbers);
@@ -61,7 +61,7 @@ pub fn need_all(numbers: &[u64], names: &[u8], root: &[u8], u: u64) -> usize
 
 // How many octets its records have.
 pub fn size_all(numbers: &[u64], names: &[u8], root: &[u8], u: u64) -> usize
-    requires { ⌜ (length (now numbers) ≡ 1444) × (length (now names) ≡ 18144) ⌝ }
+    requires { ⌜ (length (now numbers) ≡ 1448) × (length (now names) ≡ 18144) ⌝ }
     ensures { λ r. ⌜ (r ≡ sizeAll (now (root .entry)) u (cardOf (now (numbers .entry)) (now (names .entry)))) × (r ≤ 9984) ⌝ }
 {
     let n = table::tree_count(numbers);
@@ -84,7 +84,7 @@ fn move_one(
     at: usize,
     id: u32,
 ) -> Written
-    requires { ⌜ (length (now numbers) ≡ 1444) × (length (now names) ≡ 18144) × (i < treeCount (now numbers)) × (i < 64) × (u ≤ 17) × (u ≡ 16 → ⊥)
+    requires { ⌜ (length (now numbers) ≡ 1448) × (length (now names) ≡ 18144) × (i < treeCount (now numbers)) × (i < 64) × (u ≤ 17) × (u ≡ 16 → ⊥)
         × (needOne (now root) u (treeAt i (cardOf (now numbers) (now names))) ≤ freeLabels (cardOf (now numbers) (now names)))
         × (at + length (records id (moveOne (now root) u i (cardOf (now numbers) (now names)) .sent)) ≤ length (now out)) ⌝ }
     ensures { λ r. ⌜ Wrote (moveOne (now (root .entry)) u i (cardOf (now (numbers .entry)) (now (names .entry)))) id at (now (out .entry)) (now (out .exit)) (cardOf (now (numbers .exit)) (now (names .exit))) (r .at) (r .id)
@@ -107,7 +107,7 @@ pub fn move_all(
     out: &mut [u8],
     id: u32,
 ) -> Written
-    requires { ⌜ (length (now numbers) ≡ 1444) × (length (now names) ≡ 18144) × (u ≤ 17) × (u ≡ 16 → ⊥)
+    requires { ⌜ (length (now numbers) ≡ 1448) × (length (now names) ≡ 18144) × (u ≤ 17) × (u ≡ 16 → ⊥)
         × (needAll (now root) u (cardOf (now numbers) (now names)) ≤ freeLabels (cardOf (now numbers) (now names)))
         × (sizeAll (now root) u (cardOf (now numbers) (now names)) ≤ length (now out)) ⌝ }
     ensures { λ r. ⌜ Wrote (moveAll (now (root .entry)) u (cardOf (now (numbers .entry)) (now (names .entry)))) id 0 (now (out .entry)) (now (out .exit)) (cardOf (now (numbers .exit)) (now (names .exit))) (r .at) (r .id) ⌝ }

@@ -9,17 +9,17 @@ use lib.Seq.{getD-set-same, getD-set-other}
 use lib.Dec.{eqb}
 use borrow.Author.Tests.{eqb-true, eqb-false}
 use Rattle.meaning.specs.Lists.{by-test}
-use Rattle.table.specs.Memory.{markAt, markUse, markPlace, isFreeAt, isMappedAt, labelIn, ownPlace, carriesAt}
-use Rattle.table.proofs.Memory.{base-same, own-same, label-same, agree-refl, agree-set}
-use Rattle.table.proofs.Marks.{mapped-at, mapped-use, carried-in, carried-out, not-far, not-named, own-some, own-none, own-beside}
+use Rattle.table.specs.Memory.{markAt, markUse, markPlace, isFreeAt, isMappedAt, labelIn, ownPlace, carriesAt, Relabelled}
+use Rattle.table.proofs.Memory.{base-same, free-same, own-same, label-same, agree-refl, agree-set}
+use Rattle.table.proofs.Marks.{mapped-at, mapped-use, carried-in, carried-out, not-far, not-named, own-some, own-none, remarked, remarked-free, own-beside}
 use Rattle.rows.specs.Parts.{Lowered, LoweredOne}
 
 -- the same use, whatever place the mark names
-pub use-kept : (ns ms os : List ℕ) (p : ℕ) → markUse (markAt ms p) ≡ markUse (markAt ns p) → labelIn ms os p ≡ labelIn ns os p
-unfolding labelIn isFreeAt
-use-kept ns ms os p e = rw e refl
+pub use-kept : (ns ms os : List ℕ) (p : ℕ) → markUse (markAt ms p) ≡ markUse (markAt ns p) → isFreeAt ms p ≡ isFreeAt ns p → labelIn ms os p ≡ labelIn ns os p
+unfolding labelIn
+use-kept ns ms os p e f = rw (e, f) refl
 
-module _ (ns : List ℕ) (j : ℕ) (l : length ns ≡ 1444) (h : j + 1 < 64) where
+module _ (ns : List ℕ) (j : ℕ) (l : length ns ≡ 1448) (h : j + 1 < 64) where
   -- the tree carries its label
   module _ (c : carriesAt ns (j + 1) (ownPlace ns (j + 1)) ≡ true) where
     pub own-inside : ownPlace ns (j + 1) < 256
@@ -34,7 +34,7 @@ module _ (ns : List ℕ) (j : ℕ) (l : length ns ≡ 1444) (h : j + 1 < 64) whe
       rest = λ k x y. getD-set-other ns (1188 + p) k v 0 (λ e. y (omega (arith, own-inside)) (omega (arith, own-inside)));
       uses = uses;
       moved = rw (own-at (j + 1) h, own-some ms j p (carried-in ms j p own-inside now-mapped now-place), own-some ns (j + 1) p c, base-same ns ms ns ns (agree-set 0 1 ns (1188 + p) v (λ a b. omega arith))) refl;
-      others = λ q a q64 ne n0 n1. rw (own-at q q64) (own-beside ns p v a (ownPlace ns q) (λ e. rw e (not-named ns a p (λ z. n1 (sym z ∙ place)), not-named ms a p (λ z. n0 (sym z ∙ now-place)))));
+      others = λ q a q64 ne n0 n1. rw (own-at q q64) (own-beside ns ms p a (ownPlace ns q) r (λ e. rw e (not-named ns a p (λ z. n1 (sym z ∙ place)), not-named ms a p (λ z. n0 (sym z ∙ now-place)))));
     }
       where
         p : ℕ
@@ -45,6 +45,12 @@ module _ (ns : List ℕ) (j : ℕ) (l : length ns ≡ 1444) (h : j + 1 < 64) whe
 
         ms : List ℕ
         ms = set ns (1188 + p) v
+
+        r : Relabelled p ns ms
+        r = remarked ns p v own-inside
+
+        free : isFreeAt ms p ≡ isFreeAt ns p
+        free = remarked-free ns p v own-inside
 
         place : markPlace (markAt ns p) ≡ j + 1
         place = carried-out ns (j + 1) p c .2
@@ -62,7 +68,7 @@ module _ (ns : List ℕ) (j : ℕ) (l : length ns ≡ 1444) (h : j + 1 < 64) whe
         now-mapped =
             let u = mapped-use ns p (carried-out ns (j + 1) p c .1) in
             let e = now-use in
-            mapped-at ms p (omega arith) (omega arith)
+            mapped-at ms p (free ∙ u .0) (omega (arith, u .1))
 
         own-at : (q : ℕ) → q < 64 → ownPlace ms q ≡ ownPlace ns q
         own-at q q64 = getD-set-other ns (1188 + p) (36 + q) v 0 (λ e. omega arith)
@@ -70,23 +76,29 @@ module _ (ns : List ℕ) (j : ℕ) (l : length ns ≡ 1444) (h : j + 1 < 64) whe
         uses : (os : List ℕ) (q : ℕ) → q < 256 → labelIn ms os q ≡ labelIn ns os q
         uses os q lt =
             by-test (eqb q p)
-            (λ t. let e : q ≡ p = eqb-true q p t in rw e (use-kept ns ms os p now-use))
-            (λ t. label-same ns ms os os q (agree-set (1188 + q) 1 ns (1188 + p) v (λ a b. eqb-false q p t (omega arith))) (agree-refl (3520 + q * 55) 55 os))
+            (λ t. let e : q ≡ p = eqb-true q p t in rw e (use-kept ns ms os p now-use free))
+            (λ t. label-same ns ms os os q (r .marks q lt (eqb-false q p t)) (r .frees q lt (eqb-false q p t)) (agree-refl (3520 + q * 55) 55 os))
 
   -- it does not: it has none for its own
   pub lower-cleared : carriesAt ns (j + 1) (ownPlace ns (j + 1)) ≡ false → LoweredOne j ns (set ns (36 + (j + 1)) 256)
   lower-cleared c = record {
     long = length-set ns (36 + (j + 1)) 256;
     rest = λ k x y. getD-set-other ns (36 + (j + 1)) k 256 0 (λ e. x (omega arith) (omega arith));
-    uses = λ os q lt. label-same ns ms os os q (agree-set (1188 + q) 1 ns (36 + (j + 1)) 256 (λ a b. omega arith)) (agree-refl (3520 + q * 55) 55 os);
+    uses = λ os q lt. label-same ns ms os os q (mark q) (free q lt) (agree-refl (3520 + q * 55) 55 os);
     moved = own-none ms j (ownPlace ms (j + 1)) (not-far ms j (ownPlace ms (j + 1)) (omega (arith, now))) ∙ sym (own-none ns (j + 1) (ownPlace ns (j + 1)) c);
     others = λ q a q64 ne n0 n1.
         rw (getD-set-other ns (36 + (j + 1)) (36 + q) 256 0 (λ e. ne (omega arith)))
-        (own-same ns ms ns ns a (ownPlace ns q) (agree-set 0 1 ns (36 + (j + 1)) 256 (λ x y. omega arith)) (λ lt. getD-set-other ns (36 + (j + 1)) (1188 + ownPlace ns q) 256 0 (λ e. omega arith)));
+        (own-same ns ms ns ns a (ownPlace ns q) (agree-set 0 1 ns (36 + (j + 1)) 256 (λ x y. omega arith)) (λ lt. mark (ownPlace ns q)) (λ lt. free (ownPlace ns q) lt));
   }
     where
       ms : List ℕ
       ms = set ns (36 + (j + 1)) 256
+
+      mark : (q : ℕ) → markAt ms q ≡ markAt ns q
+      mark q = getD-set-other ns (36 + (j + 1)) (1188 + q) 256 0 (λ e. omega arith)
+
+      free : (q : ℕ) → q < 256 → isFreeAt ms q ≡ isFreeAt ns q
+      free = free-same ns ms ns ns (agree-set 1444 4 ns (36 + (j + 1)) 256 (λ a b. omega arith))
 
       now : ownPlace ms (j + 1) ≡ 256
       now = getD-set-same ns (36 + (j + 1)) 256 0 (omega arith)

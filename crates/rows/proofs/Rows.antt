@@ -1,5 +1,5 @@
 -- The card after a tree or a route has come or gone, after a label was mapped, and at the start. Assumes nothing.
-use Prim.Native.Nat.{ℕ, zero, suc, _+_, _*_, _-_, _≤_, _<_, suc-le-suc, zero-le}
+use Prim.Native.Nat.{ℕ, zero, suc, _+_, _*_, _-_, _/_, _%_, _≤_, _<_, suc-le-suc, zero-le}
 use native.Mathlib.Nat.{add-zero}
 use native.Mathlib.Omega.{arith}
 use mathlib.Core.Path.{_≡_, refl, sym, ap, _∙_}
@@ -15,9 +15,10 @@ use Rattle.meaning.specs.Card.{Route, Tree, Use, Card, free, mapped, awaiting, 
 use Rattle.meaning.specs.Events.{baseOutside, setUse, setLabel}
 use Rattle.octets.specs.Part.{mid, tab}
 use Rattle.octets.proofs.Tab.{tab-length, tab-get, tab-ext, tab-set, tab-snoc, tab-cut, put-in, put-end}
-use Rattle.table.specs.Memory.{upTo, textAt, nameLimit, treeName, labelName, rootName, baseIn, nextIn, routeCount, treeCount, routeIn, markAt, markUse, markPlace, isFreeAt, isMappedAt, labelIn, carriesAt, ownPlace, ownLabel, treeIn, cardOf}
-use Rattle.table.proofs.Memory.{upTo-le, upTo-in, treeCount-le, Agree, base-same, next-same, route-same, routes-same, own-same, own-kept, tree-with, tree-same, trees-same, label-same, labels-same, agree-refl, agree-set, tree-at}
-use Rattle.table.proofs.Marks.{free-at, mapped-at, mapped-use, unmapped-free, label-free, label-mapped, label-awaiting, carried-in, not-far, not-mapped, not-named, own-some, own-none, own-beside}
+use Rattle.octets.proofs.Bits.{all-set}
+use Rattle.table.specs.Memory.{upTo, textAt, nameLimit, treeName, labelName, rootName, baseIn, nextIn, routeCount, treeCount, routeIn, wordAt, isFreeAt, markAt, markUse, markPlace, isMappedAt, labelIn, carriesAt, ownPlace, ownLabel, treeIn, cardOf, Relabelled}
+use Rattle.table.proofs.Memory.{upTo-le, upTo-in, treeCount-le, Agree, base-same, next-same, route-same, routes-same, free-same, own-same, own-kept, tree-with, tree-same, trees-same, label-same, labels-same, agree-refl, agree-set, tree-at}
+use Rattle.table.proofs.Marks.{mapped-at, mapped-use, unmapped-free, label-free, label-mapped, label-awaiting, carried-in, not-far, not-mapped, not-named, own-some, own-none, relabelled-again, remarked, remarked-free, own-beside}
 use Rattle.table.proofs.Laws.{label-at}
 use Rattle.rows.specs.Parts.{Written, Closed, Lowered}
 use Rattle.rows.proofs.Parts.{written, Carries, lower, text-carried, text-put}
@@ -41,7 +42,7 @@ module _ (ns ns' os os' : List ℕ) where
       but-rows ts (tab labelCount (labelIn ns os)) head vias roots trees (tab-ext labelCount (labelIn ns' os') (labelIn ns os) labels) ∙ unfold cardOf withTrees withLabels in refl
 
   -- and of all but the routes
-  but-routes : (rs : List Route) → Agree 0 2 ns ns' → Agree 3 1 ns ns' → Agree 36 1408 ns ns' → Agree 0 17600 os os' → tab (routeCount ns') (routeIn ns' os') ≡ rs → cardOf ns' os' ≡ withRoutes rs (cardOf ns os)
+  but-routes : (rs : List Route) → Agree 0 2 ns ns' → Agree 3 1 ns ns' → Agree 36 1412 ns ns' → Agree 0 17600 os os' → tab (routeCount ns') (routeIn ns' os') ≡ rs → cardOf ns' os' ≡ withRoutes rs (cardOf ns os)
   unfolding cardOf withRoutes
   but-routes rs head count rows names routes =
       let b : baseIn ns' ≡ baseIn ns = base-same ns ns' os os' (λ j x y. head j (omega arith) (omega arith)) in
@@ -91,32 +92,77 @@ no-rows : (ns os : List ℕ) → getD ns 2 0 ≡ 0 → getD ns 3 0 ≡ 0 → (ta
 unfolding tab routeCount treeCount upTo
 no-rows ns os r t = (rw r refl, rw t refl)
 
-pub start-fresh : (ns zs os : List ℕ) (base : ℕ) → length ns ≡ 1444 → 16 ≤ base → base ≤ 1048320 → zs ≡ replicate (length ns) 0 → cardOf (set (set zs 0 base) 1 1) os ≡ fresh base
+-- the four words alike
+words : (ns : List ℕ) (v : ℕ) → wordAt ns 0 ≡ v → wordAt ns 1 ≡ v → wordAt ns 2 ≡ v → wordAt ns 3 ≡ v → (w : ℕ) → w < 4 → wordAt ns w ≡ v
+words ns v a b c d zero h = a
+words ns v a b c d (suc zero) h = b
+words ns v a b c d (suc (suc zero)) h = c
+words ns v a b c d (suc (suc (suc zero))) h = d
+words ns v a b c d (suc (suc (suc (suc w)))) h = absurd (omega arith)
+
+-- all set: every label is free
+all-free : (ns : List ℕ) → ((w : ℕ) → w < 4 → wordAt ns w ≡ 18446744073709551615) → (p : ℕ) → p < 256 → isFreeAt ns p ≡ true
+unfolding isFreeAt
+all-free ns h p lt = rw (h (p / 64) (omega arith)) (all-set (p % 64) (omega arith))
+
+abbrev pub full : ℕ → List ℕ → List ℕ
+full v ns = set (set (set (set ns 1444 v) 1445 v) 1446 v) 1447 v
+
+full-word : (ns : List ℕ) (v : ℕ) → length ns ≡ 1448 → (w : ℕ) → w < 4 → wordAt (full v ns) w ≡ v
+full-word ns v l =
+    words (full v ns) v
+    (getD-set-other c 1447 1444 v 0 (λ q. omega arith) ∙ getD-set-other b 1446 1444 v 0 (λ q. omega arith) ∙ getD-set-other a 1445 1444 v 0 (λ q. omega arith) ∙ getD-set-same ns 1444 v 0 (omega arith))
+    (getD-set-other c 1447 1445 v 0 (λ q. omega arith) ∙ getD-set-other b 1446 1445 v 0 (λ q. omega arith) ∙ getD-set-same a 1445 v 0 (simp length-set (omega arith)))
+    (getD-set-other c 1447 1446 v 0 (λ q. omega arith) ∙ getD-set-same b 1446 v 0 (simp length-set (omega arith)))
+    (getD-set-same c 1447 v 0 (simp length-set (omega arith)))
+  where
+    a : List ℕ
+    a = set ns 1444 v
+
+    b : List ℕ
+    b = set a 1445 v
+
+    c : List ℕ
+    c = set b 1446 v
+
+full-rest : (ns : List ℕ) (v j : ℕ) → j < 1444 → getD (full v ns) j 0 ≡ getD ns j 0
+full-rest ns v j h =
+    getD-set-other (set (set (set ns 1444 v) 1445 v) 1446 v) 1447 j v 0 (λ q. omega arith)
+    ∙ getD-set-other (set (set ns 1444 v) 1445 v) 1446 j v 0 (λ q. omega arith)
+    ∙ getD-set-other (set ns 1444 v) 1445 j v 0 (λ q. omega arith)
+    ∙ getD-set-other ns 1444 j v 0 (λ q. omega arith)
+
+pub start-fresh : (ns zs os : List ℕ) (base : ℕ) → length ns ≡ 1448 → 16 ≤ base → base ≤ 1048320 → zs ≡ replicate (length ns) 0 → cardOf (full 18446744073709551615 (set (set zs 0 base) 1 1)) os ≡ fresh base
 unfolding cardOf fresh nextIn
 start-fresh ns zs os base h lo hi e =
-    let long : length zs ≡ 1444 = rw e (length-replicate (length ns) 0 ∙ h) in
-    let b : baseIn ms ≡ base = base-in ms base (getD-set-other (set zs 0 base) 1 0 1 0 (λ q. omega arith) ∙ getD-set-same zs 0 base 0 (omega arith)) lo hi in
-    let n : getD ms 1 0 ≡ 1 = getD-set-same (set zs 0 base) 1 1 0 (rw length-set (omega arith)) in
-    let none = no-rows ms os (rest 2 (omega arith)) (rest 3 (omega arith)) in
+    let long : length zs ≡ 1448 = rw e (length-replicate (length ns) 0 ∙ h) in
+    let b : baseIn ms ≡ base = base-in ms base (full-rest ks v 0 (omega arith) ∙ getD-set-other (set zs 0 base) 1 0 1 0 (λ q. omega arith) ∙ getD-set-same zs 0 base 0 (omega arith)) lo hi in
+    let n : getD ms 1 0 ≡ 1 = full-rest ks v 1 (omega arith) ∙ getD-set-same (set zs 0 base) 1 1 0 (rw length-set (omega arith)) in
+    let none = no-rows ms os (rest 2 (omega arith) (omega arith)) (rest 3 (omega arith) (omega arith)) in
     let r : tab (routeCount ms) (routeIn ms os) ≡ [] = none .0 in
     let t : tab (treeCount ms) (treeIn ms os) ≡ [] = none .1 in
-    let l : tab labelCount (labelIn ms os) ≡ replicate labelCount free = tab-replicate labelCount (labelIn ms os) free (λ p lt. label-free ms p os (free-at ms p (ap markUse (rest (1188 + p) (omega arith))))) in
+    let l : tab labelCount (labelIn ms os) ≡ replicate labelCount free = tab-replicate labelCount (labelIn ms os) free (λ p lt. label-free ms p os (all-free ms (full-word ks v (simp length-set long)) p lt)) in
     cc
   where
-    ms : List ℕ
-    ms = set (set zs 0 base) 1 1
+    v : ℕ
+    v = 18446744073709551615
 
-    rest : (j : ℕ) → 2 ≤ j → getD ms j 0 ≡ 0
-    rest j k = getD-set-other (set zs 0 base) 1 j 1 0 (λ q. omega arith) ∙ getD-set-other zs 0 j base 0 (λ q. omega arith) ∙ ap (λ (l : List ℕ). getD l j 0) e ∙ zeros (length ns) j
+    ks : List ℕ
+    ks = set (set zs 0 base) 1 1
+
+    ms : List ℕ
+    ms = full v ks
+
+    rest : (j : ℕ) → 2 ≤ j → j < 1444 → getD ms j 0 ≡ 0
+    rest j k h = full-rest ks v j h ∙ getD-set-other (set zs 0 base) 1 j 1 0 (λ q. omega arith) ∙ getD-set-other zs 0 j base 0 (λ q. omega arith) ∙ ap (λ (l : List ℕ). getD l j 0) e ∙ zeros (length ns) j
 
 -- ---- a label mapped
 
 -- where the slot of the tree's name was copied, the label remembers the name
-remembered : (ns os ms qs : List ℕ) (p i n : ℕ) → n < 16 → i < treeCount ns → markUse (markAt ms p) ≡ n + 1 → Carries (i * 55) (3520 + p * 55) 55 os qs → labelIn ms qs p ≡ mapped n (treeAt i (cardOf ns os) .name)
+remembered : (ns os ms qs : List ℕ) (p i n : ℕ) → n < 16 → i < treeCount ns → isFreeAt ms p ≡ false → markUse (markAt ms p) ≡ n → Carries (i * 55) (3520 + p * 55) 55 os qs → labelIn ms qs p ≡ mapped n (treeAt i (cardOf ns os) .name)
 unfolding labelName treeIn treeName
-remembered ns os ms qs p i n hn hi e h =
-    let back : markUse (markAt ms p) - 1 ≡ n = omega arith in
-    rw (label-mapped ms p qs (omega arith) (omega arith), back, text-carried nameLimit (i * 55) (3520 + p * 55) os qs h, tree-at ns os i hi) refl
+remembered ns os ms qs p i n hn hi f e h =
+    rw (label-mapped ms p qs f (omega arith), e, text-carried nameLimit (i * 55) (3520 + p * 55) os qs h, tree-at ns os i hi) refl
 
 both-set : (ns os : List ℕ) (p i l : ℕ) (u : Use) → withTrees (set (cardOf ns os .trees) i (withLabel l (treeAt i (cardOf ns os)))) (withLabels (set (cardOf ns os .labels) p u) (cardOf ns os)) ≡ setLabel i l (setUse (baseIn ns + p) u (cardOf ns os))
 unfolding setLabel setUse withTrees withLabels treeAt cardOf
@@ -124,40 +170,56 @@ both-set ns os p i l u =
     let back : baseIn ns + p - baseIn ns ≡ p = omega arith in
     rw back refl
 
-pub map-label : (ns os qs : List ℕ) (p i n : ℕ) → length ns ≡ 1444 → length os ≡ 18144 → p < 256 → i < treeCount ns → i < 64 → n < 16 → isFreeAt ns p ≡ true
-    → qs ≡ mid (3520 + p * 55) 55 os (take 55 (drop (i * 55) os))
-    → cardOf (set (set ns (1188 + p) (n + 1 + 256 * i)) (36 + i) p) qs ≡ setLabel i (baseIn ns + p) (setUse (baseIn ns + p) (mapped n (treeAt i (cardOf ns os) .name)) (cardOf ns os))
-map-label ns os qs p i n hl ho hp hi h64 hn hf hq =
+pub map-label : (ns fs os qs : List ℕ) (p i n : ℕ) → length ns ≡ 1448 → length os ≡ 18144 → p < 256 → i < treeCount ns → i < 64 → n < 16 → isFreeAt ns p ≡ true
+    → Relabelled p ns fs → isFreeAt fs p ≡ false → qs ≡ mid (3520 + p * 55) 55 os (take 55 (drop (i * 55) os))
+    → cardOf (set (set fs (1188 + p) (n + 256 * i)) (36 + i) p) qs ≡ setLabel i (baseIn ns + p) (setUse (baseIn ns + p) (mapped n (treeAt i (cardOf ns os) .name)) (cardOf ns os))
+map-label ns fs os qs p i n hl ho hp hi h64 hn hf hr ht hq =
     but-rows ns ms os qs (set (cardOf ns os .trees) i (withLabel (baseIn ns + p) (treeAt i (cardOf ns os)))) (set (cardOf ns os .labels) p (mapped n (treeAt i (cardOf ns os) .name)))
-    (λ j x y. keep j (λ e. omega arith) (λ e. omega arith))
-    (λ j x y. keep j (λ e. omega arith) (λ e. omega arith))
+    (λ j x y. keep j (omega arith) (λ e. omega arith))
+    (λ j x y. keep j (omega arith) (λ e. omega arith))
     (λ j x y. w .rest j (λ u v. omega (arith, part)))
     (unfold cardOf treeCount in rw count (tab-set (treeCount ns) (treeIn ns os) (treeIn ms qs) i _ hi this other))
     (unfold cardOf in tab-set 256 (labelIn ns os) (labelIn ms qs) p _ hp
-    (remembered ns os ms qs p i n hn hi (omega (arith, now)) copied)
-    (λ q ne lt. label-same ns ms os qs q (λ j x y. keep j (λ e. ne (omega arith)) (λ e. omega arith)) (λ j x y. w .rest j (λ u v. ne (omega (arith, part))))))
+    (remembered ns os ms qs p i n hn hi taken (omega (arith, now)) copied)
+    (λ q ne lt. label-same ns ms os qs q (marks q ∙ r .marks q lt ne) (frees q lt ∙ r .frees q lt ne) (λ j x y. w .rest j (λ u v. ne (omega (arith, part))))))
     ∙ both-set ns os p i (baseIn ns + p) (mapped n (treeAt i (cardOf ns os) .name))
   where
     v : ℕ
-    v = n + 1 + 256 * i
+    v = n + 256 * i
 
     ks : List ℕ
-    ks = set ns (1188 + p) v
+    ks = set fs (1188 + p) v
 
     ms : List ℕ
     ms = set ks (36 + i) p
 
-    keep : (j : ℕ) → (j ≡ 1188 + p → ⊥) → (j ≡ 36 + i → ⊥) → getD ms j 0 ≡ getD ns j 0
-    keep j ne me = getD-set-other ks (36 + i) j p 0 me ∙ getD-set-other ns (1188 + p) j v 0 ne
+    r : Relabelled p ns ks
+    r = relabelled-again p ns fs ks hr (remarked fs p v hp)
+
+    -- the own label of the tree at i is none of the labels' numbers
+    marks : (q : ℕ) → markAt ms q ≡ markAt ks q
+    marks q = getD-set-other ks (36 + i) (1188 + q) p 0 (λ e. omega arith)
+
+    frees : (q : ℕ) → q < 256 → isFreeAt ms q ≡ isFreeAt ks q
+    frees = free-same ks ms os os (agree-set 1444 4 ks (36 + i) p (λ x y. omega arith))
+
+    keep : (j : ℕ) → j < 1188 → (j ≡ 36 + i → ⊥) → getD ms j 0 ≡ getD ns j 0
+    keep j lt me = getD-set-other ks (36 + i) j p 0 me ∙ r .rest j lt
 
     count : getD ms 3 0 ≡ getD ns 3 0
-    count = keep 3 (λ e. omega arith) (λ e. omega arith)
+    count = keep 3 (omega arith) (λ e. omega arith)
+
+    mark : markAt ks p ≡ v
+    mark = getD-set-same fs (1188 + p) v 0 (omega (arith, hr .long))
 
     now : markAt ms p ≡ v
-    now = getD-set-other ks (36 + i) (1188 + p) p 0 (λ e. omega arith) ∙ getD-set-same ns (1188 + p) v 0 (omega arith)
+    now = marks p ∙ mark
+
+    taken : isFreeAt ms p ≡ false
+    taken = frees p hp ∙ remarked-free fs p v hp ∙ ht
 
     own : ownPlace ms i ≡ p
-    own = getD-set-same ks (36 + i) p 0 (rw length-set (omega arith))
+    own = getD-set-same ks (36 + i) p 0 (omega (arith, r .long))
 
     slot : List ℕ
     slot = take 55 (drop (i * 55) os)
@@ -172,35 +234,35 @@ map-label ns os qs p i n hl ho hp hi h64 hn hf hq =
     copied j lt = w .here j (omega (arith, part)) ∙ getD-take 55 (drop (i * 55) os) j 0 lt ∙ getD-drop (i * 55) os j 0
 
     base : baseIn ms ≡ baseIn ns
-    base = base-same ns ms os qs (λ j x y. keep j (λ e. omega arith) (λ e. omega arith))
+    base = base-same ns ms os qs (λ j x y. keep j (omega arith) (λ e. omega arith))
 
     -- the tree carries the label, since its mark names the tree
     carried : ownLabel ms i (ownPlace ms i) ≡ baseIn ns + p
-    carried = rw (own, own-some ms i p (carried-in ms i p hp (mapped-at ms p (omega (arith, now)) (omega (arith, now))) (omega (arith, now)))) (ap (λ (b : ℕ). b + p) base)
+    carried = rw (own, own-some ms i p (carried-in ms i p hp (mapped-at ms p taken (omega (arith, now))) (omega (arith, now)))) (ap (λ (b : ℕ). b + p) base)
 
     this : treeIn ms qs i ≡ withLabel (baseIn ns + p) (treeAt i (cardOf ns os))
     this =
         rw (tree-at ns os i hi)
         (tree-with ns ms os qs i (baseIn ns + p) carried
-        (λ j x y. keep j (λ e. omega arith) (λ e. omega arith))
+        (λ j x y. keep j (omega arith) (λ e. omega arith))
         (λ j x y. w .rest j (λ u v. omega arith)))
 
     -- no other tree does: it did not before, since the label was free
     others : (j q : ℕ) → (j ≡ i → ⊥) → ownLabel ks j q ≡ ownLabel ns j q
-    others j q ne = own-beside ns p v j q (λ e. rw e (not-mapped ns j p (unmapped-free ns p hf), not-named ks j p (λ z. ne (sym z ∙ omega (arith, getD-set-same ns (1188 + p) v 0 (omega arith))))))
+    others j q ne = own-beside ns ks p j q r (λ e. rw e (not-mapped ns j p (unmapped-free ns p hf), not-named ks j p (λ z. ne (sym z ∙ omega (arith, mark)))))
 
     other : (j : ℕ) → (j ≡ i → ⊥) → j < treeCount ns → treeIn ms qs j ≡ treeIn ns os j
     other j ne lt =
         let j64 : j < 64 = omega (arith, treeCount-le ns) in
-        let o : ownPlace ms j ≡ ownPlace ns j = keep (36 + j) (λ e. omega arith) (λ e. ne (omega arith)) in
+        let o : ownPlace ms j ≡ ownPlace ns j = keep (36 + j) (omega arith) (λ e. ne (omega arith)) in
         tree-same ns ms os qs j
-        (rw o (own-same ks ms os os j (ownPlace ns j) (agree-set 0 1 ks (36 + i) p (λ x y. omega arith)) (λ h. getD-set-other ks (36 + i) (1188 + ownPlace ns j) p 0 (λ e. omega arith)) ∙ others j (ownPlace ns j) ne))
-        (λ k x y. keep k (λ e. omega arith) (λ e. omega arith))
+        (rw o (own-same ks ms os os j (ownPlace ns j) (agree-set 0 1 ks (36 + i) p (λ x y. omega arith)) (λ h. marks (ownPlace ns j)) (λ h. frees (ownPlace ns j) h) ∙ others j (ownPlace ns j) ne))
+        (λ k x y. keep k (omega arith) (λ e. omega arith))
         (λ k x y. w .rest k (λ u v. omega arith))
 
 -- ---- a row goes
 
-pub remove-route : (ns vs os qs : List ℕ) (i n : ℕ) → length ns ≡ 1444 → n ≡ routeCount ns → i < n
+pub remove-route : (ns vs os qs : List ℕ) (i n : ℕ) → length ns ≡ 1448 → n ≡ routeCount ns → i < n
     → Closed (4 + i) (4 + n) 1 ns vs → Closed (17600 + i * 17) (17600 + n * 17) 17 os qs
     → cardOf (set vs 2 (n - 1)) qs ≡ withRoutes (cut (cardOf ns os .routes) i) (cardOf ns os)
 unfolding routeCount cardOf
@@ -228,7 +290,7 @@ remove-route ns vs os qs i n hl hn hi cv cr =
     keep : (j : ℕ) → (j ≡ 2 → ⊥) → (4 + i ≤ j → j < 4 + n → ⊥) → getD ms j 0 ≡ getD ns j 0
     keep j ne out = getD-set-other vs 2 j (n - 1) 0 ne ∙ cv .rest j out
 
-pub remove-tree : (ns ks ls rs os qs : List ℕ) (i n : ℕ) → length ns ≡ 1444 → n ≡ treeCount ns → i < n → Lowered i (n - 1) ns ks
+pub remove-tree : (ns ks ls rs os qs : List ℕ) (i n : ℕ) → length ns ≡ 1448 → n ≡ treeCount ns → i < n → Lowered i (n - 1) ns ks
     → Closed (36 + i) (36 + n) 1 ks ls → Closed (100 + i * 17) (100 + n * 17) 17 ls rs → Closed (i * 55) (n * 55) 55 os qs
     → cardOf (set rs 3 (n - 1)) qs ≡ withTrees (cut (cardOf ns os .trees) i) (cardOf ns os)
 unfolding treeCount cardOf
@@ -237,7 +299,7 @@ remove-tree ns ks ls rs os qs i n hl hn hi lo cl cr cn =
     (λ j x y. keep j (λ e. omega arith) (λ u v. omega arith) (λ u v. omega arith) (λ u v. omega arith))
     (λ j x y. keep j (λ e. omega arith) (λ u v. omega arith) (λ u v. omega arith) (λ u v. omega arith))
     (λ j x y. cn .rest j (λ u v. omega (arith, limit)))
-    (λ p h. label-same ks ms os qs p (λ j x y. behind j (omega arith)) (λ j x y. cn .rest j (λ u v. omega (arith, limit))) ∙ lo .uses os p h)
+    (λ p h. label-same ks ms os qs p (behind (1188 + p) (omega arith)) (frees p h) (λ j x y. cn .rest j (λ u v. omega (arith, limit))) ∙ lo .uses os p h)
     (rw (count, ← hn) (tab-cut n i (treeIn ns os) (treeIn ms qs) (bare []) hi low high))
   where
     ms : List ℕ
@@ -256,12 +318,15 @@ remove-tree ns ks ls rs os qs i n hl hn hi lo cl cr cn =
     behind : (j : ℕ) → 1188 ≤ j → getD ms j 0 ≡ getD ks j 0
     behind j h = ready j (λ e. omega arith) (λ u v. omega (arith, limit)) (λ u v. omega (arith, limit))
 
+    frees : (p : ℕ) → p < 256 → isFreeAt ms p ≡ isFreeAt ks p
+    frees = free-same ks ms os os (λ j x y. behind j (omega arith))
+
     keep : (j : ℕ) → (j ≡ 3 → ⊥) → (36 ≤ j → j < 100 → ⊥) → (1188 ≤ j → j < 1444 → ⊥) → (100 + i * 17 ≤ j → j < 100 + n * 17 → ⊥) → getD ms j 0 ≡ getD ns j 0
     keep j ne own mark off = ready j ne (λ u v. own (omega arith) (omega (arith, limit))) off ∙ lo .rest j own mark
 
     -- the label that a tree carries, by the place that it has for its own
     carried : (j p : ℕ) → ownLabel ms j p ≡ ownLabel ks j p
-    carried j p = own-same ks ms os os j p (λ k x y. ready k (λ e. omega arith) (λ u v. omega arith) (λ u v. omega arith)) (λ h. behind (1188 + p) (omega arith))
+    carried j p = own-same ks ms os os j p (λ k x y. ready k (λ e. omega arith) (λ u v. omega arith) (λ u v. omega arith)) (λ h. behind (1188 + p) (omega arith)) (λ h. frees p h)
 
     low : (j : ℕ) → j < i → treeIn ms qs j ≡ treeIn ns os j
     low j lt =
@@ -296,7 +361,7 @@ new-tree ns os qs o n h l r w =
     let leaf : getD ns (100 + n * 17) 0 ≡ 0 = simp add-zero at (r 0 (omega arith)) in
     cc
 
-pub enter-tree : (ns zs os qs o : List ℕ) (n : ℕ) → length ns ≡ 1444 → n ≡ treeCount ns → n < 64 → length o ≤ 54
+pub enter-tree : (ns zs os qs o : List ℕ) (n : ℕ) → length ns ≡ 1448 → n ≡ treeCount ns → n < 64 → length o ≤ 54
     → Written (100 + n * 17) (replicate 17 0) ns zs → Written (n * 55) (length o ∷ o) os qs
     → cardOf (set (set zs (36 + n) 256) 3 (n + 1)) qs ≡ withTrees (cardOf ns os .trees ++ (bare o ∷ [])) (cardOf ns os)
 unfolding treeCount cardOf
@@ -305,7 +370,10 @@ enter-tree ns zs os qs o n hl hn h64 ho wr wn =
     (λ j x y. keep j (λ e. omega arith) (λ e. omega arith) (λ u v. omega arith))
     (λ j x y. keep j (λ e. omega arith) (λ e. omega arith) (λ u v. omega arith))
     (λ j x y. wn .rest j (λ u v. omega arith))
-    (λ p h. label-same ns ms os qs p (λ j x y. keep j (λ e. omega arith) (λ e. omega arith) (λ u v. omega arith)) (λ j x y. wn .rest j (λ u v. omega arith)))
+    (λ p h. label-same ns ms os qs p
+    (keep (1188 + p) (λ e. omega arith) (λ e. omega arith) (λ u v. omega arith))
+    (free-same ns ms os os (λ j x y. keep j (λ e. omega arith) (λ e. omega arith) (λ u v. omega arith)) p h)
+    (λ j x y. wn .rest j (λ u v. omega arith)))
     (rw (count, ← hn) (tab-snoc n (treeIn ns os) (treeIn ms qs) (bare o) low new))
   where
     ms : List ℕ
@@ -355,7 +423,7 @@ route-is : (ns os o : List ℕ) (i via : ℕ) → rootName os i ≡ o → getD n
 unfolding routeIn
 route-is ns os o i via r v = cc
 
-pub set-route : (ns os o : List ℕ) (i via : ℕ) → length ns ≡ 1444 → i ≡ routePlace o (cardOf ns os) → i < routeCount ns
+pub set-route : (ns os o : List ℕ) (i via : ℕ) → length ns ≡ 1448 → i ≡ routePlace o (cardOf ns os) → i < routeCount ns
     → cardOf (set ns (4 + i) via) os ≡ withRoutes (put (cardOf ns os .routes) (routePlace o (cardOf ns os)) (record { root = o; via = via })) (cardOf ns os)
 unfolding routeCount cardOf
 set-route ns os o i via hl e h =
@@ -363,7 +431,7 @@ set-route ns os o i via hl e h =
     (but-routes ns ms os os _
     (agree-set 0 2 ns (4 + i) via (λ u v. omega arith))
     (agree-set 3 1 ns (4 + i) via (λ u v. omega arith))
-    (agree-set 36 1408 ns (4 + i) via (λ u v. omega (arith, limit)))
+    (agree-set 36 1412 ns (4 + i) via (λ u v. omega (arith, limit)))
     (agree-refl 0 17600 os)
     (rw (count, put-in (tab (routeCount ns) (routeIn ns os)) i (record { root = o; via = via }) (rw tab-length h))
     (tab-set (routeCount ns) (routeIn ns os) (routeIn ms os) i _ h
@@ -380,7 +448,7 @@ set-route ns os o i via hl e h =
     count = getD-set-other ns (4 + i) 2 via 0 (λ e. omega arith)
 
 -- one behind the others
-pub append-route : (ns os qs o : List ℕ) (n via : ℕ) → length ns ≡ 1444 → n ≡ routeCount ns → n < 32 → length o ≤ 16
+pub append-route : (ns os qs o : List ℕ) (n via : ℕ) → length ns ≡ 1448 → n ≡ routeCount ns → n < 32 → length o ≤ 16
     → Written (17600 + n * 17) (length o ∷ o) os qs
     → cardOf (set (set ns (4 + n) via) 2 (n + 1)) qs ≡ withRoutes (cardOf ns os .routes ++ (record { root = o; via = via } ∷ [])) (cardOf ns os)
 unfolding routeCount cardOf rootName
@@ -422,44 +490,50 @@ not-own ns os p j lt ne e =
     (λ t. absurd (ne (label-at ns os j lt ∙ rw e (own-some ns j p t))))
     (λ t. t)
 
-module _ (ns os qs a : List ℕ) (p n v : ℕ) (m : Bool) (hp : p < 256) (hn : n < 16) (ha : length a ≤ 54) (w : Written (3520 + p * 55) (length a ∷ a) os qs) where
-  used : (ms : List ℕ) → markUse (markAt ms p) ≡ pick m (n + 1) (n + 17) → labelIn ms qs p ≡ pick m (mapped n a) (awaiting n a)
+module _ (ns ks os qs a : List ℕ) (p n v : ℕ) (m : Bool) (hp : p < 256) (hn : n < 16) (ha : length a ≤ 54) (w : Written (3520 + p * 55) (length a ∷ a) os qs)
+    (taken : Relabelled p ns ks) (not-free : isFreeAt ks p ≡ false) where
+  used : (ms : List ℕ) → isFreeAt ms p ≡ false → markUse (markAt ms p) ≡ pick m n (n + 16) → labelIn ms qs p ≡ pick m (mapped n a) (awaiting n a)
   unfolding labelName
-  used ms e =
+  used ms f e =
       by-test m
       (λ t.
-      let u : markUse (markAt ms p) ≡ n + 1 = e ∙ rw t refl in
-      let back : markUse (markAt ms p) - 1 ≡ n = omega arith in
-      rw (t, label-mapped ms p qs (omega arith) (omega arith), back, text-put nameLimit (3520 + p * 55) a os qs ha w) refl)
+      let u : markUse (markAt ms p) ≡ n = e ∙ rw t refl in
+      rw (t, label-mapped ms p qs f (omega arith), u, text-put nameLimit (3520 + p * 55) a os qs ha w) refl)
       (λ t.
-      let u : markUse (markAt ms p) ≡ n + 17 = e ∙ rw t refl in
-      let back : markUse (markAt ms p) - 17 ≡ n = omega arith in
-      rw (t, label-awaiting ms p qs (omega arith), back, text-put nameLimit (3520 + p * 55) a os qs ha w) refl)
+      let u : markUse (markAt ms p) ≡ n + 16 = e ∙ rw t refl in
+      let back : markUse (markAt ms p) - 16 ≡ n = omega arith in
+      rw (t, label-awaiting ms p qs f (omega arith), back, text-put nameLimit (3520 + p * 55) a os qs ha w) refl)
 
-  pub put-use : length ns ≡ 1444 → ((j : ℕ) → j < treeCount ns → treeAt j (cardOf ns os) .label ≡ baseIn ns + p → ⊥) → v ≡ pick m (n + 1) (n + 17)
-      → cardOf (set ns (1188 + p) (v + 16384)) qs ≡ withLabels (set (cardOf ns os .labels) p (pick m (mapped n a) (awaiting n a))) (cardOf ns os)
+  pub put-use : length ns ≡ 1448 → ((j : ℕ) → j < treeCount ns → treeAt j (cardOf ns os) .label ≡ baseIn ns + p → ⊥) → v ≡ pick m n (n + 16)
+      → cardOf (set ks (1188 + p) (v + 16384)) qs ≡ withLabels (set (cardOf ns os .labels) p (pick m (mapped n a) (awaiting n a))) (cardOf ns os)
   put-use hl hc hv =
       but-rows ns ms os qs (cardOf ns os .trees) (set (cardOf ns os .labels) p (pick m (mapped n a) (awaiting n a)))
-      (agree-set 0 3 ns (1188 + p) (v + 16384) (λ x y. omega arith))
-      (agree-set 4 32 ns (1188 + p) (v + 16384) (λ x y. omega arith))
+      (λ j x y. both-ways .rest j (omega arith))
+      (λ j x y. both-ways .rest j (omega arith))
       (λ j x y. w .rest j (λ u z. omega arith))
       (unfold cardOf treeCount in rw count (tab-ext (treeCount ns) (treeIn ms qs) (treeIn ns os) (λ j lt. tree j lt)))
       (unfold cardOf in tab-set 256 (labelIn ns os) (labelIn ms qs) p _ hp
-      (used ms (let e = now in let k = small in omega arith ∙ hv))
-      (λ q ne lt. label-same ns ms os qs q (agree-set (1188 + q) 1 ns (1188 + p) (v + 16384) (λ x y. ne (omega arith))) (λ j x y. w .rest j (λ u z. ne (omega arith)))))
+      (used ms still (let e = now in let k = small in omega arith ∙ hv))
+      (λ q ne lt. label-same ns ms os qs q (both-ways .marks q lt ne) (both-ways .frees q lt ne) (λ j x y. w .rest j (λ u z. ne (omega arith)))))
       ∙ unfold cardOf withTrees withLabels in refl
     where
       ms : List ℕ
-      ms = set ns (1188 + p) (v + 16384)
+      ms = set ks (1188 + p) (v + 16384)
+
+      both-ways : Relabelled p ns ms
+      both-ways = relabelled-again p ns ks ms taken (remarked ks p (v + 16384) hp)
+
+      still : isFreeAt ms p ≡ false
+      still = remarked-free ks p (v + 16384) hp ∙ not-free
 
       small : v < 256
       small = rw hv (picked (λ (k : ℕ). k < 256) m (λ _. omega arith) (λ _. omega arith))
 
       now : markAt ms p ≡ v + 16384
-      now = getD-set-same ns (1188 + p) (v + 16384) 0 (omega arith)
+      now = getD-set-same ks (1188 + p) (v + 16384) 0 (omega (arith, taken .long))
 
       count : getD ms 3 0 ≡ getD ns 3 0
-      count = getD-set-other ns (1188 + p) 3 (v + 16384) 0 (λ e. omega arith)
+      count = both-ways .rest 3 (omega arith)
 
       nowhere : markPlace (markAt ms p) ≡ 64
       nowhere = let e = now in let k = small in omega arith
@@ -467,13 +541,13 @@ module _ (ns os qs a : List ℕ) (p n v : ℕ) (m : Bool) (hp : p < 256) (hn : n
       tree : (j : ℕ) → j < treeCount ns → treeIn ms qs j ≡ treeIn ns os j
       tree j lt =
           let j64 : j < 64 = omega (arith, treeCount-le ns) in
-          let o : ownPlace ms j ≡ ownPlace ns j = getD-set-other ns (1188 + p) (36 + j) (v + 16384) 0 (λ e. omega arith) in
+          let o : ownPlace ms j ≡ ownPlace ns j = both-ways .rest (36 + j) (omega arith) in
           tree-same ns ms os qs j
-          (rw o (own-beside ns p (v + 16384) j (ownPlace ns j) (λ e. (rw e (not-own ns os p j lt (hc j lt) e), rw e (not-named ms j p (λ z. omega (arith, nowhere)))))))
-          (agree-set (100 + j * 17) 17 ns (1188 + p) (v + 16384) (λ x y. omega arith))
+          (rw o (own-beside ns ms p j (ownPlace ns j) both-ways (λ e. (rw e (not-own ns os p j lt (hc j lt) e), rw e (not-named ms j p (λ z. omega (arith, nowhere)))))))
+          (λ k x y. both-ways .rest k (omega arith))
           (λ k x y. w .rest k (λ u z. omega arith))
 
-pub attach : (ns os : List ℕ) (p i : ℕ) → length ns ≡ 1444 → p < 256 → i < treeCount ns → i < 64 → isMappedAt ns p ≡ true → ((j : ℕ) → j < treeCount ns → treeAt j (cardOf ns os) .label ≡ baseIn ns + p → ⊥)
+pub attach : (ns os : List ℕ) (p i : ℕ) → length ns ≡ 1448 → p < 256 → i < treeCount ns → i < 64 → isMappedAt ns p ≡ true → ((j : ℕ) → j < treeCount ns → treeAt j (cardOf ns os) .label ≡ baseIn ns + p → ⊥)
     → cardOf (set (set ns (1188 + p) (markUse (markAt ns p) + 256 * i)) (36 + i) p) os ≡ setLabel i (baseIn ns + p) (cardOf ns os)
 unfolding setLabel
 attach ns os p i hl hp hi h64 hm hc =
@@ -511,17 +585,20 @@ attach ns os p i hl hp hi h64 hm hc =
     own : ownPlace ms i ≡ p
     own = getD-set-same ks (36 + i) p 0 (rw length-set (omega arith))
 
+    frees : (q : ℕ) → q < 256 → isFreeAt ms q ≡ isFreeAt ns q
+    frees q lt = free-same ns ms os os (λ j x y. keep j (λ e. omega arith) (λ e. omega arith)) q lt
+
     uses : (q : ℕ) → q < 256 → labelIn ms os q ≡ labelIn ns os q
     uses q lt =
         by-test (eqb q p)
-        (λ t. let e : q ≡ p = eqb-true q p t in rw e (use-kept ns ms os p (ap markUse now ∙ then-use)))
-        (λ t. label-same ns ms os os q (λ j x y. keep j (λ e. eqb-false q p t (omega arith)) (λ e. omega arith)) (agree-refl (3520 + q * 55) 55 os))
+        (λ t. let e : q ≡ p = eqb-true q p t in rw e (use-kept ns ms os p (ap markUse now ∙ then-use) (frees p hp)))
+        (λ t. label-same ns ms os os q (keep (1188 + q) (λ e. eqb-false q p t (omega arith)) (λ e. omega arith)) (frees q lt) (agree-refl (3520 + q * 55) 55 os))
 
     carried : ownLabel ms i (ownPlace ms i) ≡ baseIn ns + p
     carried =
         let u = mapped-use ns p hm in
         let k : markUse (markAt ms p) ≡ markUse (markAt ns p) = ap markUse now ∙ then-use in
-        rw (own, own-some ms i p (carried-in ms i p hp (mapped-at ms p (omega arith) (omega arith)) (ap markPlace now ∙ then-place)))
+        rw (own, own-some ms i p (carried-in ms i p hp (mapped-at ms p (frees p hp ∙ u .0) (omega (arith, u .1))) (ap markPlace now ∙ then-place)))
         (ap (λ (b : ℕ). b + p) (base-same ns ms os os (λ j x y. keep j (λ e. omega arith) (λ e. omega arith))))
 
     this : treeIn ms os i ≡ withLabel (baseIn ns + p) (treeAt i (cardOf ns os))
@@ -537,6 +614,7 @@ attach ns os p i hl hp hi h64 hm hc =
         let o : ownPlace ms j ≡ ownPlace ns j = keep (36 + j) (λ e. omega arith) (λ e. ne (omega arith)) in
         tree-same ns ms os os j
         (rw o (own-same ks ms os os j (ownPlace ns j) (agree-set 0 1 ks (36 + i) p (λ x y. omega arith)) (λ h. getD-set-other ks (36 + i) (1188 + ownPlace ns j) p 0 (λ e. omega arith))
-        ∙ own-beside ns p v j (ownPlace ns j) (λ e. (rw e (not-own ns os p j lt (hc j lt) e), rw e (not-named ks j p (λ z. ne (sym z ∙ ap markPlace (getD-set-same ns (1188 + p) v 0 (omega arith)) ∙ then-place)))))))
+        (λ h. free-same ks ms os os (agree-set 1444 4 ks (36 + i) p (λ x y. omega arith)) (ownPlace ns j) h)
+        ∙ own-beside ns ks p j (ownPlace ns j) (remarked ns p v hp) (λ e. (rw e (not-own ns os p j lt (hc j lt) e), rw e (not-named ks j p (λ z. ne (sym z ∙ ap markPlace (getD-set-same ns (1188 + p) v 0 (omega arith)) ∙ then-place)))))))
         (λ k x y. keep k (λ e. omega arith) (λ e. omega arith))
         (agree-refl (j * 55) 55 os)

@@ -11,7 +11,7 @@ ghost use Rattle.table.specs.Memory.{cardOf, baseIn, treeCount, routeCount, isF
 ghost use Rattle.rows.specs.Parts.{Written, Closed, Lowered, LoweredOne};
 
 fn tree_count(numbers: &[u64]) -> usize
-    requires { ⌜ length (now numbers) ≡ 1444 ⌝ }
+    requires { ⌜ length (now numbers) ≡ 1448 ⌝ }
     ensures { λ r. ⌜ (r ≡ treeCount (now (numbers .entry))) × (r ≤ 64) ⌝ }
 {
     let n = numbers[3];
@@ -19,7 +19,7 @@ fn tree_count(numbers: &[u64]) -> usize
 }
 
 fn route_count(numbers: &[u64]) -> usize
-    requires { ⌜ length (now numbers) ≡ 1444 ⌝ }
+    requires { ⌜ length (now numbers) ≡ 1448 ⌝ }
     ensures { λ r. ⌜ (r ≡ routeCount (now (numbers .entry))) × (r ≤ 32) ⌝ }
 {
     let n = numbers[2];
@@ -65,7 +65,7 @@ fn put_text(names: &mut [u8], at: usize, text: &[u8])
 
 // A tree comes, with neither branch nor leaf nor label: the newest.
 pub fn enter_tree(numbers: &mut [u64], names: &mut [u8], name: &[u8])
-    requires { ⌜ (length (now numbers) ≡ 1444) × (length (now names) ≡ 18144) × (treeCount (now numbers) < 64) × (length (now name) ≤ 54) ⌝ }
+    requires { ⌜ (length (now numbers) ≡ 1448) × (length (now names) ≡ 18144) × (treeCount (now numbers) < 64) × (length (now name) ≤ 54) ⌝ }
     ensures { λ _. ⌜ cardOf (now (numbers .exit)) (now (names .exit))
         ≡ withTrees (cardOf (now (numbers .entry)) (now (names .entry)) .trees ++ (bare (now (name .entry)) ∷ [])) (cardOf (now (numbers .entry)) (now (names .entry))) ⌝ }
 {
@@ -79,7 +79,7 @@ pub fn enter_tree(numbers: &mut [u64], names: &mut [u8], name: &[u8])
 // The tree at place j + 1 is to stand at place j: the mark of its label names that place. Where it does not carry the label that
 // it has for its own it has none from now on, so that it cannot come to carry that one.
 fn lower_one(numbers: &mut [u64], j: usize)
-    requires { ⌜ (length (now numbers) ≡ 1444) × (j + 1 < 64) ⌝ }
+    requires { ⌜ (length (now numbers) ≡ 1448) × (j + 1 < 64) ⌝ }
     ensures { λ _. ⌜ LoweredOne j (now (numbers .entry)) (now (numbers .exit)) ⌝ }
 {
     let t = j + 1;
@@ -93,7 +93,7 @@ fn lower_one(numbers: &mut [u64], j: usize)
 
 // Each of the n trees that stands behind place i is to stand one place lower.
 fn lower_behind(numbers: &mut [u64], i: usize, n: usize)
-    requires { ⌜ (length (now numbers) ≡ 1444) × (i < n) × (n ≤ 64) ⌝ }
+    requires { ⌜ (length (now numbers) ≡ 1448) × (i < n) × (n ≤ 64) ⌝ }
     ensures { λ _. ⌜ Lowered i (n - 1) (now (numbers .entry)) (now (numbers .exit)) ⌝ }
 {
     let mut j = i;
@@ -105,7 +105,7 @@ fn lower_behind(numbers: &mut [u64], i: usize, n: usize)
 
 // A tree goes, and the gap is closed.
 pub fn remove_tree(numbers: &mut [u64], names: &mut [u8], i: usize)
-    requires { ⌜ (length (now numbers) ≡ 1444) × (length (now names) ≡ 18144) × (i < treeCount (now numbers)) × (i < 64) ⌝ }
+    requires { ⌜ (length (now numbers) ≡ 1448) × (length (now names) ≡ 18144) × (i < treeCount (now numbers)) × (i < 64) ⌝ }
     ensures { λ _. ⌜ cardOf (now (numbers .exit)) (now (names .exit))
         ≡ withTrees (cut (cardOf (now (numbers .entry)) (now (names .entry)) .trees) i) (cardOf (now (numbers .entry)) (now (names .entry))) ⌝ }
 {
@@ -119,38 +119,40 @@ pub fn remove_tree(numbers: &mut [u64], names: &mut [u8], i: usize)
 
 // The label at place p of the block, which is free, is mapped to neighbour n for the tree at place i, which carries it from now on.
 pub fn map_label(numbers: &mut [u64], names: &mut [u8], p: usize, i: usize, n: u64)
-    requires { ⌜ (length (now numbers) ≡ 1444) × (length (now names) ≡ 18144) × (p < 256) × (i < treeCount (now numbers)) × (i < 64) × (n < 16) × (isFreeAt (now numbers) p ≡ true) ⌝ }
+    requires { ⌜ (length (now numbers) ≡ 1448) × (length (now names) ≡ 18144) × (p < 256) × (i < treeCount (now numbers)) × (i < 64) × (n < 16) × (isFreeAt (now numbers) p ≡ true) ⌝ }
     ensures { λ _. ⌜ cardOf (now (numbers .exit)) (now (names .exit))
         ≡ setLabel i (baseIn (now (numbers .entry)) + p) (setUse (baseIn (now (numbers .entry)) + p) (mapped n (treeAt i (cardOf (now (numbers .entry)) (now (names .entry))) .name)) (cardOf (now (numbers .entry)) (now (names .entry)))) ⌝ }
 {
     octets::copy_within(names, i * 55, 3520 + p * 55, 55);
-    numbers[1188 + p] = n + 1 + 256 * i as u64;
+    table::set_taken(numbers, p);
+    numbers[1188 + p] = n + 256 * i as u64;
     numbers[36 + i] = p as u64;
 }
 
 // The number of a use: mapped to neighbour n, or awaiting release from it.
 fn use_of(held: bool, n: u64) -> u64
     requires { ⌜ n < 16 ⌝ }
-    ensures { λ r. ⌜ (r ≡ pick held (n + 1) (n + 17)) × (r ≤ 32) ⌝ }
+    ensures { λ r. ⌜ (r ≡ pick held n (n + 16)) × (r < 32) ⌝ }
 {
-    if held { n + 1 } else { n + 17 }
+    if held { n } else { n + 16 }
 }
 
 // The label at place p of the block, which no tree carries, is from now on mapped to neighbour n for that name, or awaits release
 // from n. Its mark names place 64, where no tree stands.
 pub fn put_use(numbers: &mut [u64], names: &mut [u8], p: usize, held: bool, n: u64, name: &[u8])
-    requires { ⌜ (length (now numbers) ≡ 1444) × (length (now names) ≡ 18144) × (p < 256) × (n < 16) × (length (now name) ≤ 54)
+    requires { ⌜ (length (now numbers) ≡ 1448) × (length (now names) ≡ 18144) × (p < 256) × (n < 16) × (length (now name) ≤ 54)
         × ((j : ℕ) → j < treeCount (now numbers) → treeAt j (cardOf (now numbers) (now names)) .label ≡ baseIn (now numbers) + p → ⊥) ⌝ }
     ensures { λ _. ⌜ cardOf (now (numbers .exit)) (now (names .exit))
         ≡ withLabels (set (cardOf (now (numbers .entry)) (now (names .entry)) .labels) p (pick held (mapped n (now (name .entry))) (awaiting n (now (name .entry))))) (cardOf (now (numbers .entry)) (now (names .entry))) ⌝ }
 {
     put_text(names, 3520 + p * 55, name);
+    table::set_taken(numbers, p);
     numbers[1188 + p] = use_of(held, n) + 16384;
 }
 
 // The tree at place i carries from now on the label at place p of the block, which is mapped and which no tree carries.
 pub fn attach(numbers: &mut [u64], i: usize, p: usize)
-    requires { ⌜ (length (now numbers) ≡ 1444) × (p < 256) × (i < treeCount (now numbers)) × (i < 64) × (isMappedAt (now numbers) p ≡ true)
+    requires { ⌜ (length (now numbers) ≡ 1448) × (p < 256) × (i < treeCount (now numbers)) × (i < 64) × (isMappedAt (now numbers) p ≡ true)
         × ((os : List ℕ) (j : ℕ) → j < treeCount (now numbers) → treeAt j (cardOf (now numbers) os) .label ≡ baseIn (now numbers) + p → ⊥) ⌝ }
     ensures { λ _. ⌜ ((os : List ℕ) → cardOf (now (numbers .exit)) os ≡ setLabel i (baseIn (now (numbers .entry)) + p) (cardOf (now (numbers .entry)) os)) ⌝ }
 {
@@ -162,7 +164,7 @@ pub fn attach(numbers: &mut [u64], i: usize, p: usize)
 
 // A route comes, behind the others.
 pub fn append_route(numbers: &mut [u64], names: &mut [u8], root: &[u8], via: u64)
-    requires { ⌜ (length (now numbers) ≡ 1444) × (length (now names) ≡ 18144) × (routeCount (now numbers) < 32) × (length (now root) ≤ 16) ⌝ }
+    requires { ⌜ (length (now numbers) ≡ 1448) × (length (now names) ≡ 18144) × (routeCount (now numbers) < 32) × (length (now root) ≤ 16) ⌝ }
     ensures { λ _. ⌜ cardOf (now (numbers .exit)) (now (names .exit))
         ≡ withRoutes (cardOf (now (numbers .entry)) (now (names .entry)) .routes ++ (record { root = now (root .entry); via = via } ∷ [])) (cardOf (now (numbers .entry)) (now (names .entry))) ⌝ }
 {
@@ -174,7 +176,7 @@ pub fn append_route(numbers: &mut [u64], names: &mut [u8], root: &[u8], via: u64
 
 // The route of the root whose place is i: its entry, or a new one behind the others.
 pub fn put_route(numbers: &mut [u64], names: &mut [u8], i: usize, root: &[u8], via: u64)
-    requires { ⌜ (length (now numbers) ≡ 1444) × (length (now names) ≡ 18144) × (length (now root) ≤ 16)
+    requires { ⌜ (length (now numbers) ≡ 1448) × (length (now names) ≡ 18144) × (length (now root) ≤ 16)
         × (i ≡ routePlace (now root) (cardOf (now numbers) (now names)))
         × (routeCount (now numbers) ≤ routePlace (now root) (cardOf (now numbers) (now names)) → routeCount (now numbers) < 32) ⌝ }
     ensures { λ _. ⌜ cardOf (now (numbers .exit)) (now (names .exit))
@@ -190,7 +192,7 @@ pub fn put_route(numbers: &mut [u64], names: &mut [u8], i: usize, root: &[u8], v
 
 // A root's entry goes, and the gap is closed.
 pub fn remove_route(numbers: &mut [u64], names: &mut [u8], i: usize)
-    requires { ⌜ (length (now numbers) ≡ 1444) × (length (now names) ≡ 18144) × (i < routeCount (now numbers)) × (i < 32) ⌝ }
+    requires { ⌜ (length (now numbers) ≡ 1448) × (length (now names) ≡ 18144) × (i < routeCount (now numbers)) × (i < 32) ⌝ }
     ensures { λ _. ⌜ cardOf (now (numbers .exit)) (now (names .exit))
         ≡ withRoutes (cut (cardOf (now (numbers .entry)) (now (names .entry)) .routes) i) (cardOf (now (numbers .entry)) (now (names .entry))) ⌝ }
 {
@@ -204,10 +206,14 @@ pub fn remove_route(numbers: &mut [u64], names: &mut [u8], i: usize)
 
 // A fresh card, whatever the memory held.
 pub fn start_fresh(numbers: &mut [u64], base: u64)
-    requires { ⌜ (length (now numbers) ≡ 1444) × (16 ≤ base) × (base ≤ 1048320) ⌝ }
+    requires { ⌜ (length (now numbers) ≡ 1448) × (16 ≤ base) × (base ≤ 1048320) ⌝ }
     ensures { λ _. ⌜ ((os : List ℕ) → cardOf (now (numbers .exit)) os ≡ fresh base) ⌝ }
 {
     octets::zero(numbers);
     numbers[0] = base;
     numbers[1] = 1;
+    numbers[1444] = 0xffff_ffff_ffff_ffff;
+    numbers[1445] = 0xffff_ffff_ffff_ffff;
+    numbers[1446] = 0xffff_ffff_ffff_ffff;
+    numbers[1447] = 0xffff_ffff_ffff_ffff;
 }

@@ -14,7 +14,7 @@ ghost use Rattle.table.specs.Memory.{cardOf, baseIn, treeCount, routeIn, isFree
 // ---- routes
 
 fn is_route(numbers: &[u64], names: &[u8], i: usize) -> bool
-    requires { ⌜ (length (now numbers) ≡ 1444) × (length (now names) ≡ 18144) × (i < 32) ⌝ }
+    requires { ⌜ (length (now numbers) ≡ 1448) × (length (now names) ≡ 18144) × (i < 32) ⌝ }
     ensures { λ r. ⌜ r ≡ isRoute (routeIn (now (numbers .entry)) (now (names .entry)) i) ⌝ }
 {
     if 16 < table::route_via(numbers, i) {
@@ -28,7 +28,7 @@ fn is_route(numbers: &[u64], names: &[u8], i: usize) -> bool
 }
 
 fn routes_good(numbers: &[u64], names: &[u8]) -> bool
-    requires { ⌜ (length (now numbers) ≡ 1444) × (length (now names) ≡ 18144) ⌝ }
+    requires { ⌜ (length (now numbers) ≡ 1448) × (length (now names) ≡ 18144) ⌝ }
     ensures { λ r. ⌜ r ≡ all isRoute (cardOf (now (numbers .entry)) (now (names .entry)) .routes) ⌝ }
 {
     let n = table::route_count(numbers);
@@ -44,7 +44,7 @@ fn routes_good(numbers: &[u64], names: &[u8]) -> bool
 
 // Whether a route of that root stands at place `from` or further on.
 fn root_from(numbers: &[u64], names: &[u8], from: usize, root: &[u8]) -> bool
-    requires { ⌜ (length (now numbers) ≡ 1444) × (length (now names) ≡ 18144) ⌝ }
+    requires { ⌜ (length (now numbers) ≡ 1448) × (length (now names) ≡ 18144) ⌝ }
     ensures { λ r. ⌜ r ≡ any (isFor (now (root .entry))) (drop from (cardOf (now (numbers .entry)) (now (names .entry)) .routes)) ⌝ }
 {
     let n = table::route_count(numbers);
@@ -59,7 +59,7 @@ fn root_from(numbers: &[u64], names: &[u8], from: usize, root: &[u8]) -> bool
 }
 
 fn roots_once(numbers: &[u64], names: &[u8]) -> bool
-    requires { ⌜ (length (now numbers) ≡ 1444) × (length (now names) ≡ 18144) ⌝ }
+    requires { ⌜ (length (now numbers) ≡ 1448) × (length (now names) ≡ 18144) ⌝ }
     ensures { λ r. ⌜ r ≡ onceEach sameRoot (cardOf (now (numbers .entry)) (now (names .entry)) .routes) ⌝ }
 {
     let n = table::route_count(numbers);
@@ -94,7 +94,7 @@ fn is_branch_label(label: u64) -> bool
 }
 
 fn branches_good(numbers: &[u64], i: usize) -> bool
-    requires { ⌜ (length (now numbers) ≡ 1444) × (i < treeCount (now numbers)) × (i < 64) ⌝ }
+    requires { ⌜ (length (now numbers) ≡ 1448) × (i < treeCount (now numbers)) × (i < 64) ⌝ }
     ensures { λ r. ⌜ ((os : List ℕ) → r ≡ all isBranchLabel (treeAt i (cardOf (now (numbers .entry)) os) .branches)) ⌝ }
 {
     let mut k = 0;
@@ -109,7 +109,7 @@ fn branches_good(numbers: &[u64], i: usize) -> bool
 
 // Whether the tree at place i has a branch or a leaf.
 fn leads_somewhere(numbers: &[u64], i: usize) -> bool
-    requires { ⌜ (length (now numbers) ≡ 1444) × (i < treeCount (now numbers)) × (i < 64) ⌝ }
+    requires { ⌜ (length (now numbers) ≡ 1448) × (i < treeCount (now numbers)) × (i < 64) ⌝ }
     ensures { λ r. ⌜ ((os : List ℕ) → r ≡ not (isEmpty (treeAt i (cardOf (now (numbers .entry)) os)))) ⌝ }
 {
     if table::is_leaf(numbers, i) {
@@ -119,7 +119,7 @@ fn leads_somewhere(numbers: &[u64], i: usize) -> bool
 }
 
 fn is_tree(numbers: &[u64], names: &[u8], i: usize) -> bool
-    requires { ⌜ (length (now numbers) ≡ 1444) × (length (now names) ≡ 18144) × (i < treeCount (now numbers)) × (i < 64) ⌝ }
+    requires { ⌜ (length (now numbers) ≡ 1448) × (length (now names) ≡ 18144) × (i < treeCount (now numbers)) × (i < 64) ⌝ }
     ensures { λ r. ⌜ r ≡ isTree (treeAt i (cardOf (now (numbers .entry)) (now (names .entry)))) ⌝ }
 {
     if !is_name(table::tree_name(names, i)) {
@@ -132,7 +132,7 @@ fn is_tree(numbers: &[u64], names: &[u8], i: usize) -> bool
 }
 
 fn trees_good(numbers: &[u64], names: &[u8]) -> bool
-    requires { ⌜ (length (now numbers) ≡ 1444) × (length (now names) ≡ 18144) ⌝ }
+    requires { ⌜ (length (now numbers) ≡ 1448) × (length (now names) ≡ 18144) ⌝ }
     ensures { λ r. ⌜ r ≡ all isTree (cardOf (now (numbers .entry)) (now (names .entry)) .trees) ⌝ }
 {
     let n = table::tree_count(numbers);
@@ -148,7 +148,7 @@ fn trees_good(numbers: &[u64], names: &[u8]) -> bool
 
 // Whether a tree of that name stands at place `from` or further on.
 fn name_from(numbers: &[u64], names: &[u8], from: usize, name: &[u8]) -> bool
-    requires { ⌜ (length (now numbers) ≡ 1444) × (length (now names) ≡ 18144) ⌝ }
+    requires { ⌜ (length (now numbers) ≡ 1448) × (length (now names) ≡ 18144) ⌝ }
     ensures { λ r. ⌜ r ≡ any (named (now (name .entry))) (drop from (cardOf (now (numbers .entry)) (now (names .entry)) .trees)) ⌝ }
 {
     let n = table::tree_count(numbers);
@@ -164,7 +164,7 @@ fn name_from(numbers: &[u64], names: &[u8], from: usize, name: &[u8]) -> bool
 
 // No two trees have one name.
 pub fn names_once(numbers: &[u64], names: &[u8]) -> bool
-    requires { ⌜ (length (now numbers) ≡ 1444) × (length (now names) ≡ 18144) ⌝ }
+    requires { ⌜ (length (now numbers) ≡ 1448) × (length (now names) ≡ 18144) ⌝ }
     ensures { λ r. ⌜ r ≡ onceEach sameName (cardOf (now (numbers .entry)) (now (names .entry)) .trees) ⌝ }
 {
     let n = table::tree_count(numbers);
@@ -182,7 +182,7 @@ pub fn names_once(numbers: &[u64], names: &[u8]) -> bool
 
 // Whether the label at place p, which is not free, is used for one of the sixteen neighbours.
 fn is_near(numbers: &[u64], p: usize) -> bool
-    requires { ⌜ (length (now numbers) ≡ 1444) × (p < 256) × (isFreeAt (now numbers) p ≡ false) ⌝ }
+    requires { ⌜ (length (now numbers) ≡ 1448) × (p < 256) × (isFreeAt (now numbers) p ≡ false) ⌝ }
     ensures { λ r. ⌜ ((os : List ℕ) → isUse (labelIn (now (numbers .entry)) os p) ≡ (r && isName (labelName os p))) ⌝ }
 {
     if table::mapped_at(numbers, p) != 17 {
@@ -193,7 +193,7 @@ fn is_near(numbers: &[u64], p: usize) -> bool
 
 // The neighbour of a label in use is one of the sixteen, whatever the memory holds: its name is what can be wrong.
 fn is_use(numbers: &[u64], names: &[u8], p: usize) -> bool
-    requires { ⌜ (length (now numbers) ≡ 1444) × (length (now names) ≡ 18144) × (p < 256) ⌝ }
+    requires { ⌜ (length (now numbers) ≡ 1448) × (length (now names) ≡ 18144) × (p < 256) ⌝ }
     ensures { λ r. ⌜ r ≡ isUse (labelIn (now (numbers .entry)) (now (names .entry)) p) ⌝ }
 {
     if table::is_free(numbers, p) {
@@ -206,7 +206,7 @@ fn is_use(numbers: &[u64], names: &[u8], p: usize) -> bool
 }
 
 fn uses_good(numbers: &[u64], names: &[u8]) -> bool
-    requires { ⌜ (length (now numbers) ≡ 1444) × (length (now names) ≡ 18144) ⌝ }
+    requires { ⌜ (length (now numbers) ≡ 1448) × (length (now names) ≡ 18144) ⌝ }
     ensures { λ r. ⌜ r ≡ all isUse (cardOf (now (numbers .entry)) (now (names .entry)) .labels) ⌝ }
 {
     let mut p = 0;
@@ -221,7 +221,7 @@ fn uses_good(numbers: &[u64], names: &[u8]) -> bool
 
 // Whether the label at place p, if it is mapped, is that of the tree of its name.
 fn is_carried(numbers: &[u64], names: &[u8], p: usize) -> bool
-    requires { ⌜ (length (now numbers) ≡ 1444) × (length (now names) ≡ 18144) × (p < 256) ⌝ }
+    requires { ⌜ (length (now numbers) ≡ 1448) × (length (now names) ≡ 18144) × (p < 256) ⌝ }
     ensures { λ r. ⌜ r ≡ isCarried (cardOf (now (numbers .entry)) (now (names .entry))) (baseIn (now (numbers .entry)) + p) (labelIn (now (numbers .entry)) (now (names .entry)) p) ⌝ }
 {
     if table::mapped_at(numbers, p) == 17 {
@@ -235,7 +235,7 @@ fn is_carried(numbers: &[u64], names: &[u8], p: usize) -> bool
 }
 
 fn all_carried(numbers: &[u64], names: &[u8]) -> bool
-    requires { ⌜ (length (now numbers) ≡ 1444) × (length (now names) ≡ 18144) ⌝ }
+    requires { ⌜ (length (now numbers) ≡ 1448) × (length (now names) ≡ 18144) ⌝ }
     ensures { λ r. ⌜ r ≡ allCarried (cardOf (now (numbers .entry)) (now (names .entry))) (cardOf (now (numbers .entry)) (now (names .entry)) .base) (cardOf (now (numbers .entry)) (now (names .entry)) .labels) ⌝ }
 {
     let mut p = 0;
@@ -250,7 +250,7 @@ fn all_carried(numbers: &[u64], names: &[u8]) -> bool
 
 // Whether a label is mapped for that name.
 fn is_mapped_for(numbers: &[u64], names: &[u8], label: u64, name: &[u8]) -> bool
-    requires { ⌜ (length (now numbers) ≡ 1444) × (length (now names) ≡ 18144) ⌝ }
+    requires { ⌜ (length (now numbers) ≡ 1448) × (length (now names) ≡ 18144) ⌝ }
     ensures { λ r. ⌜ r ≡ isMappedFor (now (name .entry)) (useOf label (cardOf (now (numbers .entry)) (now (names .entry)))) ⌝ }
 {
     let b = table::base(numbers);
@@ -268,7 +268,7 @@ fn is_mapped_for(numbers: &[u64], names: &[u8], label: u64, name: &[u8]) -> bool
 }
 
 fn carries_own(numbers: &[u64], names: &[u8], i: usize) -> bool
-    requires { ⌜ (length (now numbers) ≡ 1444) × (length (now names) ≡ 18144) × (i < treeCount (now numbers)) × (i < 64) ⌝ }
+    requires { ⌜ (length (now numbers) ≡ 1448) × (length (now names) ≡ 18144) × (i < treeCount (now numbers)) × (i < 64) ⌝ }
     ensures { λ r. ⌜ r ≡ carriesOwn (cardOf (now (numbers .entry)) (now (names .entry))) (treeAt i (cardOf (now (numbers .entry)) (now (names .entry)))) ⌝ }
 {
     let label = table::tree_label(numbers, i);
@@ -279,7 +279,7 @@ fn carries_own(numbers: &[u64], names: &[u8], i: usize) -> bool
 }
 
 fn own_labels(numbers: &[u64], names: &[u8]) -> bool
-    requires { ⌜ (length (now numbers) ≡ 1444) × (length (now names) ≡ 18144) ⌝ }
+    requires { ⌜ (length (now numbers) ≡ 1448) × (length (now names) ≡ 18144) ⌝ }
     ensures { λ r. ⌜ r ≡ all (carriesOwn (cardOf (now (numbers .entry)) (now (names .entry)))) (cardOf (now (numbers .entry)) (now (names .entry)) .trees) ⌝ }
 {
     let n = table::tree_count(numbers);
@@ -294,7 +294,7 @@ fn own_labels(numbers: &[u64], names: &[u8]) -> bool
 }
 
 fn holds_right(numbers: &[u64], names: &[u8], i: usize) -> bool
-    requires { ⌜ (length (now numbers) ≡ 1444) × (length (now names) ≡ 18144) × (i < treeCount (now numbers)) × (i < 64) ⌝ }
+    requires { ⌜ (length (now numbers) ≡ 1448) × (length (now names) ≡ 18144) × (i < treeCount (now numbers)) × (i < 64) ⌝ }
     ensures { λ r. ⌜ r ≡ holdsRight (cardOf (now (numbers .entry)) (now (names .entry))) (treeAt i (cardOf (now (numbers .entry)) (now (names .entry)))) ⌝ }
 {
     let u = moves::upstream_of(numbers, names, table::tree_name(names, i));
@@ -302,7 +302,7 @@ fn holds_right(numbers: &[u64], names: &[u8], i: usize) -> bool
 }
 
 fn held_right(numbers: &[u64], names: &[u8]) -> bool
-    requires { ⌜ (length (now numbers) ≡ 1444) × (length (now names) ≡ 18144) ⌝ }
+    requires { ⌜ (length (now numbers) ≡ 1448) × (length (now names) ≡ 18144) ⌝ }
     ensures { λ r. ⌜ r ≡ all (holdsRight (cardOf (now (numbers .entry)) (now (names .entry)))) (cardOf (now (numbers .entry)) (now (names .entry)) .trees) ⌝ }
 {
     let n = table::tree_count(numbers);
@@ -320,7 +320,7 @@ fn held_right(numbers: &[u64], names: &[u8]) -> bool
 
 // Each is asked: a table that keeps the rules passes them all.
 pub fn keeps_rules(numbers: &[u64], names: &[u8]) -> bool
-    requires { ⌜ (length (now numbers) ≡ 1444) × (length (now names) ≡ 18144) ⌝ }
+    requires { ⌜ (length (now numbers) ≡ 1448) × (length (now names) ≡ 18144) ⌝ }
     ensures { λ r. ⌜ r ≡ keepsRules (cardOf (now (numbers .entry)) (now (names .entry))) ⌝ }
 {
     routes_good(numbers, names)

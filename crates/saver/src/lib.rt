@@ -68,7 +68,7 @@ fn put_name(out: &mut [u8], name: &[u8])
 // ---- the head
 
 fn put_head(numbers: &[u64], out: &mut [u8])
-    requires { ⌜ (length (now numbers) ≡ 1444) × (length (now out) ≡ 15) ⌝ }
+    requires { ⌜ (length (now numbers) ≡ 1448) × (length (now out) ≡ 15) ⌝ }
     ensures { λ _. ⌜ ((os : List ℕ) → now (out .exit) ≡ headSaved (cardOf (now (numbers .entry)) os)) ⌝ }
 {
     let base = table::base(numbers);
@@ -97,7 +97,7 @@ fn put_head(numbers: &[u64], out: &mut [u8])
 // ---- a route
 
 fn put_route(numbers: &[u64], names: &[u8], i: usize, out: &mut [u8])
-    requires { ⌜ (length (now numbers) ≡ 1444) × (length (now names) ≡ 18144) × (i < 32) × (length (now out) ≡ 21) ⌝ }
+    requires { ⌜ (length (now numbers) ≡ 1448) × (length (now names) ≡ 18144) × (i < 32) × (length (now out) ≡ 21) ⌝ }
     ensures { λ _. ⌜ now (out .exit) ≡ routeSaved (routeIn (now (numbers .entry)) (now (names .entry)) i) ⌝ }
 {
     let head = [0x4c, 0x53, 2, (table::route_via(numbers, i) % 256) as u8];
@@ -107,7 +107,7 @@ fn put_route(numbers: &[u64], names: &[u8], i: usize, out: &mut [u8])
 
 // All routes from a place on; the place behind them.
 fn put_routes(numbers: &[u64], names: &[u8], out: &mut [u8], from: usize) -> usize
-    requires { ⌜ (length (now numbers) ≡ 1444) × (length (now names) ≡ 18144)
+    requires { ⌜ (length (now numbers) ≡ 1448) × (length (now names) ≡ 18144)
         × (from + length (routesSaved (cardOf (now numbers) (now names) .routes)) ≤ length (now out)) ⌝ }
     ensures { λ r. ⌜ (now (out .exit) ≡ laid from (routesSaved (cardOf (now (numbers .entry)) (now (names .entry)) .routes)) (now (out .entry)))
         × (r ≡ from + length (routesSaved (cardOf (now (numbers .entry)) (now (names .entry)) .routes))) ⌝ }
@@ -142,7 +142,7 @@ fn put_four(out: &mut [u8], n: u64)
 
 // The sixteen branch labels of the tree at place i.
 fn put_branches(numbers: &[u64], i: usize, out: &mut [u8])
-    requires { ⌜ (length (now numbers) ≡ 1444) × (i < treeCount (now numbers)) × (i < 64) × (length (now out) ≡ 64) ⌝ }
+    requires { ⌜ (length (now numbers) ≡ 1448) × (i < treeCount (now numbers)) × (i < 64) × (length (now out) ≡ 64) ⌝ }
     ensures { λ _. ⌜ ((os : List ℕ) → now (out .exit) ≡ foursOf (treeAt i (cardOf (now (numbers .entry)) os) .branches)) ⌝ }
 {
     let mut k = 0;
@@ -155,14 +155,14 @@ fn put_branches(numbers: &[u64], i: usize, out: &mut [u8])
 }
 
 fn leaf_octet(numbers: &[u64], i: usize) -> u8
-    requires { ⌜ (length (now numbers) ≡ 1444) × (i < treeCount (now numbers)) × (i < 64) ⌝ }
+    requires { ⌜ (length (now numbers) ≡ 1448) × (i < treeCount (now numbers)) × (i < 64) ⌝ }
     ensures { λ r. ⌜ ((os : List ℕ) → r ≡ pick (treeAt i (cardOf (now (numbers .entry)) os) .leaf) 1 0) ⌝ }
 {
     if table::is_leaf(numbers, i) { 1 } else { 0 }
 }
 
 fn put_tree(numbers: &[u64], names: &[u8], i: usize, out: &mut [u8])
-    requires { ⌜ (length (now numbers) ≡ 1444) × (length (now names) ≡ 18144) × (i < treeCount (now numbers)) × (i < 64) × (length (now out) ≡ 118) ⌝ }
+    requires { ⌜ (length (now numbers) ≡ 1448) × (length (now names) ≡ 18144) × (i < treeCount (now numbers)) × (i < 64) × (length (now out) ≡ 118) ⌝ }
     ensures { λ _. ⌜ now (out .exit) ≡ treeSaved (treeAt i (cardOf (now (numbers .entry)) (now (names .entry)))) ⌝ }
 {
     let head = [0x4c, 0x53, 3];
@@ -175,7 +175,7 @@ fn put_tree(numbers: &[u64], names: &[u8], i: usize, out: &mut [u8])
 
 // All trees from a place on; the place behind them.
 fn put_trees(numbers: &[u64], names: &[u8], out: &mut [u8], from: usize) -> usize
-    requires { ⌜ (length (now numbers) ≡ 1444) × (length (now names) ≡ 18144)
+    requires { ⌜ (length (now numbers) ≡ 1448) × (length (now names) ≡ 18144)
         × (from + length (treesSaved (cardOf (now numbers) (now names) .trees)) ≤ length (now out)) ⌝ }
     ensures { λ r. ⌜ (now (out .exit) ≡ laid from (treesSaved (cardOf (now (numbers .entry)) (now (names .entry)) .trees)) (now (out .entry)))
         × (r ≡ from + length (treesSaved (cardOf (now (numbers .entry)) (now (names .entry)) .trees))) ⌝ }
@@ -216,7 +216,7 @@ fn put_state(out: &mut [u8], label: u64, state: u8, neighbour: u64, name: &[u8])
 
 // The label at place p of the block, which is not free.
 fn put_use(numbers: &[u64], names: &[u8], p: usize, out: &mut [u8])
-    requires { ⌜ (length (now numbers) ≡ 1444) × (length (now names) ≡ 18144) × (p < 256) × (isFreeAt (now numbers) p ≡ false) × (length (now out) ≡ 59) ⌝ }
+    requires { ⌜ (length (now numbers) ≡ 1448) × (length (now names) ≡ 18144) × (p < 256) × (isFreeAt (now numbers) p ≡ false) × (length (now out) ≡ 59) ⌝ }
     ensures { λ _. ⌜ now (out .exit) ≡ useSaved (baseIn (now (numbers .entry)) + p) (labelIn (now (numbers .entry)) (now (names .entry)) p) ⌝ }
 {
     let label = table::base(numbers) + p as u64;
@@ -236,7 +236,7 @@ fn put_use(numbers: &[u64], names: &[u8], p: usize, out: &mut [u8])
 
 // The same at a place, and the place behind it: of a free label nothing is written.
 fn put_label(numbers: &[u64], names: &[u8], p: usize, out: &mut [u8], at: usize) -> usize
-    requires { ⌜ (length (now numbers) ≡ 1444) × (length (now names) ≡ 18144) × (p < 256)
+    requires { ⌜ (length (now numbers) ≡ 1448) × (length (now names) ≡ 18144) × (p < 256)
         × (at + length (useSaved (baseIn (now numbers) + p) (labelIn (now numbers) (now names) p)) ≤ length (now out)) ⌝ }
     ensures { λ r. ⌜ (now (out .exit) ≡ laid at (useSaved (baseIn (now (numbers .entry)) + p) (labelIn (now (numbers .entry)) (now (names .entry)) p)) (now (out .entry)))
         × (r ≡ at + length (useSaved (baseIn (now (numbers .entry)) + p) (labelIn (now (numbers .entry)) (now (names .entry)) p))) ⌝ }
@@ -251,7 +251,7 @@ fn put_label(numbers: &[u64], names: &[u8], p: usize, out: &mut [u8], at: usize)
 
 // All labels in use from a place on; the place behind them.
 fn put_labels(numbers: &[u64], names: &[u8], out: &mut [u8], from: usize) -> usize
-    requires { ⌜ (length (now numbers) ≡ 1444) × (length (now names) ≡ 18144)
+    requires { ⌜ (length (now numbers) ≡ 1448) × (length (now names) ≡ 18144)
         × (from + length (usesSaved (baseIn (now numbers)) (cardOf (now numbers) (now names) .labels)) ≤ length (now out)) ⌝ }
     ensures { λ r. ⌜ (now (out .exit) ≡ laid from (usesSaved (baseIn (now (numbers .entry))) (cardOf (now (numbers .entry)) (now (names .entry)) .labels)) (now (out .entry)))
         × (r ≡ from + length (usesSaved (baseIn (now (numbers .entry))) (cardOf (now (numbers .entry)) (now (names .entry)) .labels))) ⌝ }
@@ -269,7 +269,7 @@ fn put_labels(numbers: &[u64], names: &[u8], out: &mut [u8], from: usize) -> usi
 
 // How many octets the save has.
 pub fn saved_size(numbers: &[u64]) -> usize
-    requires { ⌜ length (now numbers) ≡ 1444 ⌝ }
+    requires { ⌜ length (now numbers) ≡ 1448 ⌝ }
     ensures { λ r. ⌜ ((os : List ℕ) → r ≡ length (saved (cardOf (now (numbers .entry)) os))) × (r ≤ 23343) ⌝ }
 {
     let routes = table::route_count(numbers);
@@ -280,7 +280,7 @@ pub fn saved_size(numbers: &[u64]) -> usize
 
 // The save at the front of the output, the rest of which stays; how many octets it has.
 pub fn write_save(numbers: &[u64], names: &[u8], out: &mut [u8]) -> usize
-    requires { ⌜ (length (now numbers) ≡ 1444) × (length (now names) ≡ 18144) × (length (saved (cardOf (now numbers) (now names))) ≤ length (now out)) ⌝ }
+    requires { ⌜ (length (now numbers) ≡ 1448) × (length (now names) ≡ 18144) × (length (saved (cardOf (now numbers) (now names))) ≤ length (now out)) ⌝ }
     ensures { λ r. ⌜ (now (out .exit) ≡ over (saved (cardOf (now (numbers .entry)) (now (names .entry)))) (now (out .entry)))
         × (r ≡ length (saved (cardOf (now (numbers .entry)) (now (names .entry))))) ⌝ }
 {
@@ -293,7 +293,7 @@ pub fn write_save(numbers: &[u64], names: &[u8], out: &mut [u8]) -> usize
 // ---- the call
 
 pub fn save_core(
-    numbers: &[u64; 1444],
+    numbers: &[u64; 1448],
     names: &[u8; 18144],
     out: &mut [u8],
     answer: &mut u32,
@@ -310,7 +310,7 @@ pub fn save_core(
 }
 
 pub fn save<'a>(
-    numbers: &[u64; 1444],
+    numbers: &[u64; 1448],
     names: &[u8; 18144],
     out: &'a mut [u8],
     answer: &mut u32,

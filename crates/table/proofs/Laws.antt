@@ -1,5 +1,5 @@
 -- What the memory's functions read and leave, as laws of the card that it denotes: one for each function. Assumes nothing.
-use Prim.Native.Nat.{ℕ, zero, suc, _+_, _*_, _-_, _%_, _≤_, _<_}
+use Prim.Native.Nat.{ℕ, zero, suc, _+_, _*_, _-_, _/_, _%_, _^_, _≤_, _<_}
 use native.Mathlib.Nat.{mod-eq-of-lt}
 use native.Mathlib.Numerals.{add-one}
 use native.Mathlib.Omega.{arith}
@@ -8,17 +8,19 @@ use mathlib.Core.Bool.{Bool, true, false, not}
 use mathlib.Core.List.{List}
 use lib.ListN.{length, take, drop, getD, set, length-set, drop-of-length-le}
 use lib.Seq.{getD-set-same, getD-set-other, drop-cons}
-use lib.Dec.{eqb, leb}
-use borrow.Author.Tests.{lt-ltb, le-leb, lt-leb, leb-true, leb-false, eq-eqb, ne-eqb}
+use lib.Dec.{eqb, ltb}
+use lib.Count.{ones, ones-le, trailingZeros}
+use borrow.Author.Tests.{lt-ltb, ltb-true, ltb-false, le-leb, lt-leb, eq-eqb, ne-eqb}
 use Rattle.meaning.specs.Octets.{any, place, count, same}
 use Rattle.meaning.specs.Lists.{by-test, getD-out}
 use Rattle.meaning.specs.Card.{Route, Tree, Use, withNext, withTrees, withBranch, withLeaf, withLabel, treeAt, isBranch, named, treePlace, free, withLabels, isFree, isAwaiting, mappedTo, useOf, heldFor, freeLabels, carries, isFor, routePlace, routeOf, mapped, awaiting}
 use Rattle.meaning.specs.Events.{baseOutside, setLabel, setUse, ended}
 use Rattle.octets.specs.Part.{tab}
-use Rattle.octets.proofs.Tab.{tab-length, tab-get, tab-ext, tab-set, place-start, place-hit, place-miss, place-none}
-use Rattle.table.specs.Memory.{upTo, textAt, treeName, baseIn, nextIn, routeCount, treeCount, routeIn, markAt, markUse, markPlace, isFreeAt, isMappedAt, labelIn, ownPlace, carriesAt, ownLabel, treeIn, labelName, rootName, cardOf}
+use Rattle.octets.proofs.Tab.{tab-length, tab-get, tab-ext, tab-set, place-start, place-hit, place-miss, place-none, count-none}
+use Rattle.octets.proofs.Bits.{trailing-bit, Says, place-word, place-empty, count-word}
+use Rattle.table.specs.Memory.{upTo, textAt, treeName, baseIn, nextIn, routeCount, treeCount, routeIn, wordAt, isFreeAt, markAt, markUse, markPlace, isMappedAt, labelIn, ownPlace, carriesAt, ownLabel, treeIn, labelName, rootName, cardOf, Relabelled}
 use Rattle.table.proofs.Memory.{treeCount-le, base-range, text-part, text-le, base-same, next-same, routes-same, own-kept, tree-with, tree-same, trees-same, label-same, labels-same, agree-refl, agree-set, tree-at}
-use Rattle.table.proofs.Marks.{never, free-at, taken-use, mapped-at, mapped-use, unmapped-free, unmapped-above, label-free, label-mapped, label-awaiting, carried-in, carried-out, not-mapped, not-named, own-some, own-none, own-beside}
+use Rattle.table.proofs.Marks.{never, mapped-at, mapped-use, unmapped-free, unmapped-above, label-free, label-mapped, label-awaiting, free-in, remarked, remarked-free, carried-in, carried-out, not-mapped, not-named, own-some, own-none, own-beside}
 
 pos : (m : ℕ) → (m ≡ 0 → ⊥) → 0 < m
 pos zero f = absurd (f refl)
@@ -66,13 +68,13 @@ module _ (ns os : List ℕ) (k v : ℕ) where
       (agree-set 3 1 ns k v (λ a b. omega arith))
       (agree-set 36 64 ns k v (λ a b. omega arith))
       (agree-set 100 1088 ns k v (λ a b. omega arith))
-      (agree-set 1188 256 ns k v (λ a b. omega arith))
+      (agree-set 1188 260 ns k v (λ a b. omega arith))
       (agree-refl 0 3520 os)
 
   pub labels-away : k < 1188 → tab 256 (labelIn (set ns k v) os) ≡ tab 256 (labelIn ns os)
-  labels-away h = labels-same ns (set ns k v) os os (agree-set 1188 256 ns k v (λ a b. omega arith)) (agree-refl 3520 14080 os)
+  labels-away h = labels-same ns (set ns k v) os os (agree-set 1188 260 ns k v (λ a b. omega arith)) (agree-refl 3520 14080 os)
 
-pub set-next : (ns os : List ℕ) (id : ℕ) → length ns ≡ 1444 → id < 4294967296 → cardOf (set ns 1 id) os ≡ withNext id (cardOf ns os)
+pub set-next : (ns os : List ℕ) (id : ℕ) → length ns ≡ 1448 → id < 4294967296 → cardOf (set ns 1 id) os ≡ withNext id (cardOf ns os)
 unfolding cardOf withNext nextIn
 set-next ns os id l h =
     let n : getD (set ns 1 id) 1 0 % 4294967296 ≡ id = rw (getD-set-same ns 1 id 0 (omega arith)) (mod-eq-of-lt h) in
@@ -145,14 +147,14 @@ named-at a ns os i n e = rw e refl
 
 -- ---- one number of a tree anew
 
-module _ (ns os : List ℕ) (i : ℕ) (l : length ns ≡ 1444) (h : i < treeCount ns) (i64 : i < 64) where
+module _ (ns os : List ℕ) (i : ℕ) (l : length ns ≡ 1448) (h : i < treeCount ns) (i64 : i < 64) where
   -- the labels that trees carry are as they were
   row-own : (k v j : ℕ) → 100 + i * 17 ≤ k → k < 117 + i * 17 → j < 64 → ownLabel (set ns k v) j (ownPlace (set ns k v) j) ≡ ownLabel ns j (ownPlace ns j)
   row-own k v j low high j64 =
       own-kept ns (set ns k v) os os j
       (agree-set 0 1 ns k v (λ a b. omega arith))
       (agree-set (36 + j) 1 ns k v (λ a b. omega arith))
-      (agree-set 1188 256 ns k v (λ a b. omega arith))
+      (agree-set 1188 260 ns k v (λ a b. omega arith))
 
   -- at a place k of its row
   tree-set : (k v : ℕ) (t : Tree) → 100 + i * 17 ≤ k → k < 117 + i * 17 → treeIn (set ns k v) os i ≡ t
@@ -211,35 +213,37 @@ module _ (ns : List ℕ) (p : ℕ) where
   unfolding mappedTo
   maps-free e = ((λ os. rw (label-free ns p os e) refl), omega arith, (λ _. unmapped-free ns p e), (λ ne. absurd (ne refl)))
 
-  pub maps-some : isFreeAt ns p ≡ false → markUse (markAt ns p) ≤ 16 → MapsTo (markUse (markAt ns p) - 1)
+  pub maps-some : isFreeAt ns p ≡ false → markUse (markAt ns p) < 16 → MapsTo (markUse (markAt ns p))
   unfolding mappedTo
-  maps-some e h =
-      let some = taken-use ns p e in
-      ((λ os. rw (label-mapped ns p os some h) refl), omega arith, (λ q. absurd (omega arith)), (λ _. mapped-at ns p some h))
+  maps-some e h = ((λ os. rw (label-mapped ns p os e h) refl), omega arith, (λ q. absurd (omega arith)), (λ _. mapped-at ns p e h))
 
-  pub maps-other : 16 < markUse (markAt ns p) → MapsTo 17
+  pub maps-other : isFreeAt ns p ≡ false → 16 ≤ markUse (markAt ns p) → MapsTo 17
   unfolding mappedTo
-  maps-other h = ((λ os. rw (label-awaiting ns p os h) refl), omega arith, (λ _. unmapped-above ns p h), (λ ne. absurd (ne refl)))
+  maps-other e h = ((λ os. rw (label-awaiting ns p os e h) refl), omega arith, (λ _. unmapped-above ns p h), (λ ne. absurd (ne refl)))
 
 -- whether the label at a place awaits release
 module _ (ns os : List ℕ) (p n : ℕ) (a : List ℕ) where
-  awaiting-this : n < 16 → markUse (markAt ns p) ≡ 17 + n → isAwaiting n a (labelIn ns os p) ≡ same (labelName os p) a
+  awaiting-free : isFreeAt ns p ≡ true → isAwaiting n a (labelIn ns os p) ≡ false
   unfolding isAwaiting
-  awaiting-this h e =
-      let q : markUse (markAt ns p) - 17 ≡ n = omega arith in
-      rw (label-awaiting ns p os (omega arith)) (rw (eq-eqb (markUse (markAt ns p) - 17) n q) refl)
+  awaiting-free e = rw (label-free ns p os e) refl
 
-  awaiting-not : (markUse (markAt ns p) ≡ 17 + n → ⊥) → isAwaiting n a (labelIn ns os p) ≡ false
+  awaiting-this : isFreeAt ns p ≡ false → n < 16 → markUse (markAt ns p) ≡ 16 + n → isAwaiting n a (labelIn ns os p) ≡ same (labelName os p) a
+  unfolding isAwaiting
+  awaiting-this t h e =
+      let q : markUse (markAt ns p) - 16 ≡ n = omega arith in
+      rw (label-awaiting ns p os t (omega arith)) (rw (eq-eqb (markUse (markAt ns p) - 16) n q) refl)
+
+  awaiting-not : (markUse (markAt ns p) ≡ 16 + n → ⊥) → isAwaiting n a (labelIn ns os p) ≡ false
   unfolding isAwaiting
   awaiting-not ne =
       by-test (isFreeAt ns p)
       (λ e. rw (label-free ns p os e) refl)
       (λ e.
-      by-test (leb (markUse (markAt ns p)) 16)
-      (λ t. rw (label-mapped ns p os (taken-use ns p e) (leb-true _ _ t)) refl)
+      by-test (ltb (markUse (markAt ns p)) 16)
+      (λ t. rw (label-mapped ns p os e (ltb-true _ _ t)) refl)
       (λ t.
-      let k : 16 < markUse (markAt ns p) = leb-false _ _ t in
-      rw (label-awaiting ns p os k) (rw (ne-eqb (markUse (markAt ns p) - 17) n (λ q. ne (omega arith))) refl)))
+      let k : 16 ≤ markUse (markAt ns p) = ltb-false _ _ t in
+      rw (label-awaiting ns p os e k) (rw (ne-eqb (markUse (markAt ns p) - 16) n (λ q. ne (omega arith))) refl)))
 
 module _ (ns os : List ℕ) (label b : ℕ) (e : b ≡ baseIn ns) where
   pub use-under : label < b → useOf label (cardOf ns os) ≡ free
@@ -274,13 +278,16 @@ module _ (ns os : List ℕ) (label b : ℕ) (e : b ≡ baseIn ns) where
   unfolding isAwaiting
   awaits-above n a h k = (rw (use-above h k) refl, λ z. absurd (never z))
 
-  pub awaits-not : (n : ℕ) (a : List ℕ) → b ≤ label → label - b < 256 → (markUse (markAt ns (label - b)) ≡ 17 + n → ⊥) → Awaits n a false
+  pub awaits-free : (n : ℕ) (a : List ℕ) → b ≤ label → label - b < 256 → isFreeAt ns (label - b) ≡ true → Awaits n a false
+  awaits-free n a h k f = (rw (use-at h k) (sym (awaiting-free ns os (label - b) n a f)), λ z. absurd (never z))
+
+  pub awaits-not : (n : ℕ) (a : List ℕ) → b ≤ label → label - b < 256 → (markUse (markAt ns (label - b)) ≡ 16 + n → ⊥) → Awaits n a false
   awaits-not n a h k ne = (rw (use-at h k) (sym (awaiting-not ns os (label - b) n a ne)), λ z. absurd (never z))
 
-  pub awaits-same : (n : ℕ) (a : List ℕ) (r : Bool) → b ≤ label → label - b < 256 → n < 16 → markUse (markAt ns (label - b)) ≡ 17 + n → r ≡ same (labelName os (label - b)) a → Awaits n a r
-  awaits-same n a r h k n16 m s =
+  pub awaits-same : (n : ℕ) (a : List ℕ) (r : Bool) → b ≤ label → label - b < 256 → isFreeAt ns (label - b) ≡ false → n < 16 → markUse (markAt ns (label - b)) ≡ 16 + n → r ≡ same (labelName os (label - b)) a → Awaits n a r
+  awaits-same n a r h k t n16 m s =
       let away : isMappedAt ns (label - b) ≡ false = unmapped-above ns (label - b) (omega arith) in
-      (rw (use-at h k) (s ∙ sym (awaiting-this ns os (label - b) n a n16 m)), λ z. (omega arith, omega arith, rw (← e) away))
+      (rw (use-at h k) (s ∙ sym (awaiting-this ns os (label - b) n a t n16 m)), λ z. (omega arith, omega arith, rw (← e) away))
 
 -- the neighbour for which a tree holds its label
 module _ (ns os : List ℕ) (i : ℕ) (h : i < treeCount ns) where
@@ -303,6 +310,54 @@ labels-start ns os = omega arith
 pub count-start : (ns os : List ℕ) → freeLabels (cardOf ns os) ≡ 0 + count isFree (drop 0 (tab 256 (labelIn ns os)))
 unfolding freeLabels cardOf
 count-start ns os = omega arith
+
+-- by words: each says which of its 64 labels are free
+
+says : (ns os : List ℕ) (w : ℕ) → w < 4 → Says isFree 256 (labelIn ns os) 64 (w * 64) (wordAt ns w)
+unfolding isFreeAt
+says ns os w h j lt =
+    let q : (w * 64 + j) / 64 ≡ w = omega arith in
+    let m : (w * 64 + j) % 64 ≡ j = omega arith in
+    free-in ns (w * 64 + j) os ∙ rw (q, m) refl
+
+-- the first word that is not 0 has the lowest; From w: none is free below word w
+module _ (ns : List ℕ) where
+  abbrev pub Lowest : ℕ → Type 0
+  Lowest r = ((os : List ℕ) → r ≡ place isFree (cardOf ns os .labels)) × (r ≤ 256) × (r < 256 → isFreeAt ns r ≡ true)
+
+  abbrev pub From : ℕ → Type 0
+  From w = (os : List ℕ) → place isFree (cardOf ns os .labels) ≡ w * 64 + place isFree (drop (w * 64) (tab 256 (labelIn ns os)))
+
+  pub lowest-word : (w : ℕ) → w < 4 → From w → 0 < wordAt ns w → wordAt ns w < 2 ^ 64 → Lowest (w * 64 + trailingZeros 64 (wordAt ns w))
+  unfolding isFreeAt
+  lowest-word w h from p l =
+      let t = trailing-bit 64 (wordAt ns w) p l in
+      let q : (w * 64 + trailingZeros 64 (wordAt ns w)) / 64 ≡ w = omega (arith, t .0) in
+      let m : (w * 64 + trailingZeros 64 (wordAt ns w)) % 64 ≡ trailingZeros 64 (wordAt ns w) = omega (arith, t .0) in (
+        (λ os. sym (from os ∙ place-word isFree 256 (labelIn ns os) 64 (w * 64) (wordAt ns w) (omega arith) p l (says ns os w h))),
+        omega (arith, t .0),
+        (λ _. rw (q, m) (t .1)),
+      )
+
+  pub lowest-next : (w : ℕ) → w < 4 → From w → wordAt ns w ≡ 0 → From (w + 1)
+  lowest-next w h from z os =
+      let e : w * 64 + 64 ≡ (w + 1) * 64 = omega arith in
+      from os ∙ place-empty isFree 256 (labelIn ns os) 64 (w * 64) (omega arith) (rw z at (says ns os w h)) ∙ rw e refl
+
+  pub lowest-none : (w : ℕ) → 4 ≤ w → w ≤ 4 → From w → Lowest 256
+  lowest-none w h k from = ((λ os. sym (from os ∙ place-none isFree 256 (labelIn ns os) (w * 64) (omega arith) (omega arith))), omega arith, (λ lt. absurd (omega arith)))
+
+-- the ones of the four words
+pub few-in : (ns : List ℕ) → ((w : ℕ) → wordAt ns w < 2 ^ 64) → (w : ℕ) → ones (wordAt ns w) ≤ 64
+few-in ns l w = ones-le 64 (wordAt ns w) (l w)
+
+pub counted : (ns os : List ℕ) → ((w : ℕ) → wordAt ns w < 2 ^ 64) → ones (wordAt ns 0) + ones (wordAt ns 1) + ones (wordAt ns 2) + ones (wordAt ns 3) ≡ freeLabels (cardOf ns os)
+counted ns os l =
+    let z : 0 + ones (wordAt ns 0) ≡ ones (wordAt ns 0) = omega arith in
+    sym (count-start ns os ∙ word 0 0 (omega arith) ∙ rw z (word 1 _ (omega arith) ∙ word 2 _ (omega arith) ∙ word 3 _ (omega arith) ∙ count-none isFree 256 (labelIn ns os) 256 _ (omega arith)))
+  where
+    word : (w k : ℕ) → w < 4 → k + count isFree (drop (w * 64) (tab 256 (labelIn ns os))) ≡ k + ones (wordAt ns w) + count isFree (drop (w * 64 + 64) (tab 256 (labelIn ns os)))
+    word w k h = count-word isFree 256 (labelIn ns os) 64 (w * 64) (wordAt ns w) k (omega arith) (l w) (says ns os w h)
 
 -- ---- the tree that carries a label
 
@@ -348,37 +403,36 @@ module _ (ns os : List ℕ) (label p : ℕ) (h : p < 256) (e : label ≡ baseIn 
   pub carrier-other : (n : ℕ) → n ≡ treeCount ns → (ownPlace ns (markPlace (markAt ns p)) ≡ p → ⊥) → Carrier n
   carrier-other n en f = carrier-none n en (λ i _ o c. f (ap (ownPlace ns) (carried-out ns i p c .2) ∙ o))
 
--- ---- one mark anew
+-- ---- one label anew
 
-module _ (ns os : List ℕ) (l : length ns ≡ 1444) (p : ℕ) (h : p < 256) (label : ℕ) (e : label ≡ baseIn ns + p) (v : ℕ) where
+module _ (ns ms os : List ℕ) (p : ℕ) (h : p < 256) (label : ℕ) (e : label ≡ baseIn ns + p) (r : Relabelled p ns ms) where
   -- with the label's use and the trees, as they are then
-  marked : (u : Use) (ts : List Tree) → labelIn (set ns (1188 + p) v) os p ≡ u → tab (treeCount ns) (treeIn (set ns (1188 + p) v) os) ≡ ts → cardOf (set ns (1188 + p) v) os ≡ withTrees ts (setUse label u (cardOf ns os))
+  relabelled : (u : Use) (ts : List Tree) → labelIn ms os p ≡ u → tab (treeCount ns) (treeIn ms os) ≡ ts → cardOf ms os ≡ withTrees ts (setUse label u (cardOf ns os))
   unfolding cardOf withTrees setUse withLabels treeCount
-  marked u ts eu et =
-      let k : ℕ = 1188 + p in
+  relabelled u ts eu et =
       let q : label - baseIn ns ≡ p = omega arith in
-      let n : getD (set ns k v) 3 0 ≡ getD ns 3 0 = getD-set-other ns k 3 v 0 (λ q. omega arith) in
-      let ls : tab 256 (labelIn (set ns k v) os) ≡ set (tab 256 (labelIn ns os)) p u =
-      tab-set 256 (labelIn ns os) (labelIn (set ns k v) os) p u h eu (λ j ne lt.
-      label-same ns (set ns k v) os os j (agree-set (1188 + j) 1 ns k v (λ a b. ne (omega arith))) (agree-refl (3520 + j * 55) 55 os)) in
-      cc (base-away ns os k v (omega arith), next-away ns os k v (omega arith), routes-away ns os k v (λ a b. omega arith))
+      let n : getD ms 3 0 ≡ getD ns 3 0 = r .rest 3 (omega arith) in
+      let b : baseIn ms ≡ baseIn ns = base-same ns ms os os (λ j x y. r .rest j (omega arith)) in
+      let i : nextIn ms ≡ nextIn ns = next-same ns ms os os (λ j x y. r .rest j (omega arith)) in
+      let rs : tab (routeCount ms) (routeIn ms os) ≡ tab (routeCount ns) (routeIn ns os) = routes-same ns ms os os (λ j x y. r .rest j (omega arith)) (λ j x y. r .rest j (omega arith)) (agree-refl 17600 544 os) in
+      let ls : tab 256 (labelIn ms os) ≡ set (tab 256 (labelIn ns os)) p u =
+      tab-set 256 (labelIn ns os) (labelIn ms os) p u h eu (λ j ne lt. label-same ns ms os os j (r .marks j lt ne) (r .frees j lt ne) (agree-refl (3520 + j * 55) 55 os)) in
+      cc
 
-  -- a tree of which the mark is not
-  beside : (j : ℕ) → j < 64 → (ownPlace ns j ≡ p → (carriesAt ns j p ≡ false) × (carriesAt (set ns (1188 + p) v) j p ≡ false)) → treeIn (set ns (1188 + p) v) os j ≡ treeIn ns os j
+  -- a tree whose label it is not
+  beside : (j : ℕ) → j < 64 → (ownPlace ns j ≡ p → (carriesAt ns j p ≡ false) × (carriesAt ms j p ≡ false)) → treeIn ms os j ≡ treeIn ns os j
   beside j j64 f =
-      let o : ownPlace (set ns (1188 + p) v) j ≡ ownPlace ns j = getD-set-other ns (1188 + p) (36 + j) v 0 (λ q. omega arith) in
-      tree-same ns (set ns (1188 + p) v) os os j
-      (rw o (own-beside ns p v j (ownPlace ns j) (λ q. rw q (f q))))
-      (agree-set (100 + j * 17) 17 ns (1188 + p) v (λ a b. omega arith))
+      let o : ownPlace ms j ≡ ownPlace ns j = r .rest (36 + j) (omega arith) in
+      tree-same ns ms os os j
+      (rw o (own-beside ns ms p j (ownPlace ns j) r (λ q. rw q (f q))))
+      (λ k x y. r .rest k (omega arith))
       (agree-refl (j * 55) 55 os)
 
-  pub marks-now : markAt (set ns (1188 + p) v) p ≡ v
-  marks-now = getD-set-same ns (1188 + p) v 0 (omega arith)
-
-pub free-label : (ns os : List ℕ) (label b : ℕ) → length ns ≡ 1444 → b ≡ baseIn ns → b ≤ label → label < b + 256 → isMappedAt ns (label - b) ≡ false → cardOf (set ns (1188 + (label - b)) 0) os ≡ setUse label free (cardOf ns os)
-free-label ns os label b l e low high m =
-    marked ns os l p h label e' 0 free (cardOf ns os .trees) (label-free ms p os now)
-    (unfold cardOf in tab-ext (treeCount ns) (treeIn ms os) (treeIn ns os) (λ j lt. beside ns os l p h label e' 0 j (omega (arith, treeCount-le ns)) (λ _. (not-mapped ns j p m, not-mapped ms j p (unmapped-free ms p now)))))
+pub free-label : (ns ms os : List ℕ) (label b : ℕ) → b ≡ baseIn ns → b ≤ label → label < b + 256 → isMappedAt ns (label - b) ≡ false
+    → Relabelled (label - b) ns ms → isFreeAt ms (label - b) ≡ true → cardOf ms os ≡ setUse label free (cardOf ns os)
+free-label ns ms os label b e low high m r now =
+    relabelled ns ms os p h label e' r free (cardOf ns os .trees) (label-free ms p os now)
+    (unfold cardOf in tab-ext (treeCount ns) (treeIn ms os) (treeIn ns os) (λ j lt. beside ns ms os p h label e' r j (omega (arith, treeCount-le ns)) (λ _. (not-mapped ns j p m, not-mapped ms j p (unmapped-free ms p now)))))
     ∙ unfold cardOf withTrees setUse withLabels in refl
   where
     p : ℕ
@@ -390,39 +444,33 @@ free-label ns os label b l e low high m =
     e' : label ≡ baseIn ns + p
     e' = omega arith
 
-    ms : List ℕ
-    ms = set ns (1188 + p) 0
-
-    now : isFreeAt ms p ≡ true
-    now = free-at ms p (ap markUse (marks-now ns os l p h label e' 0))
-
 -- the tree carries its label no more, which awaits release
 
-module _ (ns os : List ℕ) (i : ℕ) (l : length ns ≡ 1444) (h : i < treeCount ns) (i64 : i < 64) (c : carriesAt ns i (ownPlace ns i) ≡ true) where
+module _ (ns os : List ℕ) (i : ℕ) (l : length ns ≡ 1448) (h : i < treeCount ns) (i64 : i < 64) (c : carriesAt ns i (ownPlace ns i) ≡ true) where
   pub own-inside : ownPlace ns i < 256
   own-inside = carried-out ns i (ownPlace ns i) c .0
 
   own-label : treeAt i (cardOf ns os) .label ≡ baseIn ns + ownPlace ns i
   own-label = sym (label-some ns os i h (baseIn ns) refl c)
 
-  own-ended : (ms : List ℕ) → markAt ms (ownPlace ns i) ≡ markUse (markAt ns (ownPlace ns i)) + 16 → (isMappedAt ms (ownPlace ns i) ≡ false) × (labelIn ms os (ownPlace ns i) ≡ ended (useOf (treeAt i (cardOf ns os) .label) (cardOf ns os)))
+  own-ended : (ms : List ℕ) → markAt ms (ownPlace ns i) ≡ markUse (markAt ns (ownPlace ns i)) + 16 → isFreeAt ms (ownPlace ns i) ≡ false → (isMappedAt ms (ownPlace ns i) ≡ false) × (labelIn ms os (ownPlace ns i) ≡ ended (useOf (treeAt i (cardOf ns os) .label) (cardOf ns os)))
   unfolding ended
-  own-ended ms e =
+  own-ended ms e f =
       let p : ℕ = ownPlace ns i in
       let u = mapped-use ns p (carried-out ns i p c .1) in
       let v : markUse (markAt ms p) ≡ markUse (markAt ns p) + 16 = omega arith in
-      let back : markUse (markAt ms p) - 17 ≡ markUse (markAt ns p) - 1 = omega arith in (
+      let back : markUse (markAt ms p) - 16 ≡ markUse (markAt ns p) = omega arith in (
         unmapped-above ms p (omega arith),
-        rw (use-in ns os (treeAt i (cardOf ns os) .label) p own-label own-inside, label-mapped ns p os (u .0) (u .1), label-awaiting ms p os (omega arith), back) refl,
+        rw (use-in ns os (treeAt i (cardOf ns os) .label) p own-label own-inside, label-mapped ns p os (u .0) (u .1), label-awaiting ms p os f (omega arith), back) refl,
       )
 
   pub ends : cardOf (set ns (1188 + ownPlace ns i) (markUse (markAt ns (ownPlace ns i)) + 16)) os
       ≡ setLabel i 0 (setUse (treeAt i (cardOf ns os) .label) (ended (useOf (treeAt i (cardOf ns os) .label) (cardOf ns os))) (cardOf ns os))
   unfolding setLabel
   ends =
-      marked ns os l p own-inside label own-label v _ (set (cardOf ns os .trees) i (withLabel 0 (treeAt i (cardOf ns os)))) (done .1)
+      relabelled ns ms os p own-inside label own-label r _ (set (cardOf ns os .trees) i (withLabel 0 (treeAt i (cardOf ns os)))) (done .1)
       (unfold cardOf in tab-set (treeCount ns) (treeIn ns os) (treeIn ms os) i _ h this (λ j ne lt.
-      beside ns os l p own-inside label own-label v j (omega (arith, treeCount-le ns)) (λ _. (not-named ns j p (λ q. ne (sym q ∙ named)), not-mapped ms j p (done .0)))))
+      beside ns ms os p own-inside label own-label r j (omega (arith, treeCount-le ns)) (λ _. (not-named ns j p (λ q. ne (sym q ∙ named)), not-mapped ms j p (done .0)))))
       ∙ unfold cardOf withTrees setUse withLabels treeAt in refl
     where
       p : ℕ
@@ -437,19 +485,26 @@ module _ (ns os : List ℕ) (i : ℕ) (l : length ns ≡ 1444) (h : i < treeCoun
       ms : List ℕ
       ms = set ns (1188 + p) v
 
+      r : Relabelled p ns ms
+      r = remarked ns p v own-inside
+
+      -- the bit stays: the label was mapped, so it was not free
+      taken : isFreeAt ms p ≡ false
+      taken = remarked-free ns p v own-inside ∙ mapped-use ns p (carried-out ns i p c .1) .0
+
       done : (isMappedAt ms p ≡ false) × (labelIn ms os p ≡ ended (useOf label (cardOf ns os)))
-      done = own-ended ms (marks-now ns os l p own-inside label own-label v)
+      done = own-ended ms (getD-set-same ns (1188 + p) v 0 (omega (arith, own-inside))) taken
 
       named : markPlace (markAt ns p) ≡ i
       named = carried-out ns i p c .2
 
       this : treeIn ms os i ≡ withLabel 0 (treeAt i (cardOf ns os))
       this =
-          let o : ownPlace ms i ≡ p = getD-set-other ns (1188 + p) (36 + i) v 0 (λ q. omega arith) in
+          let o : ownPlace ms i ≡ p = r .rest (36 + i) (omega arith) in
           rw (tree-at ns os i h)
           (tree-with ns ms os os i 0
           (rw o (own-none ms i p (not-mapped ms i p (done .0))))
-          (agree-set (100 + i * 17) 17 ns (1188 + p) v (λ a b. omega arith))
+          (λ k x y. r .rest k (omega arith))
           (agree-refl (i * 55) 55 os))
 
 -- ---- routes
@@ -480,11 +535,11 @@ module _ (ns : List ℕ) (p : ℕ) (os : List ℕ) where
   unfolding mappedTo
   mapped-is m = let u = mapped-use ns p m in rw (label-mapped ns p os (u .0) (u .1)) refl
 
-  pub awaits-use : isFreeAt ns p ≡ false → isMappedAt ns p ≡ false → 16 < markUse (markAt ns p)
+  pub awaits-use : isFreeAt ns p ≡ false → isMappedAt ns p ≡ false → 16 ≤ markUse (markAt ns p)
   awaits-use e m =
-      by-test (leb (markUse (markAt ns p)) 16)
-      (λ t. absurd (let z : _≡_ {A = Bool} false true = sym m ∙ mapped-at ns p (taken-use ns p e) (leb-true _ _ t) in let z′ : _≡_ {A = ℕ} 0 1 = cc in omega arith))
-      (λ t. leb-false _ _ t)
+      by-test (ltb (markUse (markAt ns p)) 16)
+      (λ t. absurd (let z : _≡_ {A = Bool} false true = sym m ∙ mapped-at ns p e (ltb-true _ _ t) in let z′ : _≡_ {A = ℕ} 0 1 = cc in omega arith))
+      (λ t. ltb-false _ _ t)
 
-  pub awaited-is : isFreeAt ns p ≡ false → isMappedAt ns p ≡ false → labelIn ns os p ≡ awaiting (markUse (markAt ns p) - 17) (labelName os p)
-  awaited-is e m = label-awaiting ns p os (awaits-use e m)
+  pub awaited-is : isFreeAt ns p ≡ false → isMappedAt ns p ≡ false → labelIn ns os p ≡ awaiting (markUse (markAt ns p) - 16) (labelName os p)
+  awaited-is e m = label-awaiting ns p os e (awaits-use e m)

@@ -1,5 +1,5 @@
 -- What a change of the memory leaves as it was: each part of the card depends on its own places alone. Assumes nothing.
-use Prim.Native.Nat.{ℕ, _+_, _*_, _≤_, _<_}
+use Prim.Native.Nat.{ℕ, _+_, _*_, _/_, _≤_, _<_}
 use native.Mathlib.Omega.{arith}
 use mathlib.Core.Path.{_≡_, refl, _∙_}
 use mathlib.Core.List.{List, []}
@@ -94,16 +94,25 @@ module _ (ns ns' os os' : List ℕ) where
       (tab-ext _ _ _ (λ i lt. let le = upTo-le 32 (getD ns 2 0) in
       route-same i (λ j a b. k j (omega arith) (omega arith)) (λ j a b. r j (omega arith) (omega arith))))
 
-  -- the label that a tree at place i carries, by the mark of its own place alone
-  pub own-same : (i p : ℕ) → Agree 0 1 ns ns' → (p < 256 → markAt ns' p ≡ markAt ns p) → ownLabel ns' i p ≡ ownLabel ns i p
-  unfolding ownLabel carriesAt isMappedAt isFreeAt
-  own-same i p b m =
+  -- a word says of its labels what it said
+  pub free-same : Agree 1444 4 ns ns' → (p : ℕ) → p < 256 → isFreeAt ns' p ≡ isFreeAt ns p
+  unfolding isFreeAt
+  free-same h p lt = rw (h (1444 + p / 64) (omega arith) (omega arith)) refl
+
+  -- the label that a tree at place i carries, by the bit and the mark of its own place alone
+  pub own-same : (i p : ℕ) → Agree 0 1 ns ns' → (p < 256 → markAt ns' p ≡ markAt ns p) → (p < 256 → isFreeAt ns' p ≡ isFreeAt ns p) → ownLabel ns' i p ≡ ownLabel ns i p
+  unfolding ownLabel carriesAt isMappedAt
+  own-same i p b m f =
       by-test (ltb p 256)
-      (λ t. rw (t, m (ltb-true p 256 t), base-same b) refl)
+      (λ t. rw (t, m (ltb-true p 256 t), f (ltb-true p 256 t), base-same b) refl)
       (λ t. rw t refl)
 
-  pub own-kept : (i : ℕ) → Agree 0 1 ns ns' → Agree (36 + i) 1 ns ns' → Agree 1188 256 ns ns' → ownLabel ns' i (ownPlace ns' i) ≡ ownLabel ns i (ownPlace ns i)
-  own-kept i b o m = rw (o (36 + i) (omega arith) (omega arith)) (own-same i (ownPlace ns i) b (λ h. m (1188 + ownPlace ns i) (omega arith) (omega arith)))
+  pub own-kept : (i : ℕ) → Agree 0 1 ns ns' → Agree (36 + i) 1 ns ns' → Agree 1188 260 ns ns' → ownLabel ns' i (ownPlace ns' i) ≡ ownLabel ns i (ownPlace ns i)
+  own-kept i b o m =
+      rw (o (36 + i) (omega arith) (omega arith))
+      (own-same i (ownPlace ns i) b
+      (λ h. m (1188 + ownPlace ns i) (omega arith) (omega arith))
+      (λ h. free-same (λ j x y. m j (omega arith) (omega arith)) (ownPlace ns i) h))
 
   -- the row and the name of a tree as they were, and its label
   pub tree-with : (i w : ℕ) → ownLabel ns' i (ownPlace ns' i) ≡ w → Agree (100 + i * 17) 17 ns ns' → Agree (i * 55) 55 os os' → treeIn ns' os' i ≡ withLabel w (treeIn ns os i)
@@ -117,19 +126,21 @@ module _ (ns ns' os os' : List ℕ) where
   pub tree-same : (i : ℕ) → ownLabel ns' i (ownPlace ns' i) ≡ ownLabel ns i (ownPlace ns i) → Agree (100 + i * 17) 17 ns ns' → Agree (i * 55) 55 os os' → treeIn ns' os' i ≡ treeIn ns os i
   tree-same i l r n = tree-with i (ownLabel ns i (ownPlace ns i)) l r n ∙ unfold treeIn withLabel in refl
 
-  pub trees-same : Agree 0 1 ns ns' → Agree 3 1 ns ns' → Agree 36 64 ns ns' → Agree 100 1088 ns ns' → Agree 1188 256 ns ns' → Agree 0 3520 os os' → tab (treeCount ns') (treeIn ns' os') ≡ tab (treeCount ns) (treeIn ns os)
+  pub trees-same : Agree 0 1 ns ns' → Agree 3 1 ns ns' → Agree 36 64 ns ns' → Agree 100 1088 ns ns' → Agree 1188 260 ns ns' → Agree 0 3520 os os' → tab (treeCount ns') (treeIn ns' os') ≡ tab (treeCount ns) (treeIn ns os)
   unfolding treeCount
   trees-same b h l r m n =
       rw (h 3 (omega arith) (omega arith))
       (tab-ext _ _ _ (λ i lt. let le = upTo-le 64 (getD ns 3 0) in
       tree-same i (own-kept i b (λ j x y. l j (omega arith) (omega arith)) m) (λ j x y. r j (omega arith) (omega arith)) (λ j x y. n j (omega arith) (omega arith))))
 
-  pub label-same : (p : ℕ) → Agree (1188 + p) 1 ns ns' → Agree (3520 + p * 55) 55 os os' → labelIn ns' os' p ≡ labelIn ns os p
-  unfolding labelIn labelName isFreeAt
-  label-same p m n = rw (text-same nameLimit (3520 + p * 55) os os' n, m (1188 + p) (omega arith) (omega arith)) refl
+  pub label-same : (p : ℕ) → markAt ns' p ≡ markAt ns p → isFreeAt ns' p ≡ isFreeAt ns p → Agree (3520 + p * 55) 55 os os' → labelIn ns' os' p ≡ labelIn ns os p
+  unfolding labelIn labelName
+  label-same p m f n = rw (text-same nameLimit (3520 + p * 55) os os' n, m, f) refl
 
-  pub labels-same : Agree 1188 256 ns ns' → Agree 3520 14080 os os' → tab labelCount (labelIn ns' os') ≡ tab labelCount (labelIn ns os)
-  labels-same m n = tab-ext 256 _ _ (λ p lt. label-same p (λ j x y. m j (omega arith) (omega arith)) (λ j x y. n j (omega arith) (omega arith)))
+  pub labels-same : Agree 1188 260 ns ns' → Agree 3520 14080 os os' → tab labelCount (labelIn ns' os') ≡ tab labelCount (labelIn ns os)
+  labels-same m n =
+      tab-ext 256 _ _ (λ p lt.
+      label-same p (m (1188 + p) (omega arith) (omega arith)) (free-same (λ j x y. m j (omega arith) (omega arith)) p lt) (λ j x y. n j (omega arith) (omega arith)))
 
 -- the same places of the same list
 pub agree-refl : (p k : ℕ) (xs : List ℕ) → Agree p k xs xs

@@ -1,13 +1,15 @@
 -- The card that the lent memory denotes: any content denotes one. docs/MEMORY.md draws the layout. Assumes nothing.
-use Prim.Native.Nat.{ℕ, _+_, _*_, _-_, _/_, _%_}
+use Prim.Native.Nat.{ℕ, _+_, _*_, _-_, _/_, _%_, _<_}
 use mathlib.Core.Bool.{Bool, not, _&&_}
+use mathlib.Core.Path.{_≡_}
 use mathlib.Core.List.{List}
-use lib.ListN.{getD}
-use lib.Dec.{eqb, leb, ltb}
+use lib.ListN.{length, getD}
+use lib.Dec.{eqb, ltb}
 use Rattle.meaning.specs.Octets.{pick}
 use Rattle.meaning.specs.Card.{Route, Tree, Use, free, mapped, awaiting, Card, treeLimit, routeLimit, labelCount}
 use Rattle.meaning.specs.Events.{baseOutside}
 use Rattle.octets.specs.Part.{tab}
+use Rattle.octets.specs.Bits.{bit}
 
 -- at most k
 unfoldable pub upTo : ℕ → ℕ → ℕ
@@ -49,9 +51,17 @@ treeCount ns = upTo treeLimit (getD ns 3 0)
 unfoldable pub routeIn : List ℕ → List ℕ → ℕ → Route
 routeIn ns os i = record { root = rootName os i; via = getD ns (4 + i) 0 }
 
--- ---- labels: each has a mark
+-- ---- labels: each has a bit and a mark
 
--- the mark of the label at place p of the block: use + 256 * place, its use and the place of the tree that carries it
+-- the words of free labels, 64 labels to a word
+abbrev pub wordAt : List ℕ → ℕ → ℕ
+wordAt ns w = getD ns (1444 + w) 0
+
+-- whether the label at place p of the block is free: said here, and nowhere else
+unfoldable pub isFreeAt : List ℕ → ℕ → Bool
+isFreeAt ns p = bit (p % 64) (wordAt ns (p / 64))
+
+-- the mark of the label at place p, read where the label is not free: use + 256 * place, its use and the place of the tree that carries it
 abbrev pub markAt : List ℕ → ℕ → ℕ
 markAt ns p = getD ns (1188 + p) 0
 
@@ -61,17 +71,13 @@ markUse m = m % 256
 abbrev pub markPlace : ℕ → ℕ
 markPlace m = m / 256
 
--- whether the label at place p is free: said here, and nowhere else
-unfoldable pub isFreeAt : List ℕ → ℕ → Bool
-isFreeAt ns p = eqb (markUse (markAt ns p)) 0
-
--- what a label that is not free is used for, for the name a: 1 to 16 are mapped to neighbour 0 to 15, 17 to 32 await release from
--- neighbour 0 to 15 (nothing writes a use above 32; it would await what no neighbour can send)
+-- what a label that is not free is used for, for the name a: 0 to 15 are mapped to that neighbour, 16 to 31 await release from
+-- neighbour 0 to 15 (nothing writes a use above 31; it would await what no neighbour can send)
 unfoldable pub useIn : ℕ → List ℕ → Use
-useIn u a = pick (leb u 16) (mapped (u - 1) a) (awaiting (u - 17) a)
+useIn u a = pick (ltb u 16) (mapped u a) (awaiting (u - 16) a)
 
 unfoldable pub isMappedAt : List ℕ → ℕ → Bool
-isMappedAt ns p = not (isFreeAt ns p) && leb (markUse (markAt ns p)) 16
+isMappedAt ns p = not (isFreeAt ns p) && ltb (markUse (markAt ns p)) 16
 
 unfoldable pub labelIn : List ℕ → List ℕ → ℕ → Use
 labelIn ns os p = pick (isFreeAt ns p) free (useIn (markUse (markAt ns p)) (labelName os p))
@@ -109,3 +115,12 @@ cardOf ns os = record {
   trees = tab (treeCount ns) (treeIn ns os);
   labels = tab labelCount (labelIn ns os);
 }
+
+-- ---- a change of one label
+
+-- the bit and the mark of the label at place p are anew, and all else is as it was
+pub record Relabelled (p : ℕ) (ns ms : List ℕ) : Type 0 where
+  pub long : length ms ≡ length ns
+  pub rest : (k : ℕ) → k < 1188 → getD ms k 0 ≡ getD ns k 0
+  pub marks : (q : ℕ) → q < 256 → (q ≡ p → ⊥) → markAt ms q ≡ markAt ns q
+  pub frees : (q : ℕ) → q < 256 → (q ≡ p → ⊥) → isFreeAt ms q ≡ isFreeAt ns q

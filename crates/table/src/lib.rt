@@ -8,12 +8,12 @@ ghost use lib.ListN.{length, getD, set};
 ghost use Rattle.meaning.specs.Octets.{place, any};
 ghost use Rattle.meaning.specs.Card.{withNext, withTrees, withBranch, withLeaf, treePlace, treeAt, isBranch, isFree, isAwaiting, mappedTo, useOf, heldFor, freeLabels, routePlace, routeOf, carries, free, awaiting};
 ghost use Rattle.meaning.specs.Events.{setUse, setLabel, ended, labelsShort};
-ghost use Rattle.table.specs.Memory.{cardOf, baseIn, treeCount, routeCount, textAt, treeName, labelName, rootName, routeIn, isFreeAt, isMappedAt, labelIn, carriesAt, ownPlace};
+ghost use Rattle.table.specs.Memory.{cardOf, baseIn, treeCount, routeCount, textAt, treeName, labelName, rootName, routeIn, isFreeAt, isMappedAt, labelIn, carriesAt, ownPlace, Relabelled};
 
 // ---- the head
 
 pub fn base(numbers: &[u64]) -> u64
-    requires { ⌜ length (now numbers) ≡ 1444 ⌝ }
+    requires { ⌜ length (now numbers) ≡ 1448 ⌝ }
     ensures { λ r. ⌜ (r ≡ baseIn (now (numbers .entry))) × (16 ≤ r) × (r ≤ 1048320) ⌝ }
 {
     let b = numbers[0];
@@ -27,21 +27,21 @@ pub fn base(numbers: &[u64]) -> u64
 }
 
 pub fn next_id(numbers: &[u64]) -> u32
-    requires { ⌜ length (now numbers) ≡ 1444 ⌝ }
+    requires { ⌜ length (now numbers) ≡ 1448 ⌝ }
     ensures { λ r. ⌜ ((os : List ℕ) → r ≡ cardOf (now (numbers .entry)) os .next) ⌝ }
 {
     (numbers[1] % 4294967296) as u32
 }
 
 pub fn set_next_id(numbers: &mut [u64], id: u32)
-    requires { ⌜ length (now numbers) ≡ 1444 ⌝ }
+    requires { ⌜ length (now numbers) ≡ 1448 ⌝ }
     ensures { λ _. ⌜ ((os : List ℕ) → cardOf (now (numbers .exit)) os ≡ withNext id (cardOf (now (numbers .entry)) os)) ⌝ }
 {
     numbers[1] = id as u64;
 }
 
 pub fn route_count(numbers: &[u64]) -> usize
-    requires { ⌜ length (now numbers) ≡ 1444 ⌝ }
+    requires { ⌜ length (now numbers) ≡ 1448 ⌝ }
     ensures { λ r. ⌜ (r ≡ routeCount (now (numbers .entry))) × (r ≤ 32) ⌝ }
 {
     let n = numbers[2];
@@ -49,7 +49,7 @@ pub fn route_count(numbers: &[u64]) -> usize
 }
 
 pub fn tree_count(numbers: &[u64]) -> usize
-    requires { ⌜ length (now numbers) ≡ 1444 ⌝ }
+    requires { ⌜ length (now numbers) ≡ 1448 ⌝ }
     ensures { λ r. ⌜ (r ≡ treeCount (now (numbers .entry))) × (r ≤ 64) ⌝ }
 {
     let n = numbers[3];
@@ -60,15 +60,33 @@ pub fn tree_count(numbers: &[u64]) -> usize
 
 // Whether the label at place p of the block is free: read here, and nowhere else.
 pub fn is_free(numbers: &[u64], p: usize) -> bool
-    requires { ⌜ (length (now numbers) ≡ 1444) × (p < 256) ⌝ }
+    requires { ⌜ (length (now numbers) ≡ 1448) × (p < 256) ⌝ }
     ensures { λ r. ⌜ (r ≡ isFreeAt (now (numbers .entry)) p) × ((os : List ℕ) → r ≡ isFree (labelIn (now (numbers .entry)) os p)) ⌝ }
 {
-    numbers[1188 + p] % 256 == 0
+    (numbers[1444 + p / 64] >> (p % 64)) % 2 == 1
+}
+
+// The label at place p of the block is free from now on: its bit is set.
+fn set_free(numbers: &mut [u64], p: usize)
+    requires { ⌜ (length (now numbers) ≡ 1448) × (p < 256) ⌝ }
+    ensures { λ _. ⌜ Relabelled p (now (numbers .entry)) (now (numbers .exit)) × (isFreeAt (now (numbers .exit)) p ≡ true) ⌝ }
+{
+    let k = 1444 + p / 64;
+    numbers[k] = numbers[k] | 1 << (p % 64);
+}
+
+// It is free no more: its bit is cleared. What it is used for, its mark is to say.
+pub fn set_taken(numbers: &mut [u64], p: usize)
+    requires { ⌜ (length (now numbers) ≡ 1448) × (p < 256) ⌝ }
+    ensures { λ _. ⌜ Relabelled p (now (numbers .entry)) (now (numbers .exit)) × (isFreeAt (now (numbers .exit)) p ≡ false) ⌝ }
+{
+    let k = 1444 + p / 64;
+    numbers[k] = numbers[k] & !(1 << (p % 64));
 }
 
 // The neighbour to which the label at place p of the block is mapped; 17 for none.
 pub fn mapped_at(numbers: &[u64], p: usize) -> u64
-    requires { ⌜ (length (now numbers) ≡ 1444) × (p < 256) ⌝ }
+    requires { ⌜ (length (now numbers) ≡ 1448) × (p < 256) ⌝ }
     ensures { λ r. ⌜ ((os : List ℕ) → r ≡ mappedTo (labelIn (now (numbers .entry)) os p)) × (r ≤ 17)
         × (r ≡ 17 → isMappedAt (now (numbers .entry)) p ≡ false) × ((r ≡ 17 → ⊥) → isMappedAt (now (numbers .entry)) p ≡ true) ⌝ }
 {
@@ -76,20 +94,20 @@ pub fn mapped_at(numbers: &[u64], p: usize) -> u64
         return 17;
     }
     let u = numbers[1188 + p] % 256;
-    if u <= 16 { u - 1 } else { 17 }
+    if u < 16 { u } else { 17 }
 }
 
 // The neighbour from which the label at place p of the block awaits release, where the label is neither free nor mapped.
 pub fn awaited_at(numbers: &[u64], p: usize) -> u64
-    requires { ⌜ (length (now numbers) ≡ 1444) × (p < 256) × (isFreeAt (now numbers) p ≡ false) × (isMappedAt (now numbers) p ≡ false) ⌝ }
+    requires { ⌜ (length (now numbers) ≡ 1448) × (p < 256) × (isFreeAt (now numbers) p ≡ false) × (isMappedAt (now numbers) p ≡ false) ⌝ }
     ensures { λ r. ⌜ ((os : List ℕ) → labelIn (now (numbers .entry)) os p ≡ awaiting r (labelName os p)) × (r < 256) ⌝ }
 {
-    numbers[1188 + p] % 256 - 17
+    numbers[1188 + p] % 256 - 16
 }
 
 // Whether the tree at place i carries the label at place p.
 fn carries_at(numbers: &[u64], i: usize, p: u64) -> bool
-    requires { ⌜ length (now numbers) ≡ 1444 ⌝ }
+    requires { ⌜ length (now numbers) ≡ 1448 ⌝ }
     ensures { λ r. ⌜ r ≡ carriesAt (now (numbers .entry)) i p ⌝ }
 {
     if 256 <= p {
@@ -106,14 +124,14 @@ fn carries_at(numbers: &[u64], i: usize, p: u64) -> bool
 
 // Whether the tree at place i carries the label that it has for its own.
 pub fn carries_own(numbers: &[u64], i: usize) -> bool
-    requires { ⌜ (length (now numbers) ≡ 1444) × (i < 64) ⌝ }
+    requires { ⌜ (length (now numbers) ≡ 1448) × (i < 64) ⌝ }
     ensures { λ r. ⌜ r ≡ carriesAt (now (numbers .entry)) i (ownPlace (now (numbers .entry)) i) ⌝ }
 {
     carries_at(numbers, i, numbers[36 + i])
 }
 
 pub fn tree_label(numbers: &[u64], i: usize) -> u64
-    requires { ⌜ (length (now numbers) ≡ 1444) × (i < treeCount (now numbers)) × (i < 64) ⌝ }
+    requires { ⌜ (length (now numbers) ≡ 1448) × (i < treeCount (now numbers)) × (i < 64) ⌝ }
     ensures { λ r. ⌜ ((os : List ℕ) → r ≡ treeAt i (cardOf (now (numbers .entry)) os) .label) ⌝ }
 {
     if carries_own(numbers, i) {
@@ -124,14 +142,14 @@ pub fn tree_label(numbers: &[u64], i: usize) -> u64
 }
 
 pub fn is_leaf(numbers: &[u64], i: usize) -> bool
-    requires { ⌜ (length (now numbers) ≡ 1444) × (i < treeCount (now numbers)) × (i < 64) ⌝ }
+    requires { ⌜ (length (now numbers) ≡ 1448) × (i < treeCount (now numbers)) × (i < 64) ⌝ }
     ensures { λ r. ⌜ ((os : List ℕ) → r ≡ treeAt i (cardOf (now (numbers .entry)) os) .leaf) ⌝ }
 {
     numbers[100 + i * 17] != 0
 }
 
 pub fn branch(numbers: &[u64], i: usize, n: usize) -> u64
-    requires { ⌜ (length (now numbers) ≡ 1444) × (i < treeCount (now numbers)) × (i < 64) × (n < 16) ⌝ }
+    requires { ⌜ (length (now numbers) ≡ 1448) × (i < treeCount (now numbers)) × (i < 64) × (n < 16) ⌝ }
     ensures { λ r. ⌜ ((os : List ℕ) → r ≡ getD (treeAt i (cardOf (now (numbers .entry)) os) .branches) n 0) ⌝ }
 {
     numbers[101 + i * 17 + n]
@@ -139,7 +157,7 @@ pub fn branch(numbers: &[u64], i: usize, n: usize) -> u64
 
 // The sixteen branches, all read before the caller writes one: so a lookup makes no copy on the way to the lent array.
 pub fn branches(numbers: &[u64], i: usize) -> [u64; 16]
-    requires { ⌜ (length (now numbers) ≡ 1444) × (i < treeCount (now numbers)) × (i < 64) ⌝ }
+    requires { ⌜ (length (now numbers) ≡ 1448) × (i < treeCount (now numbers)) × (i < 64) ⌝ }
     ensures { λ r. ⌜ ((os : List ℕ) → r ≡ treeAt i (cardOf (now (numbers .entry)) os) .branches) ⌝ }
 {
     let a = 101 + i * 17;
@@ -165,7 +183,7 @@ pub fn branches(numbers: &[u64], i: usize) -> [u64; 16]
 
 // The branch of neighbour k, once that of neighbour n is x (16: nobody's changes).
 fn branch_then(numbers: &[u64], i: usize, n: usize, x: u64, k: usize) -> u64
-    requires { ⌜ (length (now numbers) ≡ 1444) × (i < treeCount (now numbers)) × (i < 64) × (k < 16) ⌝ }
+    requires { ⌜ (length (now numbers) ≡ 1448) × (i < treeCount (now numbers)) × (i < 64) × (k < 16) ⌝ }
     ensures { λ r. ⌜ ((os : List ℕ) → r ≡ getD (set (treeAt i (cardOf (now (numbers .entry)) os) .branches) n x) k 0) ⌝ }
 {
     if k == n {
@@ -176,7 +194,7 @@ fn branch_then(numbers: &[u64], i: usize, n: usize, x: u64, k: usize) -> u64
 
 // Whether the tree then has a branch, apart from that of neighbour `but` (16: none apart).
 pub fn any_branch(numbers: &[u64], i: usize, n: usize, x: u64, but: usize) -> bool
-    requires { ⌜ (length (now numbers) ≡ 1444) × (i < treeCount (now numbers)) × (i < 64) ⌝ }
+    requires { ⌜ (length (now numbers) ≡ 1448) × (i < treeCount (now numbers)) × (i < 64) ⌝ }
     ensures { λ r. ⌜ ((os : List ℕ) → r ≡ any isBranch (set (set (treeAt i (cardOf (now (numbers .entry)) os) .branches) n x) but 0)) ⌝ }
 {
     let mut k = 0;
@@ -215,7 +233,7 @@ pub fn tree_name(names: &[u8], i: usize) -> &[u8]
 
 // The place of the tree of that name; the number of trees where it does not stand.
 pub fn tree_place(numbers: &[u64], names: &[u8], name: &[u8]) -> usize
-    requires { ⌜ (length (now numbers) ≡ 1444) × (length (now names) ≡ 18144) ⌝ }
+    requires { ⌜ (length (now numbers) ≡ 1448) × (length (now names) ≡ 18144) ⌝ }
     ensures { λ r. ⌜ (r ≡ treePlace (now (name .entry)) (cardOf (now (numbers .entry)) (now (names .entry)))) × (r ≤ treeCount (now (numbers .entry))) × (r ≤ 64) ⌝ }
 {
     let n = tree_count(numbers);
@@ -230,7 +248,7 @@ pub fn tree_place(numbers: &[u64], names: &[u8], name: &[u8]) -> usize
 }
 
 pub fn set_branch(numbers: &mut [u64], i: usize, n: usize, label: u64)
-    requires { ⌜ (length (now numbers) ≡ 1444) × (i < treeCount (now numbers)) × (i < 64) × (n < 16) ⌝ }
+    requires { ⌜ (length (now numbers) ≡ 1448) × (i < treeCount (now numbers)) × (i < 64) × (n < 16) ⌝ }
     ensures { λ _. ⌜ ((os : List ℕ) → cardOf (now (numbers .exit)) os
         ≡ withTrees (set (cardOf (now (numbers .entry)) os .trees) i (withBranch n label (treeAt i (cardOf (now (numbers .entry)) os)))) (cardOf (now (numbers .entry)) os)) ⌝ }
 {
@@ -238,7 +256,7 @@ pub fn set_branch(numbers: &mut [u64], i: usize, n: usize, label: u64)
 }
 
 pub fn set_leaf(numbers: &mut [u64], i: usize, leaf: bool)
-    requires { ⌜ (length (now numbers) ≡ 1444) × (i < treeCount (now numbers)) × (i < 64) ⌝ }
+    requires { ⌜ (length (now numbers) ≡ 1448) × (i < treeCount (now numbers)) × (i < 64) ⌝ }
     ensures { λ _. ⌜ ((os : List ℕ) → cardOf (now (numbers .exit)) os
         ≡ withTrees (set (cardOf (now (numbers .entry)) os .trees) i (withLeaf leaf (treeAt i (cardOf (now (numbers .entry)) os)))) (cardOf (now (numbers .entry)) os)) ⌝ }
 {
@@ -249,7 +267,7 @@ pub fn set_leaf(numbers: &mut [u64], i: usize, leaf: bool)
 
 // The neighbour to which a label is mapped; 17 for none.
 pub fn mapped_to(numbers: &[u64], label: u64) -> u64
-    requires { ⌜ length (now numbers) ≡ 1444 ⌝ }
+    requires { ⌜ length (now numbers) ≡ 1448 ⌝ }
     ensures { λ r. ⌜ ((os : List ℕ) → r ≡ mappedTo (useOf label (cardOf (now (numbers .entry)) os))) × (r ≤ 17) ⌝ }
 {
     let b = base(numbers);
@@ -264,7 +282,7 @@ pub fn mapped_to(numbers: &[u64], label: u64) -> u64
 
 // The neighbour for which the tree at place i holds its label; 17 for none.
 pub fn held_for(numbers: &[u64], i: usize) -> u64
-    requires { ⌜ (length (now numbers) ≡ 1444) × (i < treeCount (now numbers)) × (i < 64) ⌝ }
+    requires { ⌜ (length (now numbers) ≡ 1448) × (i < treeCount (now numbers)) × (i < 64) ⌝ }
     ensures { λ r. ⌜ ((os : List ℕ) → r ≡ heldFor (cardOf (now (numbers .entry)) os) (treeAt i (cardOf (now (numbers .entry)) os))) × (r ≤ 17) ⌝ }
 {
     if carries_own(numbers, i) {
@@ -283,7 +301,7 @@ pub fn label_name(names: &[u8], p: usize) -> &[u8]
 
 // Whether a label awaits release from that neighbour for that name.
 pub fn is_awaited(numbers: &[u64], names: &[u8], neighbour: u64, name: &[u8], label: u64) -> bool
-    requires { ⌜ (length (now numbers) ≡ 1444) × (length (now names) ≡ 18144) × (neighbour < 16) ⌝ }
+    requires { ⌜ (length (now numbers) ≡ 1448) × (length (now names) ≡ 18144) × (neighbour < 16) ⌝ }
     ensures { λ r. ⌜ (r ≡ isAwaiting neighbour (now (name .entry)) (useOf label (cardOf (now (numbers .entry)) (now (names .entry)))))
         × (r ≡ true → (baseIn (now (numbers .entry)) ≤ label) × (label < baseIn (now (numbers .entry)) + 256) × (isMappedAt (now (numbers .entry)) (label - baseIn (now (numbers .entry))) ≡ false)) ⌝ }
 {
@@ -295,64 +313,52 @@ pub fn is_awaited(numbers: &[u64], names: &[u8], neighbour: u64, name: &[u8], la
         return false;
     }
     let p = (label - b) as usize;
-    if numbers[1188 + p] % 256 != 17 + neighbour {
+    if is_free(numbers, p) {
+        return false;
+    }
+    if numbers[1188 + p] % 256 != 16 + neighbour {
         return false;
     }
     octets::equal(label_name(names, p), name)
 }
 
 pub fn free_labels(numbers: &[u64]) -> usize
-    requires { ⌜ length (now numbers) ≡ 1444 ⌝ }
+    requires { ⌜ length (now numbers) ≡ 1448 ⌝ }
     ensures { λ r. ⌜ ((os : List ℕ) → r ≡ freeLabels (cardOf (now (numbers .entry)) os)) × (r ≤ 256) ⌝ }
 {
-    let mut found = 0;
-    let mut p = 0;
-    while p < 256 {
-        if is_free(numbers, p) {
-            found += 1;
-        }
-        p += 1;
-    }
-    found
+    (u64::count_ones(numbers[1444])
+        + u64::count_ones(numbers[1445])
+        + u64::count_ones(numbers[1446])
+        + u64::count_ones(numbers[1447])) as usize
 }
 
-// 12: fewer free labels than are needed. The search ends where enough are seen.
+// 12: fewer free labels than are needed.
 pub fn labels_short(numbers: &[u64], needed: usize) -> bool
-    requires { ⌜ length (now numbers) ≡ 1444 ⌝ }
+    requires { ⌜ length (now numbers) ≡ 1448 ⌝ }
     ensures { λ r. ⌜ ((os : List ℕ) → r ≡ labelsShort (cardOf (now (numbers .entry)) os) needed) ⌝ }
 {
-    let mut seen = 0;
-    let mut p = 0;
-    while seen < needed {
-        if p == 256 {
-            return true;
-        }
-        if is_free(numbers, p) {
-            seen += 1;
-        }
-        p += 1;
-    }
-    false
+    free_labels(numbers) < needed
 }
 
 // The place of the lowest free label; 256 where none is free.
 pub fn lowest_free(numbers: &[u64]) -> usize
-    requires { ⌜ length (now numbers) ≡ 1444 ⌝ }
+    requires { ⌜ length (now numbers) ≡ 1448 ⌝ }
     ensures { λ r. ⌜ ((os : List ℕ) → r ≡ place isFree (cardOf (now (numbers .entry)) os .labels)) × (r ≤ 256) × (r < 256 → isFreeAt (now (numbers .entry)) r ≡ true) ⌝ }
 {
-    let mut p = 0;
-    while p < 256 {
-        if is_free(numbers, p) {
-            return p;
+    let mut w = 0;
+    while w < 4 {
+        let x = numbers[1444 + w];
+        if x != 0 {
+            return w * 64 + u64::trailing_zeros(x) as usize;
         }
-        p += 1;
+        w += 1;
     }
     256
 }
 
 // The place of the tree that carries a label of the block; the number of trees where none does. The label's mark names it.
 pub fn carrier_place(numbers: &[u64], label: u64) -> usize
-    requires { ⌜ (length (now numbers) ≡ 1444) × (baseIn (now numbers) ≤ label) × (label < baseIn (now numbers) + 256) ⌝ }
+    requires { ⌜ (length (now numbers) ≡ 1448) × (baseIn (now numbers) ≤ label) × (label < baseIn (now numbers) + 256) ⌝ }
     ensures { λ r. ⌜ ((os : List ℕ) → r ≡ place (carries label) (cardOf (now (numbers .entry)) os .trees)) × (r ≤ treeCount (now (numbers .entry))) × (r ≤ 64) ⌝ }
 {
     let p = label - base(numbers);
@@ -370,7 +376,7 @@ pub fn carrier_place(numbers: &[u64], label: u64) -> usize
 
 // The label that the tree carries awaits release from now on, and the tree carries none: a label that is not mapped has no carrier.
 pub fn end_label(numbers: &mut [u64], i: usize)
-    requires { ⌜ (length (now numbers) ≡ 1444) × (i < treeCount (now numbers)) × (i < 64) × ((os : List ℕ) → treeAt i (cardOf (now numbers) os) .label ≡ 0 → ⊥) ⌝ }
+    requires { ⌜ (length (now numbers) ≡ 1448) × (i < treeCount (now numbers)) × (i < 64) × ((os : List ℕ) → treeAt i (cardOf (now numbers) os) .label ≡ 0 → ⊥) ⌝ }
     ensures { λ _. ⌜ ((os : List ℕ) → cardOf (now (numbers .exit)) os
         ≡ setLabel i 0 (setUse (treeAt i (cardOf (now (numbers .entry)) os) .label) (ended (useOf (treeAt i (cardOf (now (numbers .entry)) os) .label) (cardOf (now (numbers .entry)) os))) (cardOf (now (numbers .entry)) os))) ⌝ }
 {
@@ -380,11 +386,11 @@ pub fn end_label(numbers: &mut [u64], i: usize)
 
 // A label that is not mapped is free from now on.
 pub fn free_label(numbers: &mut [u64], label: u64)
-    requires { ⌜ (length (now numbers) ≡ 1444) × (baseIn (now numbers) ≤ label) × (label < baseIn (now numbers) + 256) × (isMappedAt (now numbers) (label - baseIn (now numbers)) ≡ false) ⌝ }
+    requires { ⌜ (length (now numbers) ≡ 1448) × (baseIn (now numbers) ≤ label) × (label < baseIn (now numbers) + 256) × (isMappedAt (now numbers) (label - baseIn (now numbers)) ≡ false) ⌝ }
     ensures { λ _. ⌜ ((os : List ℕ) → cardOf (now (numbers .exit)) os ≡ setUse label free (cardOf (now (numbers .entry)) os)) ⌝ }
 {
     let p = (label - base(numbers)) as usize;
-    numbers[1188 + p] = 0;
+    set_free(numbers, p);
 }
 
 // ---- routes
@@ -397,14 +403,14 @@ pub fn root_name(names: &[u8], i: usize) -> &[u8]
 }
 
 pub fn route_via(numbers: &[u64], i: usize) -> u64
-    requires { ⌜ (length (now numbers) ≡ 1444) × (i < 32) ⌝ }
+    requires { ⌜ (length (now numbers) ≡ 1448) × (i < 32) ⌝ }
     ensures { λ r. ⌜ ((os : List ℕ) → r ≡ routeIn (now (numbers .entry)) os i .via) ⌝ }
 {
     numbers[4 + i]
 }
 
 pub fn route_place(numbers: &[u64], names: &[u8], root: &[u8]) -> usize
-    requires { ⌜ (length (now numbers) ≡ 1444) × (length (now names) ≡ 18144) ⌝ }
+    requires { ⌜ (length (now numbers) ≡ 1448) × (length (now names) ≡ 18144) ⌝ }
     ensures { λ r. ⌜ (r ≡ routePlace (now (root .entry)) (cardOf (now (numbers .entry)) (now (names .entry)))) × (r ≤ routeCount (now (numbers .entry))) × (r ≤ 32) ⌝ }
 {
     let n = route_count(numbers);
@@ -420,7 +426,7 @@ pub fn route_place(numbers: &[u64], names: &[u8], root: &[u8]) -> usize
 
 // The route of a root: 0 to 15 a neighbour, 16 this node, 17 no route.
 pub fn route_of(numbers: &[u64], names: &[u8], root: &[u8]) -> u64
-    requires { ⌜ (length (now numbers) ≡ 1444) × (length (now names) ≡ 18144) ⌝ }
+    requires { ⌜ (length (now numbers) ≡ 1448) × (length (now names) ≡ 18144) ⌝ }
     ensures { λ r. ⌜ r ≡ routeOf (now (root .entry)) (cardOf (now (numbers .entry)) (now (names .entry))) ⌝ }
 {
     let i = route_place(numbers, names, root);

@@ -19,7 +19,7 @@ ghost use Rattle.trees.specs.End.{Ended, thenCut, joinOf, leaveOf};
 
 // The neighbour that the tree at place i holds a label for, once neighbour n's branch is x; 17 for none.
 fn branch_holder(numbers: &[u64], names: &[u8], i: usize, n: usize, x: u64) -> u64
-    requires { ⌜ (length (now numbers) ≡ 1444) × (length (now names) ≡ 18144) × (i < treeCount (now numbers)) × (i < 64) ⌝ }
+    requires { ⌜ (length (now numbers) ≡ 1448) × (length (now names) ≡ 18144) × (i < treeCount (now numbers)) × (i < 64) ⌝ }
     ensures { λ r. ⌜ (r ≡ upstreamOf (cardOf (now (numbers .entry)) (now (names .entry))) (withBranch n x (treeAt i (cardOf (now (numbers .entry)) (now (names .entry)))))) × (r ≤ 17) × (r ≡ 16 → ⊥) ⌝ }
 {
     let u = moves::upstream_of(numbers, names, table::tree_name(names, i));
@@ -28,7 +28,7 @@ fn branch_holder(numbers: &[u64], names: &[u8], i: usize, n: usize, x: u64) -> u
 
 // The same, once its leaf mark is `leaf`.
 fn leaf_holder(numbers: &[u64], names: &[u8], i: usize, leaf: bool) -> u64
-    requires { ⌜ (length (now numbers) ≡ 1444) × (length (now names) ≡ 18144) × (i < treeCount (now numbers)) × (i < 64) ⌝ }
+    requires { ⌜ (length (now numbers) ≡ 1448) × (length (now names) ≡ 18144) × (i < treeCount (now numbers)) × (i < 64) ⌝ }
     ensures { λ r. ⌜ (r ≡ upstreamOf (cardOf (now (numbers .entry)) (now (names .entry))) (withLeaf leaf (treeAt i (cardOf (now (numbers .entry)) (now (names .entry)))))) × (r ≤ 17) × (r ≡ 16 → ⊥) ⌝ }
 {
     let u = moves::upstream_of(numbers, names, table::tree_name(names, i));
@@ -44,7 +44,7 @@ fn standing_refusal(
     first: usize,
     room: usize,
 ) -> u32
-    requires { ⌜ (length (now numbers) ≡ 1444) × (length (now names) ≡ 18144) × (i < treeCount (now numbers)) × (i < 64) × (first ≤ 78) ⌝ }
+    requires { ⌜ (length (now numbers) ≡ 1448) × (length (now names) ≡ 18144) × (i < treeCount (now numbers)) × (i < 64) × (first ≤ 78) ⌝ }
     ensures { λ r. ⌜ r ≡ 12 when labelsShort (cardOf (now (numbers .entry)) (now (names .entry))) (need (cardOf (now (numbers .entry)) (now (names .entry))) (treeAt i (cardOf (now (numbers .entry)) (now (names .entry)))) u)
         else 16 when ltb room (first + relabelSize (cardOf (now (numbers .entry)) (now (names .entry))) (treeAt i (cardOf (now (numbers .entry)) (now (names .entry)))) u) else 0 ⌝ }
 {
@@ -68,7 +68,7 @@ fn settle(
     at: usize,
     id: u32,
 ) -> usize
-    requires { ⌜ (length (now numbers) ≡ 1444) × (length (now names) ≡ 18144) × (i < treeCount (now numbers)) × (i < 64) × (u ≤ 17) × (u ≡ 16 → ⊥)
+    requires { ⌜ (length (now numbers) ≡ 1448) × (length (now names) ≡ 18144) × (i < treeCount (now numbers)) × (i < 64) × (u ≤ 17) × (u ≡ 16 → ⊥)
         × (need (cardOf (now numbers) (now names)) (treeAt i (cardOf (now numbers) (now names))) u ≤ freeLabels (cardOf (now numbers) (now names)))
         × (at + relabelSize (cardOf (now numbers) (now names)) (treeAt i (cardOf (now numbers) (now names))) u ≤ length (now out)) ⌝ }
     ensures { λ r. ⌜ Ended (thenCut empty i (relabel i u (cardOf (now (numbers .entry)) (now (names .entry))))) id at (now (out .entry)) (now (out .exit)) (cardOf (now (numbers .exit)) (now (names .exit))) r ⌝ }
@@ -87,7 +87,7 @@ fn settle(
 
 // 10: neighbour n's branch of the tree at place i stands with another label.
 fn other_label(numbers: &[u64], i: usize, n: usize, label: u64) -> bool
-    requires { ⌜ (length (now numbers) ≡ 1444) × (i < treeCount (now numbers)) × (i < 64) × (n < 16) ⌝ }
+    requires { ⌜ (length (now numbers) ≡ 1448) × (i < treeCount (now numbers)) × (i < 64) × (n < 16) ⌝ }
     ensures { λ r. ⌜ ((os : List ℕ) → r ≡ otherLabel (treeAt i (cardOf (now (numbers .entry)) os)) n label) ⌝ }
 {
     let b = table::branch(numbers, i, n);
@@ -107,7 +107,7 @@ fn map_standing(
     out: &mut [u8],
     answer: &mut u32,
 ) -> usize
-    requires { ⌜ (length (now numbers) ≡ 1444) × (length (now names) ≡ 18144) × (i < treeCount (now numbers)) × (i < 64) × (n < 16) × (16 ≤ label)
+    requires { ⌜ (length (now numbers) ≡ 1448) × (length (now names) ≡ 18144) × (i < treeCount (now numbers)) × (i < 64) × (n < 16) × (16 ≤ label)
         × (i ≡ treePlace (treeAt i (cardOf (now numbers) (now names)) .name) (cardOf (now numbers) (now names))) ⌝ }
     ensures { λ r. ⌜ Does (finish (length (now (out .entry))) (cardOf (now (numbers .entry)) (now (names .entry))) (onMapping (cardOf (now (numbers .entry)) (now (names .entry))) n (treeAt i (cardOf (now (numbers .entry)) (now (names .entry))) .name) label))
         (now (answer .exit)) r (now (out .entry)) (now (out .exit)) (cardOf (now (numbers .exit)) (now (names .exit))) ⌝ }
@@ -136,7 +136,7 @@ fn join_standing(
     out: &mut [u8],
     answer: &mut u32,
 ) -> usize
-    requires { ⌜ (length (now numbers) ≡ 1444) × (length (now names) ≡ 18144) × (i < treeCount (now numbers)) × (i < 64)
+    requires { ⌜ (length (now numbers) ≡ 1448) × (length (now names) ≡ 18144) × (i < treeCount (now numbers)) × (i < 64)
         × (i ≡ treePlace (treeAt i (cardOf (now numbers) (now names)) .name) (cardOf (now numbers) (now names))) ⌝ }
     ensures { λ r. ⌜ Does (finish (length (now (out .entry))) (cardOf (now (numbers .entry)) (now (names .entry))) (joinOf (cardOf (now (numbers .entry)) (now (names .entry))) (treeAt i (cardOf (now (numbers .entry)) (now (names .entry))) .name)))
         (now (answer .exit)) r (now (out .entry)) (now (out .exit)) (cardOf (now (numbers .exit)) (now (names .exit))) ⌝ }
@@ -161,7 +161,7 @@ fn leave_standing(
     out: &mut [u8],
     answer: &mut u32,
 ) -> usize
-    requires { ⌜ (length (now numbers) ≡ 1444) × (length (now names) ≡ 18144) × (i < treeCount (now numbers)) × (i < 64)
+    requires { ⌜ (length (now numbers) ≡ 1448) × (length (now names) ≡ 18144) × (i < treeCount (now numbers)) × (i < 64)
         × (i ≡ treePlace (treeAt i (cardOf (now numbers) (now names)) .name) (cardOf (now numbers) (now names))) ⌝ }
     ensures { λ r. ⌜ Does (finish (length (now (out .entry))) (cardOf (now (numbers .entry)) (now (names .entry))) (leaveOf (cardOf (now (numbers .entry)) (now (names .entry))) (treeAt i (cardOf (now (numbers .entry)) (now (names .entry))) .name)))
         (now (answer .exit)) r (now (out .entry)) (now (out .exit)) (cardOf (now (numbers .exit)) (now (names .exit))) ⌝ }
@@ -189,7 +189,7 @@ fn leave_standing(
 
 // What a Withdraw of a label from neighbour n leaves of the tree at place i: its branch there, and whether it is empty.
 fn less_branch(numbers: &[u64], i: usize, n: usize, label: u64) -> u64
-    requires { ⌜ (length (now numbers) ≡ 1444) × (i < treeCount (now numbers)) × (i < 64) × (n < 16) ⌝ }
+    requires { ⌜ (length (now numbers) ≡ 1448) × (i < treeCount (now numbers)) × (i < 64) × (n < 16) ⌝ }
     ensures { λ r. ⌜ ((os : List ℕ) → withBranch n r (treeAt i (cardOf (now (numbers .entry)) os)) ≡ lessBranch n label (treeAt i (cardOf (now (numbers .entry)) os))) ⌝ }
 {
     let b = table::branch(numbers, i, n);
@@ -197,7 +197,7 @@ fn less_branch(numbers: &[u64], i: usize, n: usize, label: u64) -> u64
 }
 
 fn less_empty(numbers: &[u64], i: usize, n: usize, left: u64) -> bool
-    requires { ⌜ (length (now numbers) ≡ 1444) × (i < treeCount (now numbers)) × (i < 64) × (n < 16) ⌝ }
+    requires { ⌜ (length (now numbers) ≡ 1448) × (i < treeCount (now numbers)) × (i < 64) × (n < 16) ⌝ }
     ensures { λ r. ⌜ ((os : List ℕ) → r ≡ isEmpty (withBranch n left (treeAt i (cardOf (now (numbers .entry)) os)))) ⌝ }
 {
     if table::is_leaf(numbers, i) {
@@ -216,7 +216,7 @@ fn withdraw_standing(
     out: &mut [u8],
     answer: &mut u32,
 ) -> usize
-    requires { ⌜ (length (now numbers) ≡ 1444) × (length (now names) ≡ 18144) × (i < treeCount (now numbers)) × (i < 64) × (n < 16)
+    requires { ⌜ (length (now numbers) ≡ 1448) × (length (now names) ≡ 18144) × (i < treeCount (now numbers)) × (i < 64) × (n < 16)
         × (i ≡ treePlace (treeAt i (cardOf (now numbers) (now names)) .name) (cardOf (now numbers) (now names))) ⌝ }
     ensures { λ r. ⌜ Does (finish (length (now (out .entry))) (cardOf (now (numbers .entry)) (now (names .entry))) (onWithdraw (cardOf (now (numbers .entry)) (now (names .entry))) n (treeAt i (cardOf (now (numbers .entry)) (now (names .entry))) .name) label))
         (now (answer .exit)) r (now (out .entry)) (now (out .exit)) (cardOf (now (numbers .exit)) (now (names .exit))) ⌝ }
@@ -249,7 +249,7 @@ fn withdraw_standing(
 
 // The neighbour that a new tree holds a label for, whose only branch is that of neighbour n; 17 for none.
 fn new_holder(numbers: &[u64], names: &[u8], name: &[u8], n: usize) -> u64
-    requires { ⌜ (length (now numbers) ≡ 1444) × (length (now names) ≡ 18144) × (n < 16) ⌝ }
+    requires { ⌜ (length (now numbers) ≡ 1448) × (length (now names) ≡ 18144) × (n < 16) ⌝ }
     ensures { λ r. ⌜ ((l : ℕ) → 0 < l → r ≡ upstreamOf (cardOf (now (numbers .entry)) (now (names .entry))) (withBranch n l (bare (now (name .entry))))) × (r ≤ 17) × (r ≡ 16 → ⊥) ⌝ }
 {
     let u = moves::upstream_of(numbers, names, name);
@@ -261,7 +261,7 @@ fn new_holder(numbers: &[u64], names: &[u8], name: &[u8], n: usize) -> u64
 
 // 11, 12 and 16 for a new tree that is to hold a label for u.
 fn new_refusal(numbers: &[u64], u: u64, size: usize, room: usize) -> u32
-    requires { ⌜ length (now numbers) ≡ 1444 ⌝ }
+    requires { ⌜ length (now numbers) ≡ 1448 ⌝ }
     ensures { λ r. ⌜ ((os : List ℕ) → r ≡ 11 when leb 64 (length (cardOf (now (numbers .entry)) os .trees))
         else 12 when ltb (freeLabels (cardOf (now (numbers .entry)) os)) (needMove u) else 16 when ltb room (needMove u * size) else 0) ⌝ }
 {
@@ -279,7 +279,7 @@ fn new_refusal(numbers: &[u64], u: u64, size: usize, room: usize) -> u32
 
 // The newest tree, at place i, is given its label.
 fn grow(numbers: &mut [u64], names: &mut [u8], i: usize, u: u64, out: &mut [u8], id: u32) -> usize
-    requires { ⌜ (length (now numbers) ≡ 1444) × (length (now names) ≡ 18144) × (i < treeCount (now numbers)) × (i < 64) × (u ≤ 17) × (u ≡ 16 → ⊥)
+    requires { ⌜ (length (now numbers) ≡ 1448) × (length (now names) ≡ 18144) × (i < treeCount (now numbers)) × (i < 64) × (u ≤ 17) × (u ≡ 16 → ⊥)
         × (needMove u ≤ freeLabels (cardOf (now numbers) (now names)))
         × (length (records id (takeUp i u (cardOf (now numbers) (now names)) .sent)) ≤ length (now out)) ⌝ }
     ensures { λ r. ⌜ Ended (takeUp i u (cardOf (now (numbers .entry)) (now (names .entry)))) id 0 (now (out .entry)) (now (out .exit)) (cardOf (now (numbers .exit)) (now (names .exit))) r ⌝ }
@@ -299,7 +299,7 @@ fn map_new(
     out: &mut [u8],
     answer: &mut u32,
 ) -> usize
-    requires { ⌜ (length (now numbers) ≡ 1444) × (length (now names) ≡ 18144) × (n < 16) × (16 ≤ label) × (length (now name) ≤ 54) × (treePlace (now name) (cardOf (now numbers) (now names)) ≡ treeCount (now numbers)) ⌝ }
+    requires { ⌜ (length (now numbers) ≡ 1448) × (length (now names) ≡ 18144) × (n < 16) × (16 ≤ label) × (length (now name) ≤ 54) × (treePlace (now name) (cardOf (now numbers) (now names)) ≡ treeCount (now numbers)) ⌝ }
     ensures { λ r. ⌜ Does (finish (length (now (out .entry))) (cardOf (now (numbers .entry)) (now (names .entry))) (onMapping (cardOf (now (numbers .entry)) (now (names .entry))) n (now (name .entry)) label))
         (now (answer .exit)) r (now (out .entry)) (now (out .exit)) (cardOf (now (numbers .exit)) (now (names .exit))) ⌝ }
 {
@@ -324,7 +324,7 @@ fn join_new(
     out: &mut [u8],
     answer: &mut u32,
 ) -> usize
-    requires { ⌜ (length (now numbers) ≡ 1444) × (length (now names) ≡ 18144) × (length (now name) ≤ 54) × (treePlace (now name) (cardOf (now numbers) (now names)) ≡ treeCount (now numbers)) ⌝ }
+    requires { ⌜ (length (now numbers) ≡ 1448) × (length (now names) ≡ 18144) × (length (now name) ≤ 54) × (treePlace (now name) (cardOf (now numbers) (now names)) ≡ treeCount (now numbers)) ⌝ }
     ensures { λ r. ⌜ Does (finish (length (now (out .entry))) (cardOf (now (numbers .entry)) (now (names .entry))) (joinOf (cardOf (now (numbers .entry)) (now (names .entry))) (now (name .entry))))
         (now (answer .exit)) r (now (out .entry)) (now (out .exit)) (cardOf (now (numbers .exit)) (now (names .exit))) ⌝ }
 {
@@ -352,7 +352,7 @@ fn withdraw_unknown(
     out: &mut [u8],
     answer: &mut u32,
 ) -> usize
-    requires { ⌜ (length (now numbers) ≡ 1444) × (length (now names) ≡ 18144) × (n < 16) × (16 ≤ label) × (length (now name) ≤ 54) × (treePlace (now name) (cardOf (now numbers) (now names)) ≡ treeCount (now numbers)) ⌝ }
+    requires { ⌜ (length (now numbers) ≡ 1448) × (length (now names) ≡ 18144) × (n < 16) × (16 ≤ label) × (length (now name) ≤ 54) × (treePlace (now name) (cardOf (now numbers) (now names)) ≡ treeCount (now numbers)) ⌝ }
     ensures { λ r. ⌜ Does (finish (length (now (out .entry))) (cardOf (now (numbers .entry)) (now (names .entry))) (onWithdraw (cardOf (now (numbers .entry)) (now (names .entry))) n (now (name .entry)) label))
         (now (answer .exit)) r (now (out .entry)) (now (out .exit)) (cardOf (now (numbers .exit)) (now (names .entry))) ⌝ }
 {
@@ -386,7 +386,7 @@ pub fn map(
     out: &mut [u8],
     answer: &mut u32,
 ) -> usize
-    requires { ⌜ (length (now numbers) ≡ 1444) × (length (now names) ≡ 18144) × (n < 16) × (16 ≤ label) × (length (now name) ≤ 54) ⌝ }
+    requires { ⌜ (length (now numbers) ≡ 1448) × (length (now names) ≡ 18144) × (n < 16) × (16 ≤ label) × (length (now name) ≤ 54) ⌝ }
     ensures { λ r. ⌜ Does (finish (length (now (out .entry))) (cardOf (now (numbers .entry)) (now (names .entry))) (onMapping (cardOf (now (numbers .entry)) (now (names .entry))) n (now (name .entry)) label))
         (now (answer .exit)) r (now (out .entry)) (now (out .exit)) (cardOf (now (numbers .exit)) (now (names .exit))) ⌝ }
 {
@@ -406,7 +406,7 @@ pub fn withdraw(
     out: &mut [u8],
     answer: &mut u32,
 ) -> usize
-    requires { ⌜ (length (now numbers) ≡ 1444) × (length (now names) ≡ 18144) × (n < 16) × (16 ≤ label) × (length (now name) ≤ 54) ⌝ }
+    requires { ⌜ (length (now numbers) ≡ 1448) × (length (now names) ≡ 18144) × (n < 16) × (16 ≤ label) × (length (now name) ≤ 54) ⌝ }
     ensures { λ r. ⌜ Does (finish (length (now (out .entry))) (cardOf (now (numbers .entry)) (now (names .entry))) (onWithdraw (cardOf (now (numbers .entry)) (now (names .entry))) n (now (name .entry)) label))
         (now (answer .exit)) r (now (out .entry)) (now (out .exit)) (cardOf (now (numbers .exit)) (now (names .exit))) ⌝ }
 {
@@ -425,7 +425,7 @@ pub fn release(
     label: u64,
     answer: &mut u32,
 )
-    requires { ⌜ (length (now numbers) ≡ 1444) × (length (now names) ≡ 18144) × (n < 16) ⌝ }
+    requires { ⌜ (length (now numbers) ≡ 1448) × (length (now names) ≡ 18144) × (n < 16) ⌝ }
     ensures { λ _. ⌜ ((s : List ℕ) → Does (finish (length s) (cardOf (now (numbers .entry)) (now (names .entry))) (onRelease (cardOf (now (numbers .entry)) (now (names .entry))) n (now (name .entry)) label))
         (now (answer .exit)) 0 s s (cardOf (now (numbers .exit)) (now (names .entry)))) ⌝ }
 {
@@ -444,7 +444,7 @@ pub fn join(
     out: &mut [u8],
     answer: &mut u32,
 ) -> usize
-    requires { ⌜ (length (now numbers) ≡ 1444) × (length (now names) ≡ 18144) × (length (now name) ≤ 54) ⌝ }
+    requires { ⌜ (length (now numbers) ≡ 1448) × (length (now names) ≡ 18144) × (length (now name) ≤ 54) ⌝ }
     ensures { λ r. ⌜ Does (finish (length (now (out .entry))) (cardOf (now (numbers .entry)) (now (names .entry))) (joinOf (cardOf (now (numbers .entry)) (now (names .entry))) (now (name .entry))))
         (now (answer .exit)) r (now (out .entry)) (now (out .exit)) (cardOf (now (numbers .exit)) (now (names .exit))) ⌝ }
 {
@@ -462,7 +462,7 @@ pub fn leave(
     out: &mut [u8],
     answer: &mut u32,
 ) -> usize
-    requires { ⌜ (length (now numbers) ≡ 1444) × (length (now names) ≡ 18144) ⌝ }
+    requires { ⌜ (length (now numbers) ≡ 1448) × (length (now names) ≡ 18144) ⌝ }
     ensures { λ r. ⌜ Does (finish (length (now (out .entry))) (cardOf (now (numbers .entry)) (now (names .entry))) (leaveOf (cardOf (now (numbers .entry)) (now (names .entry))) (now (name .entry))))
         (now (answer .exit)) r (now (out .entry)) (now (out .exit)) (cardOf (now (numbers .exit)) (now (names .exit))) ⌝ }
 {

@@ -17,17 +17,17 @@ add-copy-within c = search needs
 copy-within-requires : tie.Need-copy-within-requires
 copy-within-requires c κs = search needs
 
-add-numbers : tie.Need-add-numbers
-add-numbers c = search needs
+set-taken-requires : tie.Need-set-taken-requires
+set-taken-requires c κs = search needs
 
 mul-numbers : tie.Need-mul-numbers
 mul-numbers c = search needs
 
+add-numbers : tie.Need-add-numbers
+add-numbers c = search needs
+
 add-numbers-2 : tie.Need-add-numbers-2
 add-numbers-2 c = search needs
-
-add-numbers-3 : tie.Need-add-numbers-3
-add-numbers-3 c = search needs
 
 mul-numbers-2 : tie.Need-mul-numbers-2
 mul-numbers-2 c = search needs
@@ -35,14 +35,14 @@ mul-numbers-2 c = search needs
 slice-write-numbers : tie.Need-slice-write-numbers
 slice-write-numbers c = search needs
 
-add-numbers-4 : tie.Need-add-numbers-4
-add-numbers-4 c = search needs
+add-numbers-3 : tie.Need-add-numbers-3
+add-numbers-3 c = search needs
 
 mul-numbers-3 : tie.Need-mul-numbers-3
 mul-numbers-3 c = search needs
 
 slice-write-numbers-2 : tie.Need-slice-write-numbers-2
-slice-write-numbers-2 c = simp length-set (omega arith)
+slice-write-numbers-2 c = simp length-set (omega (arith, c .before .before .set-taken .ensures .0 .long))
 
 same-length : tie.Need-same-length
 same-length c = search needs
@@ -52,8 +52,10 @@ same-length-2 c = search needs
 
 returns : tie.Need-returns
 returns c =
-    let s = c .before .before .before .before .before .before in
-    map-label _ _ _ _ _ _ (s .pre .0) (s .pre .1) (s .pre .2) (s .pre .3) (s .pre .4) (s .pre .5) (s .pre .6) (c .before .before .copy-within .ensures)
+    let t = c .before .before in
+    let k = t .before .before .before .before in
+    let s = k .before .before .before .before in
+    map-label _ _ _ _ _ _ _ (s .pre .0) (s .pre .1) (s .pre .2) (s .pre .3) (s .pre .4) (s .pre .5) (s .pre .6) (t .set-taken .ensures .0) (t .set-taken .ensures .1) (k .copy-within .ensures)
 
 pub map-label-spec : {M : Type 1} → statement M
 map-label-spec =
@@ -63,13 +65,13 @@ map-label-spec =
     mul-copy-within-2
     add-copy-within
     copy-within-requires
-    add-numbers
+    set-taken-requires
     mul-numbers
+    add-numbers
     add-numbers-2
-    add-numbers-3
     mul-numbers-2
     slice-write-numbers
-    add-numbers-4
+    add-numbers-3
     mul-numbers-3
     slice-write-numbers-2
     same-length

@@ -13,6 +13,9 @@ add-put-text c = search needs
 put-text-requires : tie.Need-put-text-requires
 put-text-requires c κs = search needs
 
+set-taken-requires : tie.Need-set-taken-requires
+set-taken-requires c κs = search needs
+
 use-of-requires : tie.Need-use-of-requires
 use-of-requires c κs = search needs
 
@@ -36,8 +39,9 @@ same-length-2 c = search needs
 
 returns : tie.Need-returns
 returns c =
-    let s = c .before .before .before .before .before .before .before .before in
-    put-use (s .args .numbers .now) (s .args .names .now) _ (s .args .name .now) (s .args .p) (s .args .n) _ (s .args .held) (s .pre .2) (s .pre .3) (s .pre .4) (c .before .before .before .put-text .ensures) (s .pre .0) (s .pre .5) (c .use-of .ensures .0)
+    let s = c .before .before .before .before .before .before .before .before .before .before .before .before in
+    let t = c .before .before .before .set-taken .ensures in
+    put-use (s .args .numbers .now) _ (s .args .names .now) _ (s .args .name .now) (s .args .p) (s .args .n) _ (s .args .held) (s .pre .2) (s .pre .3) (s .pre .4) (c .before .before .before .before .before .before .before .put-text .ensures) (t .0) (t .1) (s .pre .0) (s .pre .5) (c .use-of .ensures .0)
 
 pub put-use-spec : {M : Type 1} → statement M
 put-use-spec =
@@ -46,6 +50,7 @@ put-use-spec =
     mul-put-text
     add-put-text
     put-text-requires
+    set-taken-requires
     use-of-requires
     add-numbers
     add-numbers-2

@@ -1,3 +1,5 @@
+use native.Mathlib.Omega.{arith}
+use lib.ListN.{length-set}
 use Rattle.rows.proofs.Rows.{start-fresh}
 use borrow.Author.Needs.{needs}
 use Rattle.rows.proofs.start_fresh.Statement.{statement}
@@ -12,6 +14,18 @@ slice-write-numbers c = search needs
 slice-write-numbers-2 : tie.Need-slice-write-numbers-2
 slice-write-numbers-2 c = search needs
 
+slice-write-numbers-3 : tie.Need-slice-write-numbers-3
+slice-write-numbers-3 c = search needs
+
+slice-write-numbers-4 : tie.Need-slice-write-numbers-4
+slice-write-numbers-4 c = simp length-set (omega arith)
+
+slice-write-numbers-5 : tie.Need-slice-write-numbers-5
+slice-write-numbers-5 c = simp length-set (omega arith)
+
+slice-write-numbers-6 : tie.Need-slice-write-numbers-6
+slice-write-numbers-6 c = simp length-set (omega arith)
+
 same-length : tie.Need-same-length
 same-length c = search needs
 
@@ -23,4 +37,13 @@ returns c os =
 pub start-fresh-spec : {M : Type 1} → statement M
 start-fresh-spec =
     tie.close
-    (tie.spec zero-requires slice-write-numbers slice-write-numbers-2 same-length returns)
+    (tie.spec
+    zero-requires
+    slice-write-numbers
+    slice-write-numbers-2
+    slice-write-numbers-3
+    slice-write-numbers-4
+    slice-write-numbers-5
+    slice-write-numbers-6
+    same-length
+    returns)

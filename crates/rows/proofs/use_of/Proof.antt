@@ -7,9 +7,6 @@ use Rattle.rows.proofs.use_of.Tie as tie
 add-result : tie.Need-add-result
 add-result c = search needs
 
-add-result-2 : tie.Need-add-result-2
-add-result-2 c = search needs
-
 returns : tie.Need-returns
 returns c = let t = c .if1 .taken in (rw t refl, omega arith)
 
@@ -17,4 +14,4 @@ returns-2 : tie.Need-returns-2
 returns-2 c = let t = c .if1 .left in (rw t refl, omega arith)
 
 pub use-of-spec : {M : Type 1} → statement M
-use-of-spec = tie.close (tie.spec add-result add-result-2 returns returns-2)
+use-of-spec = tie.close (tie.spec add-result returns returns-2)

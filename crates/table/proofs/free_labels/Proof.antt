@@ -1,54 +1,50 @@
-use Prim.Native.Nat.{ℕ, _+_, _-_, _≤_}
+use Prim.Native.Nat.{_+_}
 use native.Mathlib.Omega.{arith}
-use mathlib.Core.Logic.{⊎-elim}
-use mathlib.Core.Path.{_≡_, sym, _∙_}
-use mathlib.Core.List.{List}
-use lib.ListN.{drop}
+use Rattle.table.proofs.Laws.{few-in, counted}
 use borrow.Author.Needs.{needs}
-use Rattle.meaning.specs.Octets.{count}
-use Rattle.meaning.specs.Card.{isFree, freeLabels}
-use Rattle.octets.specs.Part.{tab}
-use Rattle.octets.proofs.Tab.{count-hit, count-miss, count-none}
-use Rattle.table.specs.Memory.{cardOf, labelIn}
-use Rattle.table.proofs.Laws.{count-start}
 use Rattle.table.proofs.free_labels.Statement.{statement}
 use Rattle.table.proofs.free_labels.Tie as tie
 
-abbrev Inv-loop : tie.InvT-loop
-Inv-loop numbers found₀ p₀ found p = (p ≤ 256) × (found ≤ p) × ((os : List ℕ) → freeLabels (cardOf numbers os) ≡ found + count isFree (drop p (tab 256 (labelIn numbers os))))
+shared-slice-read-result : tie.Need-shared-slice-read-result
+shared-slice-read-result c = search needs
 
-abbrev μ-loop : tie.MeasureT-loop
-μ-loop numbers found₀ p₀ found p = 256 - p
+shared-slice-read-result-2 : tie.Need-shared-slice-read-result-2
+shared-slice-read-result-2 c = search needs
 
-loop-holds : tie.Need-loop-holds Inv-loop μ-loop
-loop-holds c = (omega arith, omega arith, (λ os. count-start _ os))
+add-result : tie.Need-add-result
+add-result c = let few = few-in (c .before .before .args .numbers .now) (λ w. c .shared-slice-known2 .given (1444 + w) .fits) in omega (arith, few 0, few 1)
 
-is-free-requires : tie.Need-is-free-requires Inv-loop μ-loop
-is-free-requires c κs = search needs
+shared-slice-read-result-3 : tie.Need-shared-slice-read-result-3
+shared-slice-read-result-3 c = search needs
 
-add-found : tie.Need-add-found Inv-loop μ-loop
-add-found c = search needs
+add-result-2 : tie.Need-add-result-2
+add-result-2 c = let few = few-in (c .before .before .before .args .numbers .now) (λ w. c .shared-slice-known3 .given (1444 + w) .fits) in omega (arith, few 0, few 1, few 2)
 
-add-p : tie.Need-add-p Inv-loop μ-loop
-add-p c = search needs
+shared-slice-read-result-4 : tie.Need-shared-slice-read-result-4
+shared-slice-read-result-4 c = search needs
 
-loop-less : tie.Need-loop-less Inv-loop μ-loop
-loop-less c = search needs
+add-result-3 : tie.Need-add-result-3
+add-result-3 c = let few = few-in (c .before .before .before .before .args .numbers .now) (λ w. c .shared-slice-known4 .given (1444 + w) .fits) in omega (arith, few 0, few 1, few 2, few 3)
 
-loop-again : tie.Need-loop-again Inv-loop μ-loop
-loop-again c =
-    let l = c .before .before in
-    ⊎-elim
-    (λ w. (omega arith, omega arith, (λ os. rw (w .1) (l .before .loop .inv .2 os ∙ count-hit isFree 256 (labelIn _ os) _ _ (l .loop-test .taken) (sym (c .before .is-free .ensures .1 os) ∙ w .0 .taken)))))
-    (λ w. (omega arith, omega arith, (λ os. rw (w .1) (l .before .loop .inv .2 os ∙ count-miss isFree 256 (labelIn _ os) _ _ (l .loop-test .taken) (sym (c .before .is-free .ensures .1 os) ∙ w .0 .left)))))
-    (c .if1 .came)
+cast-result : tie.Need-cast-result
+cast-result c = let few = few-in (c .before .before .before .before .args .numbers .now) (λ w. c .shared-slice-known4 .given (1444 + w) .fits) in omega (arith, few 0, few 1, few 2, few 3)
 
-returns : tie.Need-returns Inv-loop μ-loop
+returns : tie.Need-returns
 returns c =
-    let l = c .before in
-    ((λ os. sym (l .loop .inv .2 os ∙ count-none isFree 256 (labelIn _ os) (l .loop .p) (l .loop .found) (c .loop-test .left))), omega arith)
+    let ns = c .before .before .before .before .args .numbers .now in
+    let few = few-in ns (λ w. c .shared-slice-known4 .given (1444 + w) .fits) in
+    ((λ os. counted ns os (λ w. c .shared-slice-known4 .given (1444 + w) .fits)), omega (arith, few 0, few 1, few 2, few 3))
 
 pub free-labels-spec : {M : Type 1} → statement M
 free-labels-spec =
     tie.close
-    (tie.spec Inv-loop μ-loop loop-holds is-free-requires add-found add-p loop-less loop-again returns)
+    (tie.spec
+    shared-slice-read-result
+    shared-slice-read-result-2
+    add-result
+    shared-slice-read-result-3
+    add-result-2
+    shared-slice-read-result-4
+    add-result-3
+    cast-result
+    returns)

@@ -1,48 +1,62 @@
-use Prim.Native.Nat.{ℕ, _+_, _-_, _≤_}
+use Prim.Native.Nat.{_+_, _-_, _≤_}
 use native.Mathlib.Omega.{arith}
-use mathlib.Core.Path.{_≡_, sym, _∙_}
-use mathlib.Core.List.{List}
-use lib.ListN.{drop}
+use lib.Count.{trailing-le}
+use Rattle.meaning.specs.Lists.{positive}
+use Rattle.table.specs.Memory.{wordAt}
 use borrow.Author.Needs.{needs}
-use Rattle.meaning.specs.Octets.{place}
-use Rattle.meaning.specs.Card.{isFree}
-use Rattle.octets.specs.Part.{tab}
-use Rattle.octets.proofs.Tab.{place-hit, place-miss, place-none}
-use Rattle.table.specs.Memory.{cardOf, labelIn}
-use Rattle.table.proofs.Laws.{labels-start}
+use Rattle.table.proofs.Laws.{labels-start, From, lowest-word, lowest-next, lowest-none}
 use Rattle.table.proofs.lowest_free.Statement.{statement}
 use Rattle.table.proofs.lowest_free.Tie as tie
 
 abbrev Inv-loop : tie.InvT-loop
-Inv-loop numbers p₀ p = (p ≤ 256) × ((os : List ℕ) → place isFree (cardOf numbers os .labels) ≡ p + place isFree (drop p (tab 256 (labelIn numbers os))))
+Inv-loop numbers w₀ w = (w ≤ 4) × From numbers w
 
 abbrev μ-loop : tie.MeasureT-loop
-μ-loop numbers p₀ p = 256 - p
+μ-loop numbers w₀ w = 4 - w
 
 loop-holds : tie.Need-loop-holds Inv-loop μ-loop
 loop-holds c = (omega arith, (λ os. labels-start _ os))
 
-is-free-requires : tie.Need-is-free-requires Inv-loop μ-loop
-is-free-requires c κs = search needs
+add-x : tie.Need-add-x Inv-loop μ-loop
+add-x c = search needs
+
+mul-x : tie.Need-mul-x Inv-loop μ-loop
+mul-x c = search needs
+
+shared-slice-read-x : tie.Need-shared-slice-read-x Inv-loop μ-loop
+shared-slice-read-x c = search needs
+
+mul-result : tie.Need-mul-result Inv-loop μ-loop
+mul-result c = search needs
+
+cast-result : tie.Need-cast-result Inv-loop μ-loop
+cast-result c =
+    let l = c .before .before .before in
+    omega (arith, trailing-le 64 (wordAt (l .before .args .numbers .now) (l .loop .w)))
+
+add-result : tie.Need-add-result Inv-loop μ-loop
+add-result c =
+    let l = c .before .before .before in
+    omega (arith, trailing-le 64 (wordAt (l .before .args .numbers .now) (l .loop .w)))
 
 returns : tie.Need-returns Inv-loop μ-loop
 returns c =
-    let l = c .before .before in
-    ((λ os. sym (l .before .loop .inv .1 os ∙ place-hit isFree 256 (labelIn _ os) _ (l .loop-test .taken) (sym (c .before .is-free .ensures .1 os) ∙ c .if1 .taken))), omega arith, (λ _. sym (c .before .is-free .ensures .0) ∙ c .if1 .taken))
+    let l = c .before .before .before in
+    lowest-word _ (l .loop .w) (c .before .before .loop-test .taken) (l .loop .inv .1) (positive _ (c .if1 .taken)) (c .before .shared-slice-known .given (1444 + l .loop .w) .fits)
 
-add-p : tie.Need-add-p Inv-loop μ-loop
-add-p c = search needs
+add-w : tie.Need-add-w Inv-loop μ-loop
+add-w c = search needs
 
 loop-less : tie.Need-loop-less Inv-loop μ-loop
 loop-less c = search needs
 
 loop-again : tie.Need-loop-again Inv-loop μ-loop
 loop-again c =
-    let l = c .before .before in
-    (omega arith, (λ os. l .before .loop .inv .1 os ∙ place-miss isFree 256 (labelIn _ os) _ (l .loop-test .taken) (sym (c .before .is-free .ensures .1 os) ∙ c .if1 .left)))
+    let l = c .before .before .before in
+    (omega arith, lowest-next _ (l .loop .w) (c .before .before .loop-test .taken) (l .loop .inv .1) (c .if1 .left))
 
 returns-2 : tie.Need-returns-2 Inv-loop μ-loop
-returns-2 c = ((λ os. sym (c .before .loop .inv .1 os ∙ place-none isFree 256 (labelIn _ os) _ (c .loop-test .left) (c .before .loop .inv .0))), omega arith, (λ h. absurd (omega arith)))
+returns-2 c = let l = c .before in lowest-none _ (l .loop .w) (c .loop-test .left) (l .loop .inv .0) (l .loop .inv .1)
 
 pub lowest-free-spec : {M : Type 1} → statement M
 lowest-free-spec =
@@ -51,9 +65,14 @@ lowest-free-spec =
     Inv-loop
     μ-loop
     loop-holds
-    is-free-requires
+    add-x
+    mul-x
+    shared-slice-read-x
+    mul-result
+    cast-result
+    add-result
     returns
-    add-p
+    add-w
     loop-less
     loop-again
     returns-2)

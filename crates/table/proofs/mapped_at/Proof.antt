@@ -1,6 +1,4 @@
-use native.Mathlib.Omega.{arith}
 use mathlib.Core.Path.{sym, _∙_}
-use Rattle.table.proofs.Marks.{taken-use}
 use Rattle.table.proofs.Laws.{maps-free, maps-some, maps-other}
 use borrow.Author.Needs.{needs}
 use Rattle.table.proofs.mapped_at.Statement.{statement}
@@ -21,26 +19,13 @@ mul-u c = search needs
 shared-slice-read-u : tie.Need-shared-slice-read-u
 shared-slice-read-u c = search needs
 
-sub-result : tie.Need-sub-result
-sub-result c =
-    let s = c .before .before .before .before .before in
-    omega (arith, taken-use (s .args .numbers .now) (s .args .p) (sym (c .before .before .before .is-free .ensures .0) ∙ c .before .before .if1 .left))
-
 returns-2 : tie.Need-returns-2
 returns-2 c = maps-some _ _ (sym (c .before .before .before .is-free .ensures .0) ∙ c .before .before .if1 .left) (c .if2 .taken)
 
 returns-3 : tie.Need-returns-3
-returns-3 c = maps-other _ _ (c .if2 .left)
+returns-3 c = maps-other _ _ (sym (c .before .before .before .is-free .ensures .0) ∙ c .before .before .if1 .left) (c .if2 .left)
 
 pub mapped-at-spec : {M : Type 1} → statement M
 mapped-at-spec =
     tie.close
-    (tie.spec
-    is-free-requires
-    returns
-    add-u
-    mul-u
-    shared-slice-read-u
-    sub-result
-    returns-2
-    returns-3)
+    (tie.spec is-free-requires returns add-u mul-u shared-slice-read-u returns-2 returns-3)
