@@ -244,7 +244,7 @@ pub fn route<'a>(
     &mut out[..n]
 }
 
-// ---- lookups
+// ---- lookups: a core lays the branches into a lent array and hands back the leaf mark, a call hands both back by value
 
 // Sixteen branch labels, one for each neighbour and 0 for none, and the leaf mark. Nothing is no branch and no leaf.
 pub struct Feed {
@@ -252,70 +252,87 @@ pub struct Feed {
     pub branches: [u64; 16],
 }
 
-// Where the tree at place i leads while u is its upstream, whose own branch is held.
-fn feed_at(numbers: &[u64], i: usize, u: u64) -> Feed
+// Where the tree at place i leads while u is its upstream, whose own branch is held. The one place is cleared where the row
+// was laid, and nothing is read again: a load behind a store to a part of what it loads would wait for that store.
+fn feed_at(numbers: &[u64], i: usize, u: u64, branches: &mut [u64; 16]) -> bool
     requires { ⌜ (length (now numbers) ≡ 1448) × (i < treeCount (now numbers)) × (i < 64) ⌝ }
-    ensures { λ r. ⌜ ((os : List ℕ) → feedIn (r .branches) (r .leaf) ≡ feedOf u (treeAt i (cardOf (now (numbers .entry)) os))) ⌝ }
+    ensures { λ r. ⌜ ((os : List ℕ) → feedIn (now (branches .exit)) r ≡ feedOf u (treeAt i (cardOf (now (numbers .entry)) os))) ⌝ }
 {
-    let mut branches = table::branches(numbers, i);
+    *branches = table::branches(numbers, i);
     if u < 16 {
         branches[u as usize] = 0;
     }
-    Feed {
-        leaf: table::is_leaf(numbers, i),
-        branches,
-    }
+    table::is_leaf(numbers, i)
 }
 
-fn no_feed() -> Feed
-    ensures { λ r. ⌜ feedIn (r .branches) (r .leaf) ≡ nothing ⌝ }
+fn no_feed(branches: &mut [u64; 16]) -> bool
+    ensures { λ r. ⌜ feedIn (now (branches .exit)) r ≡ nothing ⌝ }
 {
-    Feed {
-        leaf: false,
-        branches: [0u64; 16],
-    }
+    *branches = [0u64; 16];
+    false
 }
 
-fn find_label(numbers: &[u64], label: u64) -> Feed
+fn find_label(numbers: &[u64], label: u64, branches: &mut [u64; 16]) -> bool
     requires { ⌜ length (now numbers) ≡ 1448 ⌝ }
-    ensures { λ r. ⌜ ((os : List ℕ) → feedIn (r .branches) (r .leaf) ≡ lookupLabel label (cardOf (now (numbers .entry)) os)) ⌝ }
+    ensures { λ r. ⌜ ((os : List ℕ) → feedIn (now (branches .exit)) r ≡ lookupLabel label (cardOf (now (numbers .entry)) os)) ⌝ }
 {
     let sender = table::mapped_to(numbers, label);
     if sender == 17 {
-        return no_feed();
+        return no_feed(branches);
     }
     let i = table::carrier_place(numbers, label);
     if i < table::tree_count(numbers) {
-        return feed_at(numbers, i, sender);
+        return feed_at(numbers, i, sender, branches);
     }
-    no_feed()
+    no_feed(branches)
 }
 
-fn find_name(numbers: &[u64], names: &[u8], element: &[u8]) -> Feed
+fn find_name(numbers: &[u64], names: &[u8], element: &[u8], branches: &mut [u64; 16]) -> bool
     requires { ⌜ (length (now numbers) ≡ 1448) × (length (now names) ≡ 18144) ⌝ }
-    ensures { λ r. ⌜ feedIn (r .branches) (r .leaf) ≡ lookupName (now (element .entry)) (cardOf (now (numbers .entry)) (now (names .entry))) ⌝ }
+    ensures { λ r. ⌜ feedIn (now (branches .exit)) r ≡ lookupName (now (element .entry)) (cardOf (now (numbers .entry)) (now (names .entry))) ⌝ }
 {
     if reader::element_refusal(element) != 0 {
-        return no_feed();
+        return no_feed(branches);
     }
     let i = table::tree_place(numbers, names, element);
     if i < table::tree_count(numbers) {
         let via = table::route_of(numbers, names, reader::root_of(element));
-        return feed_at(numbers, i, via);
+        return feed_at(numbers, i, via, branches);
     }
-    no_feed()
+    no_feed(branches)
+}
+
+pub fn lookup_label_core(numbers: &[u64; 1448], label: u32, branches: &mut [u64; 16]) -> bool
+    ensures { λ r. ⌜ ((os : List ℕ) → feedIn (now (branches .exit)) r ≡ lookupLabel label (cardOf (now (numbers .entry)) os)) ⌝ }
+{
+    find_label(numbers, label as u64, branches)
 }
 
 pub fn lookup_label(numbers: &[u64; 1448], label: u32) -> Feed
     ensures { λ r. ⌜ ((os : List ℕ) → feedIn (r .branches) (r .leaf) ≡ lookupLabel label (cardOf (now (numbers .entry)) os)) ⌝ }
 {
-    find_label(numbers, label as u64)
+    let mut branches = [0u64; 16];
+    let leaf = lookup_label_core(numbers, label, &mut branches);
+    Feed { leaf, branches }
+}
+
+pub fn lookup_name_core(
+    numbers: &[u64; 1448],
+    names: &[u8; 18144],
+    element: &[u8],
+    branches: &mut [u64; 16],
+) -> bool
+    ensures { λ r. ⌜ feedIn (now (branches .exit)) r ≡ lookupName (now (element .entry)) (cardOf (now (numbers .entry)) (now (names .entry))) ⌝ }
+{
+    find_name(numbers, names, element, branches)
 }
 
 pub fn lookup_name(numbers: &[u64; 1448], names: &[u8; 18144], element: &[u8]) -> Feed
     ensures { λ r. ⌜ feedIn (r .branches) (r .leaf) ≡ lookupName (now (element .entry)) (cardOf (now (numbers .entry)) (now (names .entry))) ⌝ }
 {
-    find_name(numbers, names, element)
+    let mut branches = [0u64; 16];
+    let leaf = lookup_name_core(numbers, names, element, &mut branches);
+    Feed { leaf, branches }
 }
 
 pub fn free_labels(numbers: &[u64; 1448]) -> u32

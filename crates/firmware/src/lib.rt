@@ -87,10 +87,7 @@ pub extern "C" fn card_lookup_label(
 ) -> bool
     ensures { λ r. ⌜ ((os : List ℕ) → feedIn (now (branches .exit)) r ≡ lookupLabel label (cardOf (now (numbers .entry)) os)) ⌝ }
 {
-    let feed = card::lookup_label(numbers, label);
-    let found = feed.branches;
-    *branches = found;
-    feed.leaf
+    card::lookup_label_core(numbers, label, branches)
 }
 
 #[no_mangle]
@@ -102,10 +99,7 @@ pub extern "C" fn card_lookup_name(
 ) -> bool
     ensures { λ r. ⌜ feedIn (now (branches .exit)) r ≡ lookupName (now (element .entry)) (cardOf (now (numbers .entry)) (now (names .entry))) ⌝ }
 {
-    let feed = card::lookup_name(numbers, names, element);
-    let found = feed.branches;
-    *branches = found;
-    feed.leaf
+    card::lookup_name_core(numbers, names, element, branches)
 }
 
 #[no_mangle]

@@ -1,5 +1,4 @@
-use native.Mathlib.Omega.{arith}
-use mathlib.Core.Path.{_≡_, sym, ap, _∙_}
+use mathlib.Core.Path.{sym, ap, _∙_}
 use mathlib.Core.Logic.{⊎-elim}
 use mathlib.Core.List.{List}
 use Prim.Native.Nat.{ℕ}
@@ -19,8 +18,8 @@ branches-requires c κs = search needs
 mul-branches : tie.Need-mul-branches
 mul-branches c = search needs
 
-array-write-branches : tie.Need-array-write-branches
-array-write-branches c = search needs
+element-write-branches : tie.Need-element-write-branches
+element-write-branches c = search needs
 
 is-leaf-requires : tie.Need-is-leaf-requires
 is-leaf-requires c κs = search needs
@@ -40,4 +39,4 @@ returns c = λ os.
 pub feed-at-spec : {M : Type 1} → statement M
 feed-at-spec =
     tie.close
-    (tie.spec branches-requires mul-branches array-write-branches is-leaf-requires returns)
+    (tie.spec branches-requires mul-branches element-write-branches is-leaf-requires returns)
