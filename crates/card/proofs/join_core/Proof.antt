@@ -1,5 +1,4 @@
-use mathlib.Core.Path.{refl, sym, ap, _∙_}
-use native.Mathlib.Omega.{arith}
+use mathlib.Core.Path.{sym, _∙_}
 use Rattle.meaning.specs.RoundTrip.{name-fits}
 use Rattle.card.proofs.Laws.{join-refused, join-is}
 use borrow.Author.Needs.{needs}

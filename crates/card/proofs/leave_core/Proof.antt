@@ -1,4 +1,4 @@
-use mathlib.Core.Path.{refl, sym, ap, _∙_}
+use mathlib.Core.Path.{sym, _∙_}
 use Rattle.card.proofs.Laws.{leave-refused, leave-is}
 use borrow.Author.Needs.{needs}
 use Rattle.card.proofs.leave_core.Statement.{statement}

@@ -1,5 +1,3 @@
-use mathlib.Core.Path.{refl, sym, ap, _∙_, subst}
-use native.Mathlib.Omega.{arith}
 use Rattle.card.proofs.Laws.{empty-feed}
 use Rattle.card.proofs.no_feed.Statement.{statement}
 use Rattle.card.proofs.no_feed.Tie as tie

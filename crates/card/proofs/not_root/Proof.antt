@@ -1,5 +1,3 @@
-use mathlib.Core.Path.{refl, sym, ap, _∙_, subst}
-use native.Mathlib.Omega.{arith}
 use Rattle.card.proofs.Laws.{four-octets, other-length}
 use Rattle.card.proofs.not_root.Statement.{statement}
 use Rattle.card.proofs.not_root.Tie as tie

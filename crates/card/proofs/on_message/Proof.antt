@@ -1,9 +1,6 @@
-use mathlib.Core.Path.{refl, sym, ap, _∙_, subst}
 use Rattle.table.specs.Memory.{cardOf}
 use Rattle.card.proofs.Laws.{does-same, says-mapping, says-withdraw, says-release, says-nothing}
-use mathlib.Core.Path.{refl, sym, ap, _∙_}
 use Rattle.trees.proofs.Laws.{does-refused}
-use Rattle.card.proofs.Laws.{says-mapping, says-withdraw, says-release, says-nothing}
 use borrow.Author.Needs.{needs}
 use Rattle.card.proofs.on_message.Statement.{statement}
 use Rattle.card.proofs.on_message.Tie as tie

@@ -1,4 +1,4 @@
-use mathlib.Core.Path.{refl, sym, ap, _∙_, subst}
+use mathlib.Core.Path.{subst}
 use native.Mathlib.Omega.{arith}
 use Rattle.reader.specs.Read.{Reads}
 use Rattle.card.proofs.Laws.{does-same, read-refused, read-says, read-fits}

@@ -1,4 +1,3 @@
-use mathlib.Core.Path.{refl, sym, ap, _∙_}
 use Rattle.card.proofs.Laws.{far, near}
 use borrow.Author.Needs.{needs}
 use Rattle.card.proofs.receive_core.Statement.{statement}

@@ -1,5 +1,4 @@
-use mathlib.Core.Path.{refl, sym, ap, _∙_, subst}
-use native.Mathlib.Omega.{arith}
+use mathlib.Core.Path.{sym, _∙_}
 use Rattle.card.proofs.Laws.{route-far, route-odd, route-is, root-fits}
 use borrow.Author.Needs.{needs}
 use Rattle.card.proofs.route_core.Statement.{statement}

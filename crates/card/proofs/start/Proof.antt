@@ -1,4 +1,4 @@
-use mathlib.Core.Path.{refl, sym, ap, _∙_}
+use mathlib.Core.Path.{_∙_}
 use Rattle.card.proofs.Laws.{starts-low, starts-high, starts}
 use borrow.Author.Needs.{needs}
 use Rattle.card.proofs.start.Statement.{statement}
