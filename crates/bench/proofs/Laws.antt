@@ -8,7 +8,9 @@ use mathlib.Core.List.{List, [], _∷_, _++_, append-assoc}
 use lib.ListN.{length, take, drop, getD, set, length-append, length-drop, length-set}
 use lib.Seq.{length-take-le, take-append-add, take-at, take-suc, take-suc-set}
 use borrow.Author.Tests.{lt-leb}
-use Rattle.orders.specs.Line.{ascii, Puts, hexOf, Said, orderOf, meant, Lies, SaveLies, InLine}
+use Rattle.words.specs.Words.{ascii, Puts, hexOf}
+use Rattle.verbs.specs.Line.{Said, orderOf}
+use Rattle.orders.specs.Tells.{meant, Lies, SaveLies, InLine}
 use Rattle.orders.specs.declared.Order.{Order}
 use Rattle.orders.proofs.Order.{the-type}
 use denote.Enum.Declared.{tagOf}

@@ -5,7 +5,8 @@ use mathlib.Core.Bool.{Bool, true, false, cond}
 use mathlib.Core.List.{List, [], _∷_, _++_}
 use lib.ListN.{length, take}
 use lib.Dec.{eqb}
-use Rattle.orders.specs.Line.{ascii, numeral, hexOf, Said}
+use Rattle.words.specs.Words.{ascii, numeral, hexOf}
+use Rattle.verbs.specs.Line.{Said}
 
 -- `WORD N`
 unfoldable pub countLine : List ℕ → ℕ → List ℕ

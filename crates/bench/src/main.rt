@@ -3,7 +3,9 @@ ghost use mathlib.Core.Path.{_≡_};
 ghost use mathlib.Core.List.{List, [], _∷_, _++_};
 ghost use Prim.Native.Nat.{ℕ, _+_, _*_, _≤_};
 ghost use lib.ListN.{length, take};
-ghost use Rattle.orders.specs.Line.{ascii, orderOf, meant, InLine, numeral, hexOf};
+ghost use Rattle.words.specs.Words.{ascii, numeral, hexOf};
+ghost use Rattle.verbs.specs.Line.{orderOf};
+ghost use Rattle.orders.specs.Tells.{meant, InLine};
 ghost use Rattle.bench.specs.Text.{countLine, recordsText, eventLine, branchText, branchesFrom, leafText, feedLine, Adds};
 ghost use Rattle.bench.specs.Text.{IsCount, IsEvent, IsFeed, IsLine, IsEventLine, roomAfter, Answers, Keeps};
 use card::Feed;
@@ -15,7 +17,7 @@ fn put(text: &mut [u8], at: usize, part: &[u8]) -> usize
     requires { ⌜ at + length (now part) ≤ length (now text) ⌝ }
     ensures { λ r. ⌜ Adds (now (part .entry)) (now (text .entry)) (now (text .exit)) at r ⌝ }
 {
-    at + orders::put_text(&mut text[at..], part)
+    at + words::put_text(&mut text[at..], part)
 }
 
 fn put_number(text: &mut [u8], at: usize, n: u64) -> usize
@@ -23,7 +25,7 @@ fn put_number(text: &mut [u8], at: usize, n: u64) -> usize
     ensures { λ r. ⌜ Adds (numeral n) (now (text .entry)) (now (text .exit)) at r ⌝ }
     ensures { λ r. ⌜ r ≤ at + 20 ⌝ }
 {
-    at + orders::put_number(&mut text[at..], n)
+    at + words::put_number(&mut text[at..], n)
 }
 
 fn put_hex(text: &mut [u8], at: usize, octets: &[u8]) -> usize
@@ -31,7 +33,7 @@ fn put_hex(text: &mut [u8], at: usize, octets: &[u8]) -> usize
     ensures { λ r. ⌜ Adds (hexOf (now (octets .entry))) (now (text .entry)) (now (text .exit)) at r ⌝ }
     ensures { λ r. ⌜ r ≡ at + length (now (octets .entry)) * 2 ⌝ }
 {
-    at + orders::put_hex(&mut text[at..], octets)
+    at + words::put_hex(&mut text[at..], octets)
 }
 
 // `WORD N`
@@ -183,7 +185,7 @@ fn on_take(
     ensures { λ r. ⌜ (r ≤ 47104) × IsEvent (ascii "take") (take r (now (text .exit))) ⌝ }
 {
     let mut message = io::buffer();
-    let n = orders::decode_hex(hex, &mut message);
+    let n = words::decode_hex(hex, &mut message);
     let mut out = output();
     let mut answer: u32 = 0;
     let records = card::receive(
@@ -208,7 +210,7 @@ fn on_join(
     ensures { λ r. ⌜ (r ≤ 47104) × IsEvent (ascii "join") (take r (now (text .exit))) ⌝ }
 {
     let mut element = io::buffer();
-    let n = orders::decode_hex(hex, &mut element);
+    let n = words::decode_hex(hex, &mut element);
     let mut out = output();
     let mut answer: u32 = 0;
     let records = card::join(
@@ -232,7 +234,7 @@ fn on_leave(
     ensures { λ r. ⌜ (r ≤ 47104) × IsEvent (ascii "leave") (take r (now (text .exit))) ⌝ }
 {
     let mut element = io::buffer();
-    let n = orders::decode_hex(hex, &mut element);
+    let n = words::decode_hex(hex, &mut element);
     let mut out = output();
     let mut answer: u32 = 0;
     let records = card::leave(
@@ -257,7 +259,7 @@ fn on_route(
     ensures { λ r. ⌜ (r ≤ 47104) × IsEvent (ascii "route") (take r (now (text .exit))) ⌝ }
 {
     let mut root = io::buffer();
-    let n = orders::decode_hex(hex, &mut root);
+    let n = words::decode_hex(hex, &mut root);
     let mut out = output();
     let mut answer: u32 = 0;
     let records = card::route(
@@ -284,7 +286,7 @@ fn on_notice(
     ensures { λ r. ⌜ (r ≤ 47104) × IsEvent (ascii "notice") (take r (now (text .exit))) ⌝ }
 {
     let mut refused = io::buffer();
-    let n = orders::decode_hex(hex, &mut refused);
+    let n = words::decode_hex(hex, &mut refused);
     let mut out = output();
     let mut answer: u32 = 0;
     let record = notice::notice(
@@ -303,7 +305,7 @@ fn on_tree(numbers: &[u64; 1448], names: &[u8; 18144], hex: &[u8], text: &mut [u
     ensures { λ r. ⌜ (r ≤ 47104) × IsFeed (ascii "tree") (take r (now (text .exit))) ⌝ }
 {
     let mut element = io::buffer();
-    let n = orders::decode_hex(hex, &mut element);
+    let n = words::decode_hex(hex, &mut element);
     put_feed(
         text,
         b"tree",
@@ -332,7 +334,7 @@ fn on_restore(
     ensures { λ r. ⌜ (r ≤ 47104) × IsCount (ascii "restore") (take r (now (text .exit))) ⌝ }
 {
     let mut octets = longest_save();
-    let n = orders::decode_hex(hex, &mut octets);
+    let n = words::decode_hex(hex, &mut octets);
     let answer = restorer::restore(numbers, names, &octets[..n]);
     put_count(text, b"restore", answer as u64)
 }

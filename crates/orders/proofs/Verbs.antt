@@ -1,36 +1,26 @@
 -- What an order says by its verb and the words behind it. Assumes nothing.
-use Prim.Native.Nat.{ℕ, _-_, _%_, _≤_}
+use Prim.Native.Nat.{ℕ, _-_, _≤_}
 use native.Mathlib.Omega.{arith}
 use mathlib.Core.Path.{_≡_, refl, sym, _∙_}
-use mathlib.Core.Bool.{Bool, true, false, _&&_}
+use mathlib.Core.Bool.{Bool, true, false}
 use mathlib.Core.List.{List, [], _∷_}
 use lib.ListN.{length, drop, length-drop}
 use lib.Seq.{length-take-le}
-use lib.Dec.{eqb, leb}
-use borrow.Author.Tests.{leb-true}
 use denote.Enum.Declared.{tagOf}
 use types.Run.{OneOf, miss}
-use Rattle.meaning.specs.Octets.{pick, same}
-use Rattle.meaning.specs.Lists.{by-test, same-eq}
-use Rattle.orders.specs.Line.{part, ascii, all, isHexDigit, isHexTo, isHex, isSaveHex, value, isNumber, octetsOf, Said, meant, withNumber, withHex, withSave, withNumberHex, withHexNumber, withNumbersHex, does, Lies, SaveLies, Tells}
-use Rattle.orders.specs.Scan.{numberIn, numbered, asNumber, withOctets, asHex}
-use Rattle.orders.specs.declared.Number.{Number}
-use Rattle.orders.specs.declared.Verb.{Verb}
+use Rattle.meaning.specs.Octets.{pick}
+use Rattle.words.specs.Words.{part, isHexTo, isHex, isNumber, octetsOf}
+use Rattle.verbs.specs.Line.{isSaveHex, Said, withNumber, withHex, withSave, withNumberHex, withHexNumber, withNumbersHex, does}
+use Rattle.orders.specs.Tells.{meant, Lies, SaveLies, Tells}
+use Rattle.words.specs.Scan.{numberIn}
+use Rattle.words.specs.declared.Number.{Number}
+use Rattle.words.proofs.Laws.{number-value, number-none, hex-short}
+use Rattle.orders.specs.Scan.{numbered, asNumber, withOctets, asHex}
+use Rattle.verbs.specs.declared.Verb.{Verb}
 use Rattle.orders.specs.declared.Order.{Order}
-use Rattle.orders.proofs.Verb.{the-type}
+use Rattle.verbs.proofs.Verb.{the-type}
 
 -- ---- a number, or none
-
-pub number-value : (w : List ℕ) (n : ℕ) → numberIn w ≡ Number.Is n → (isNumber w ≡ true) × (value w ≡ n)
-unfolding numberIn
-number-value w n e =
-    by-test (isNumber w)
-    (λ t. (t, let q : Number.Is (value w) ≡ Number.Is n = rw t at e in cc))
-    (λ t. let q : Number.None ≡ Number.Is n = rw t at e in absurd (let z : _≡_ {A = ℕ} 0 1 = cc in omega arith))
-
-pub number-none : (w : List ℕ) → numberIn w ≡ Number.None → isNumber w ≡ false
-unfolding numberIn
-number-none w e = by-test (isNumber w) (λ t. let q : Number.Is (value w) ≡ Number.None = rw t at e in cc) (λ t. t)
 
 pub one-number : (f : ℕ → Said) (w : List ℕ) (n : ℕ) (k : Number) → k ≡ numberIn w → k ≡ Number.Is n → f n ≡ withNumber f (w ∷ [])
 unfolding withNumber
@@ -73,19 +63,6 @@ first-hex f w ws b e g = rw (sym e ∙ g)
 pub no-first-hex : (f : List ℕ → ℕ → Said) (w : List ℕ) (ws : List (List ℕ)) (b : Bool) → b ≡ isHex w → b ≡ false → Said.bad ≡ withHexNumber f (w ∷ ws)
 unfolding withHexNumber
 no-first-hex f w ws b e g = rw (sym e ∙ g)
-
-and-left : (a b : Bool) → (a && b) ≡ true → a ≡ true
-and-left true b e = refl
-and-left false b e = e
-
-hex-short : (most : ℕ) (w : List ℕ) → 1 ≤ most → isHexTo most w ≡ true → length w ≤ most
-unfolding isHexTo ascii
-hex-short most w h e =
-    by-test (same w (45 ∷ []))
-    (λ t. rw (same-eq w (45 ∷ []) t) (omega arith))
-    (λ t.
-    let both = and-left (leb (length w) most && eqb (length w % 2) 0) (all isHexDigit w) (rw t at e) in
-    leb-true (length w) most (and-left (leb (length w) most) (eqb (length w % 2) 0) both))
 
 pub lies : (l : List ℕ) (s e : ℕ) (b : Bool) → s ≤ e → e ≤ length l → b ≡ isHex (part s e l) → b ≡ true → Lies l s e
 unfolding isHex

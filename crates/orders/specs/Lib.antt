@@ -1,3 +1,2 @@
-pub mod Line
+pub mod Tells
 pub mod Scan
-pub mod Examples

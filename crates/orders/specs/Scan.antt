@@ -1,24 +1,10 @@
 -- What the smaller functions of the reader find. Assumes nothing.
-use Prim.Native.Nat.{ℕ, suc}
-use mathlib.Core.Bool.{Bool, not, _||_}
-use mathlib.Core.List.{List, [], _∷_}
-use lib.Dec.{eqb}
+use Prim.Native.Nat.{ℕ}
+use mathlib.Core.List.{List}
 use Rattle.meaning.specs.Octets.{pick}
-use Rattle.orders.specs.Line.{isGap, value, isNumber, isHex, octetsOf, Said}
-use Rattle.orders.specs.declared.Number.{Number}
-use Rattle.orders.specs.declared.Verb.{Verb}
-
--- an octet of a word
-abbrev pub isLetter : ℕ → Bool
-isLetter c = not (eqb c 35 || isGap c)
-
--- how many of them stand at the front
-unfoldable pub letters : List ℕ → ℕ
-letters [] = 0
-letters (c ∷ cs) = let more = suc (letters cs) in pick (isLetter c) more 0
-
-unfoldable pub numberIn : List ℕ → Number
-numberIn w = pick (isNumber w) (Number.Is (value w)) Number.None
+use Rattle.words.specs.Words.{value, isNumber, isHex, octetsOf}
+use Rattle.verbs.specs.Line.{Said}
+use Rattle.verbs.specs.declared.Verb.{Verb}
 
 -- a verb with a number alone, and with HEX of a message alone
 unfoldable pub numbered : Verb → ℕ → Said

@@ -1,5 +1,5 @@
 use Rattle.bench.proofs.Laws.{room-other}
-use Rattle.orders.specs.Line.{meant}
+use Rattle.orders.specs.Tells.{meant}
 use borrow.Author.Needs.{needs}
 use Rattle.bench.proofs.next_room.Statement.{statement}
 use Rattle.bench.proofs.next_room.Tie as tie

@@ -1,7 +1,8 @@
 use native.Mathlib.Omega.{arith}
 use mathlib.Core.Path.{refl}
 use Rattle.bench.proofs.Laws.{is-count, is-feed, lies, short, save-short, event-line}
-use Rattle.orders.specs.Line.{ascii, meant}
+use Rattle.words.specs.Words.{ascii}
+use Rattle.orders.specs.Tells.{meant}
 use borrow.Author.Needs.{needs}
 use Rattle.bench.proofs.obey.Statement.{statement}
 use Rattle.bench.proofs.obey.Tie as tie

@@ -1,6 +1,6 @@
 use native.Mathlib.Omega.{arith}
 use Rattle.bench.proofs.Laws.{lies, short, event-other}
-use Rattle.orders.specs.Line.{meant}
+use Rattle.orders.specs.Tells.{meant}
 use borrow.Author.Needs.{needs}
 use Rattle.bench.proofs.on_event.Statement.{statement}
 use Rattle.bench.proofs.on_event.Tie as tie

@@ -1,6 +1,6 @@
 use native.Mathlib.Omega.{arith}
 use Rattle.bench.proofs.Laws.{is-count}
-use Rattle.orders.specs.Line.{ascii}
+use Rattle.words.specs.Words.{ascii}
 use borrow.Author.Needs.{needs}
 use Rattle.bench.proofs.on_restore.Statement.{statement}
 use Rattle.bench.proofs.on_restore.Tie as tie

@@ -1,5 +1,5 @@
 use Rattle.bench.proofs.Laws.{is-event}
-use Rattle.orders.specs.Line.{ascii}
+use Rattle.words.specs.Words.{ascii}
 use borrow.Author.Needs.{needs}
 use Rattle.bench.proofs.on_take.Statement.{statement}
 use Rattle.bench.proofs.on_take.Tie as tie

@@ -1,7 +1,7 @@
 use native.Mathlib.Omega.{arith}
 use Rattle.bench.proofs.Laws.{feed-nothing, feed-listed}
 use Rattle.bench.specs.Text.{feedLine}
-use Rattle.orders.specs.Line.{ascii}
+use Rattle.words.specs.Words.{ascii}
 use borrow.Author.Needs.{needs}
 use Rattle.bench.proofs.put_feed.Statement.{statement}
 use Rattle.bench.proofs.put_feed.Tie as tie

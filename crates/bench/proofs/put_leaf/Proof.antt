@@ -1,7 +1,7 @@
 use native.Mathlib.Omega.{arith}
 use Rattle.bench.proofs.Laws.{adds-none}
 use Rattle.bench.specs.Text.{leafText}
-use Rattle.orders.specs.Line.{ascii}
+use Rattle.words.specs.Words.{ascii}
 use borrow.Author.Needs.{needs}
 use Rattle.bench.proofs.put_leaf.Statement.{statement}
 use Rattle.bench.proofs.put_leaf.Tie as tie

@@ -2,7 +2,7 @@ use native.Mathlib.Omega.{arith}
 use mathlib.Core.Path.{refl, sym}
 use lib.Seq.{length-take-le}
 use Rattle.bench.proofs.Laws.{keeps-line, keeps-long}
-use Rattle.orders.specs.Line.{ascii}
+use Rattle.words.specs.Words.{ascii}
 use borrow.Author.Needs.{needs}
 use Rattle.bench.proofs.reply.Statement.{statement}
 use Rattle.bench.proofs.reply.Tie as tie

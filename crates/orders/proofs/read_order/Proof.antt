@@ -1,8 +1,9 @@
 use native.Mathlib.Omega.{arith}
 use lib.ListN.{length}
 use borrow.Author.Tests.{le-leb, lt-leb}
-use Rattle.orders.specs.Line.{orderOf, saidBy, meant}
-use Rattle.orders.proofs.Laws.{word-none, word-some}
+use Rattle.verbs.specs.Line.{orderOf, saidBy}
+use Rattle.orders.specs.Tells.{meant}
+use Rattle.words.proofs.Laws.{word-none, word-some}
 use borrow.Author.Needs.{needs}
 use Rattle.orders.proofs.read_order.Statement.{statement}
 use Rattle.orders.proofs.read_order.Tie as tie

@@ -1,4 +1,5 @@
-use Rattle.orders.specs.Line.{does, meant}
+use Rattle.verbs.specs.Line.{does}
+use Rattle.orders.specs.Tells.{meant}
 use Rattle.orders.proofs.Verbs.{none-bad}
 use borrow.Author.Needs.{needs}
 use Rattle.orders.proofs.with_none.Statement.{statement}

@@ -1,5 +1,5 @@
 use mathlib.Core.Path.{sym, _∙_}
-use Rattle.orders.specs.Line.{meant}
+use Rattle.orders.specs.Tells.{meant}
 use Rattle.orders.specs.Scan.{numbered}
 use Rattle.orders.proofs.Verbs.{tells-bad, as-number, no-as-number, numbered-other}
 use borrow.Author.Needs.{needs}

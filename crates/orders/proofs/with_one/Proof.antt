@@ -1,5 +1,5 @@
 use Rattle.orders.proofs.Verbs.{one-number-does, one-hex-does}
-use Rattle.orders.specs.Line.{does}
+use Rattle.verbs.specs.Line.{does}
 use borrow.Author.Needs.{needs}
 use Rattle.orders.proofs.with_one.Statement.{statement}
 use Rattle.orders.proofs.with_one.Tie as tie

@@ -1,4 +1,4 @@
-use Rattle.orders.specs.Line.{meant}
+use Rattle.orders.specs.Tells.{meant}
 use Rattle.orders.proofs.Verbs.{tells-bad, one-save, no-save, save-lies}
 use borrow.Author.Needs.{needs}
 use Rattle.orders.proofs.with_save.Statement.{statement}

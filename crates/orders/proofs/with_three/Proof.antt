@@ -1,5 +1,6 @@
 use mathlib.Core.Path.{_∙_}
-use Rattle.orders.specs.Line.{Said, does, meant}
+use Rattle.verbs.specs.Line.{Said, does}
+use Rattle.orders.specs.Tells.{meant}
 use Rattle.orders.proofs.Verbs.{first-of-numbers, no-first-of-numbers, first-number, no-first-number, one-hex, no-hex, lies, three-bad}
 use borrow.Author.Needs.{needs}
 use Rattle.orders.proofs.with_three.Statement.{statement}

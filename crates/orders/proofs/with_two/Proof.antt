@@ -1,6 +1,7 @@
 use mathlib.Core.Path.{_∙_}
 use lib.ListN.{take}
-use Rattle.orders.specs.Line.{Said, does, meant}
+use Rattle.verbs.specs.Line.{Said, does}
+use Rattle.orders.specs.Tells.{meant}
 use Rattle.orders.proofs.Verbs.{one-number, no-number, first-number, no-first-number, one-hex, no-hex, first-hex, no-first-hex, lies, two-bad}
 use borrow.Author.Needs.{needs}
 use Rattle.orders.proofs.with_two.Statement.{statement}

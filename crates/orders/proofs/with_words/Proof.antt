@@ -1,4 +1,4 @@
-use Rattle.orders.proofs.Laws.{word-none, word-some}
+use Rattle.words.proofs.Laws.{word-none, word-some}
 use Rattle.orders.proofs.Verbs.{more-bad}
 use borrow.Author.Needs.{needs}
 use Rattle.orders.proofs.with_words.Statement.{statement}
