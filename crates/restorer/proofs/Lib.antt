@@ -1,4 +1,1 @@
-pub mod Read
-pub mod Rows
-pub mod Labels
 pub mod Whole

@@ -1,0 +1,69 @@
+// The fields of a save's records, read: the octets in a space, and a name.
+ghost use mathlib.Core.Path.{_≡_};
+ghost use mathlib.Core.List.{[], _∷_, _++_};
+ghost use Prim.Native.Nat.{_≤_, _<_};
+ghost use lib.ListN.{length, take, drop};
+ghost use Rattle.meaning.specs.Octets.{pick, two};
+ghost use lib.Dec.{eqb};
+ghost use Rattle.meaning.specs.Save.{spacedIn, nameIn};
+ghost use Rattle.table.specs.Memory.{upTo};
+
+fn at_most(n: usize, k: usize) -> usize
+    ensures { λ r. ⌜ (r ≡ upTo k n) × (r ≤ k) ⌝ }
+{
+    if n < k { n } else { k }
+}
+
+// The octets that stand in a space of n, with their number before them.
+pub fn spaced(octets: &[u8], at: usize, n: usize) -> &[u8]
+    ensures { λ r. ⌜ (now r ≡ spacedIn n (drop at (now (octets .entry)))) × (length (now r) ≤ n) ⌝ }
+{
+    if octets.len() <= at {
+        return &octets[0..0];
+    }
+    let k = octets::at(octets, at) as usize;
+    let s = at + 1;
+    let e = s + at_most(at_most(k, n), octets.len() - s);
+    &octets[s..e]
+}
+
+// The address family of a root, by its length.
+fn family(k: usize) -> u8
+    ensures { λ r. ⌜ r ≡ pick (eqb k 4) 1 2 ⌝ }
+{
+    if k == 4 { 1 } else { 2 }
+}
+
+// What stands before the root in a name: the element's type, the family by the root's length, and that length.
+fn put_head(out: &mut [u8], k: usize)
+    requires { ⌜ (length (now out) ≡ 4) × (k ≤ 16) ⌝ }
+    ensures { λ _. ⌜ now (out .exit) ≡ 6 ∷ (two (pick (eqb k 4) 1 2) ++ (k ∷ [])) ⌝ }
+{
+    let head = [6, 0, family(k), k as u8];
+    octets::copy(out, &head);
+}
+
+fn put_two(out: &mut [u8], n: usize)
+    requires { ⌜ (length (now out) ≡ 2) × (n ≤ 32) ⌝ }
+    ensures { λ _. ⌜ now (out .exit) ≡ two n ⌝ }
+{
+    let both = [0, n as u8];
+    octets::copy(out, &both);
+}
+
+// The name whose root and opaque value stand at a place, at the front of a buffer; its length.
+pub fn put_name(octets: &[u8], at: usize, out: &mut [u8]) -> usize
+    requires { ⌜ (length (now out) ≡ 54) × (at < 1073741824) ⌝ }
+    ensures { λ r. ⌜ (take r (now (out .exit)) ≡ nameIn (drop at (now (octets .entry)))) × (r ≤ 54) ⌝ }
+{
+    let root = spaced(octets, at, 16);
+    let opaque = spaced(octets, at + 17, 32);
+    let a = 4 + root.len();
+    let b = a + 2;
+    let e = b + opaque.len();
+    put_head(&mut out[0..4], root.len());
+    octets::copy(&mut out[4..a], root);
+    put_two(&mut out[a..b], opaque.len());
+    octets::copy(&mut out[b..e], opaque);
+    e
+}
