@@ -3,7 +3,7 @@ use Prim.Native.Nat.{_-_, _≤_, _<_}
 use native.Mathlib.Omega.{arith}
 use mathlib.Core.Path.{refl}
 use borrow.Author.Needs.{needs}
-use Rattle.saver.proofs.Parts.{Rows, rows-none, rows-room, rows-more, rows-done}
+use Rattle.recorder.proofs.Rows.{Rows, rows-none, rows-room, rows-more, rows-done}
 use Rattle.saver.proofs.Laws.{labelRow, labels-lot}
 use Rattle.saver.proofs.put_labels.Statement.{statement}
 use Rattle.saver.proofs.put_labels.Tie as tie

@@ -3,8 +3,8 @@ use Prim.Native.Nat.{_-_, _<_}
 use native.Mathlib.Omega.{arith}
 use borrow.Author.Needs.{needs}
 use Rattle.table.specs.Memory.{routeCount, routeIn}
-use Rattle.saver.proofs.Parts.{Rows, rows-none, rows-room, rows-lent, rows-done}
-use Rattle.saver.proofs.Sizes.{route-length}
+use Rattle.recorder.proofs.Rows.{Rows, rows-none, rows-room, rows-lent, rows-done}
+use Rattle.recorder.proofs.Sizes.{route-length}
 use Rattle.saver.proofs.Laws.{routeRow, routes-lot}
 use Rattle.saver.proofs.put_routes.Statement.{statement}
 use Rattle.saver.proofs.put_routes.Tie as tie

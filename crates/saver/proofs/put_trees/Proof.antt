@@ -6,7 +6,7 @@ use Rattle.meaning.specs.Save.{treeSaved}
 use Rattle.table.proofs.Memory.{tree-at}
 use borrow.Author.Needs.{needs}
 use Rattle.table.specs.Memory.{treeCount}
-use Rattle.saver.proofs.Parts.{Rows, rows-none, rows-room, rows-lent, rows-done}
+use Rattle.recorder.proofs.Rows.{Rows, rows-none, rows-room, rows-lent, rows-done}
 use Rattle.saver.proofs.Laws.{treeRow, trees-lot, tree-size}
 use Rattle.saver.proofs.put_trees.Statement.{statement}
 use Rattle.saver.proofs.put_trees.Tie as tie

@@ -4,7 +4,7 @@ use Rattle.saver.proofs.Laws.{parts-length, parts-laid}
 use borrow.Author.Needs.{needs}
 use Rattle.saver.proofs.write_save.Statement.{statement}
 use Rattle.saver.proofs.write_save.Tie as tie
-use Rattle.saver.proofs.put_head.Reads as put-head-reads
+use Rattle.recorder.proofs.put_head.Reads as put-head-reads
 use Rattle.saver.proofs.put_labels.Reads as put-labels-reads
 use Rattle.saver.proofs.put_routes.Reads as put-routes-reads
 use Rattle.saver.proofs.put_trees.Reads as put-trees-reads

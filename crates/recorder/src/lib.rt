@@ -1,0 +1,141 @@
+// The records of a save, each written to a place of its own size: docs/SAVE.md draws them.
+ghost use mathlib.Core.Path.{_≡_};
+ghost use mathlib.Core.Bool.{false};
+ghost use mathlib.Core.List.{List, _∷_, _++_};
+ghost use Prim.Native.Nat.{ℕ, _+_, _<_};
+ghost use lib.ListN.{length};
+ghost use Rattle.meaning.specs.Octets.{pick, four};
+ghost use Rattle.meaning.specs.Card.{treeAt};
+ghost use Rattle.meaning.specs.Save.{nameSaved, marked, headSaved, routeSaved, foursOf, treeSaved, useSaved};
+ghost use Rattle.table.specs.Memory.{cardOf, baseIn, treeCount, routeIn, isFreeAt, labelIn};
+
+// ---- the head
+
+pub fn put_head(numbers: &[u64], out: &mut [u8])
+    requires { ⌜ (length (now numbers) ≡ 1448) × (length (now out) ≡ 15) ⌝ }
+    ensures { λ _. ⌜ ((os : List ℕ) → now (out .exit) ≡ headSaved (cardOf (now (numbers .entry)) os)) ⌝ }
+{
+    let base = table::base(numbers);
+    let next = table::next_id(numbers);
+    let uses = 256 - table::free_labels(numbers);
+    let head = [
+        0x4c,
+        0x53,
+        1,
+        (base / 16777216 % 256) as u8,
+        (base / 65536 % 256) as u8,
+        (base / 256 % 256) as u8,
+        (base % 256) as u8,
+        (next / 16777216 % 256) as u8,
+        (next / 65536 % 256) as u8,
+        (next / 256 % 256) as u8,
+        (next % 256) as u8,
+        table::route_count(numbers) as u8,
+        table::tree_count(numbers) as u8,
+        (uses / 256 % 256) as u8,
+        (uses % 256) as u8,
+    ];
+    octets::copy(out, &head);
+}
+
+// ---- a route
+
+pub fn put_route(numbers: &[u64], names: &[u8], i: usize, out: &mut [u8])
+    requires { ⌜ (length (now numbers) ≡ 1448) × (length (now names) ≡ 18144) × (i < 32) × (length (now out) ≡ 21) ⌝ }
+    ensures { λ _. ⌜ now (out .exit) ≡ routeSaved (routeIn (now (numbers .entry)) (now (names .entry)) i) ⌝ }
+{
+    let head = [0x4c, 0x53, 2, (table::route_via(numbers, i) % 256) as u8];
+    octets::copy(&mut out[0..4], &head);
+    texts::put_space(&mut out[4..21], 16, table::root_name(names, i));
+}
+
+// ---- a tree
+
+// A number in four octets.
+fn put_four(out: &mut [u8], n: u64)
+    requires { ⌜ length (now out) ≡ 4 ⌝ }
+    ensures { λ _. ⌜ now (out .exit) ≡ four n ⌝ }
+{
+    let octets = [
+        (n / 16777216 % 256) as u8,
+        (n / 65536 % 256) as u8,
+        (n / 256 % 256) as u8,
+        (n % 256) as u8,
+    ];
+    octets::copy(out, &octets);
+}
+
+// The sixteen branch labels of the tree at place i.
+fn put_branches(numbers: &[u64], i: usize, out: &mut [u8])
+    requires { ⌜ (length (now numbers) ≡ 1448) × (i < treeCount (now numbers)) × (i < 64) × (length (now out) ≡ 64) ⌝ }
+    ensures { λ _. ⌜ ((os : List ℕ) → now (out .exit) ≡ foursOf (treeAt i (cardOf (now (numbers .entry)) os) .branches)) ⌝ }
+{
+    let mut k = 0;
+    while k < 16 {
+        let a = k * 4;
+        let e = a + 4;
+        put_four(&mut out[a..e], table::branch(numbers, i, k));
+        k += 1;
+    }
+}
+
+fn leaf_octet(numbers: &[u64], i: usize) -> u8
+    requires { ⌜ (length (now numbers) ≡ 1448) × (i < treeCount (now numbers)) × (i < 64) ⌝ }
+    ensures { λ r. ⌜ ((os : List ℕ) → r ≡ pick (treeAt i (cardOf (now (numbers .entry)) os) .leaf) 1 0) ⌝ }
+{
+    if table::is_leaf(numbers, i) { 1 } else { 0 }
+}
+
+pub fn put_tree(numbers: &[u64], names: &[u8], i: usize, out: &mut [u8])
+    requires { ⌜ (length (now numbers) ≡ 1448) × (length (now names) ≡ 18144) × (i < treeCount (now numbers)) × (i < 64) × (length (now out) ≡ 118) ⌝ }
+    ensures { λ _. ⌜ now (out .exit) ≡ treeSaved (treeAt i (cardOf (now (numbers .entry)) (now (names .entry)))) ⌝ }
+{
+    let head = [0x4c, 0x53, 3];
+    octets::copy(&mut out[0..3], &head);
+    texts::put_name(&mut out[3..53], table::tree_name(names, i));
+    let leaf = [leaf_octet(numbers, i)];
+    octets::copy(&mut out[53..54], &leaf);
+    put_branches(numbers, i, &mut out[54..118]);
+}
+
+// ---- a label in use
+
+// A label in state 1, mapped to the neighbour, or 2, awaiting release from it.
+fn put_state(out: &mut [u8], label: u64, state: u8, neighbour: u64, name: &[u8])
+    requires { ⌜ (length (now out) ≡ 59) × (neighbour < 256) ⌝ }
+    ensures { λ _. ⌜ now (out .exit) ≡ marked 4 (four label ++ (state ∷ neighbour ∷ nameSaved (now (name .entry)))) ⌝ }
+{
+    let head = [
+        0x4c,
+        0x53,
+        4,
+        (label / 16777216 % 256) as u8,
+        (label / 65536 % 256) as u8,
+        (label / 256 % 256) as u8,
+        (label % 256) as u8,
+        state,
+        neighbour as u8,
+    ];
+    octets::copy(&mut out[0..9], &head);
+    texts::put_name(&mut out[9..59], name);
+}
+
+// The label at place p of the block, which is not free.
+pub fn put_use(numbers: &[u64], names: &[u8], p: usize, out: &mut [u8])
+    requires { ⌜ (length (now numbers) ≡ 1448) × (length (now names) ≡ 18144) × (p < 256) × (isFreeAt (now numbers) p ≡ false) × (length (now out) ≡ 59) ⌝ }
+    ensures { λ _. ⌜ now (out .exit) ≡ useSaved (baseIn (now (numbers .entry)) + p) (labelIn (now (numbers .entry)) (now (names .entry)) p) ⌝ }
+{
+    let label = table::base(numbers) + p as u64;
+    let n = table::mapped_at(numbers, p);
+    if n == 17 {
+        put_state(
+            out,
+            label,
+            2,
+            table::awaited_at(numbers, p),
+            table::label_name(names, p),
+        );
+    } else {
+        put_state(out, label, 1, n, table::label_name(names, p));
+    }
+}
