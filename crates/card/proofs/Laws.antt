@@ -20,7 +20,7 @@ use Rattle.table.specs.Memory.{cardOf, baseIn, treeCount, markAt, markUse, isFr
 use Rattle.table.proofs.Memory.{trees-length}
 use Rattle.table.proofs.Marks.{label-free, label-mapped, label-awaiting}
 use Rattle.table.proofs.Laws.{use-in}
-use Rattle.trees.specs.End.{joinOf, leaveOf}
+use Rattle.leaves.specs.Order.{joinOf, leaveOf}
 use Rattle.trees.proofs.Laws.{does-refused, standing-at, not-standing}
 use Rattle.routes.specs.Order.{routeOrder}
 use Rattle.card.specs.Calls.{feedIn, onRead}

@@ -47,13 +47,13 @@ fn on_message(
         (now (answer .exit)) r (now (out .entry)) (now (out .exit)) (cardOf (now (numbers .exit)) (now (names .exit))) ⌝ }
 {
     if kind == 0x0400 {
-        return trees::map(numbers, names, n, name, label, out, answer);
+        return mappings::map(numbers, names, n, name, label, out, answer);
     }
     if kind == 0x0402 {
-        return trees::withdraw(numbers, names, n, name, label, out, answer);
+        return withdrawals::withdraw(numbers, names, n, name, label, out, answer);
     }
     if kind == 0x0403 {
-        trees::release(numbers, names, n, name, label, answer);
+        withdrawals::release(numbers, names, n, name, label, answer);
         return 0;
     }
     *answer = 3;
@@ -146,7 +146,7 @@ pub fn join_core(
         *answer = refusal;
         return 0;
     }
-    trees::join(numbers, names, element, out, answer)
+    leaves::join(numbers, names, element, out, answer)
 }
 
 pub fn join<'a>(
@@ -178,7 +178,7 @@ pub fn leave_core(
         *answer = refusal;
         return 0;
     }
-    trees::leave(numbers, names, element, out, answer)
+    leaves::leave(numbers, names, element, out, answer)
 }
 
 pub fn leave<'a>(

@@ -1,6 +1,5 @@
 use mathlib.Core.Bool.{true, false}
-use mathlib.Core.Path.{sym, ap, _∙_}
-use Prim.Native.Nat.{_+_}
+use mathlib.Core.Path.{ap, _∙_}
 use native.Mathlib.Omega.{arith}
 use Rattle.meaning.specs.Card.{withNext}
 use Rattle.moves.proofs.Laws.{relabel-stays}

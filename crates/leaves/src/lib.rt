@@ -1,0 +1,131 @@
+// A leaf that joins a tree or leaves one. Each tests all its refusals, 16 too, before it changes the table or writes an octet.
+ghost use mathlib.Core.Path.{_≡_};
+ghost use Prim.Native.Nat.{_≤_, _<_};
+ghost use lib.ListN.{length};
+ghost use Rattle.meaning.specs.Card.{treeAt, treePlace};
+ghost use Rattle.meaning.specs.Events.{finish};
+ghost use Rattle.meaning.specs.Calls.{Does};
+ghost use Rattle.table.specs.Memory.{cardOf, treeCount};
+ghost use Rattle.leaves.specs.Order.{joinOf, leaveOf};
+
+// A leaf joins the tree at place i.
+fn join_standing(
+    numbers: &mut [u64],
+    names: &mut [u8],
+    i: usize,
+    out: &mut [u8],
+    answer: &mut u32,
+) -> usize
+    requires { ⌜ (length (now numbers) ≡ 1448) × (length (now names) ≡ 18144) × (i < treeCount (now numbers)) × (i < 64)
+        × (i ≡ treePlace (treeAt i (cardOf (now numbers) (now names)) .name) (cardOf (now numbers) (now names))) ⌝ }
+    ensures { λ r. ⌜ Does (finish (length (now (out .entry))) (cardOf (now (numbers .entry)) (now (names .entry))) (joinOf (cardOf (now (numbers .entry)) (now (names .entry))) (treeAt i (cardOf (now (numbers .entry)) (now (names .entry))) .name)))
+        (now (answer .exit)) r (now (out .entry)) (now (out .exit)) (cardOf (now (numbers .exit)) (now (names .exit))) ⌝ }
+{
+    let u = trees::leaf_holder(numbers, names, i, true);
+    let refusal = trees::standing_refusal(numbers, names, i, u, 0, out.len());
+    if refusal != 0 {
+        *answer = refusal;
+        return 0;
+    }
+    let id = table::next_id(numbers);
+    table::set_leaf(numbers, i, true);
+    *answer = 0;
+    trees::settle(numbers, names, i, u, false, out, 0, id)
+}
+
+// A leaf joins a tree that does not stand.
+fn join_new(
+    numbers: &mut [u64],
+    names: &mut [u8],
+    name: &[u8],
+    out: &mut [u8],
+    answer: &mut u32,
+) -> usize
+    requires { ⌜ (length (now numbers) ≡ 1448) × (length (now names) ≡ 18144) × (length (now name) ≤ 54) × (treePlace (now name) (cardOf (now numbers) (now names)) ≡ treeCount (now numbers)) ⌝ }
+    ensures { λ r. ⌜ Does (finish (length (now (out .entry))) (cardOf (now (numbers .entry)) (now (names .entry))) (joinOf (cardOf (now (numbers .entry)) (now (names .entry))) (now (name .entry))))
+        (now (answer .exit)) r (now (out .entry)) (now (out .exit)) (cardOf (now (numbers .exit)) (now (names .exit))) ⌝ }
+{
+    let u = moves::upstream_of(numbers, names, name);
+    let refusal = trees::new_refusal(numbers, u, writer::record_size(name), out.len());
+    if refusal != 0 {
+        *answer = refusal;
+        return 0;
+    }
+    let place = table::tree_count(numbers);
+    let id = table::next_id(numbers);
+    rows::enter_tree(numbers, names, name);
+    table::set_leaf(numbers, place, true);
+    *answer = 0;
+    trees::grow(numbers, names, place, u, out, id)
+}
+
+pub fn join(
+    numbers: &mut [u64],
+    names: &mut [u8],
+    name: &[u8],
+    out: &mut [u8],
+    answer: &mut u32,
+) -> usize
+    requires { ⌜ (length (now numbers) ≡ 1448) × (length (now names) ≡ 18144) × (length (now name) ≤ 54) ⌝ }
+    ensures { λ r. ⌜ Does (finish (length (now (out .entry))) (cardOf (now (numbers .entry)) (now (names .entry))) (joinOf (cardOf (now (numbers .entry)) (now (names .entry))) (now (name .entry))))
+        (now (answer .exit)) r (now (out .entry)) (now (out .exit)) (cardOf (now (numbers .exit)) (now (names .exit))) ⌝ }
+{
+    let i = table::tree_place(numbers, names, name);
+    if i < table::tree_count(numbers) {
+        return join_standing(numbers, names, i, out, answer);
+    }
+    join_new(numbers, names, name, out, answer)
+}
+
+// The leaf of the tree at place i leaves.
+fn leave_standing(
+    numbers: &mut [u64],
+    names: &mut [u8],
+    i: usize,
+    out: &mut [u8],
+    answer: &mut u32,
+) -> usize
+    requires { ⌜ (length (now numbers) ≡ 1448) × (length (now names) ≡ 18144) × (i < treeCount (now numbers)) × (i < 64)
+        × (i ≡ treePlace (treeAt i (cardOf (now numbers) (now names)) .name) (cardOf (now numbers) (now names))) ⌝ }
+    ensures { λ r. ⌜ Does (finish (length (now (out .entry))) (cardOf (now (numbers .entry)) (now (names .entry))) (leaveOf (cardOf (now (numbers .entry)) (now (names .entry))) (treeAt i (cardOf (now (numbers .entry)) (now (names .entry))) .name)))
+        (now (answer .exit)) r (now (out .entry)) (now (out .exit)) (cardOf (now (numbers .exit)) (now (names .exit))) ⌝ }
+{
+    let empty = !table::any_branch(numbers, i, 16, 0, 16);
+    let u = trees::leaf_holder(numbers, names, i, false);
+    if !table::is_leaf(numbers, i) {
+        *answer = if moves::labels_short(numbers, i, u) {
+            12
+        } else {
+            14
+        };
+        return 0;
+    }
+    let refusal = trees::standing_refusal(numbers, names, i, u, 0, out.len());
+    if refusal != 0 {
+        *answer = refusal;
+        return 0;
+    }
+    let id = table::next_id(numbers);
+    table::set_leaf(numbers, i, false);
+    *answer = 0;
+    trees::settle(numbers, names, i, u, empty, out, 0, id)
+}
+
+pub fn leave(
+    numbers: &mut [u64],
+    names: &mut [u8],
+    name: &[u8],
+    out: &mut [u8],
+    answer: &mut u32,
+) -> usize
+    requires { ⌜ (length (now numbers) ≡ 1448) × (length (now names) ≡ 18144) ⌝ }
+    ensures { λ r. ⌜ Does (finish (length (now (out .entry))) (cardOf (now (numbers .entry)) (now (names .entry))) (leaveOf (cardOf (now (numbers .entry)) (now (names .entry))) (now (name .entry))))
+        (now (answer .exit)) r (now (out .entry)) (now (out .exit)) (cardOf (now (numbers .exit)) (now (names .exit))) ⌝ }
+{
+    let i = table::tree_place(numbers, names, name);
+    if i < table::tree_count(numbers) {
+        return leave_standing(numbers, names, i, out, answer);
+    }
+    *answer = 14;
+    0
+}

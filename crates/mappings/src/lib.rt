@@ -1,0 +1,100 @@
+// A Mapping. It tests all its refusals, 16 too, before it changes the table or writes an octet.
+ghost use mathlib.Core.Path.{_≡_};
+ghost use mathlib.Core.List.{List};
+ghost use Prim.Native.Nat.{ℕ, _≤_, _<_};
+ghost use lib.ListN.{length};
+ghost use Rattle.meaning.specs.Card.{treeAt, treePlace};
+ghost use Rattle.meaning.specs.Events.{finish, otherLabel, onMapping};
+ghost use Rattle.meaning.specs.Calls.{Does};
+ghost use Rattle.table.specs.Memory.{cardOf, treeCount};
+
+// 10: neighbour n's branch of the tree at place i stands with another label.
+fn other_label(numbers: &[u64], i: usize, n: usize, label: u64) -> bool
+    requires { ⌜ (length (now numbers) ≡ 1448) × (i < treeCount (now numbers)) × (i < 64) × (n < 16) ⌝ }
+    ensures { λ r. ⌜ ((os : List ℕ) → r ≡ otherLabel (treeAt i (cardOf (now (numbers .entry)) os)) n label) ⌝ }
+{
+    let b = table::branch(numbers, i, n);
+    if b == 0 {
+        return false;
+    }
+    b != label
+}
+
+// A Mapping to the tree at place i.
+fn map_standing(
+    numbers: &mut [u64],
+    names: &mut [u8],
+    i: usize,
+    n: usize,
+    label: u64,
+    out: &mut [u8],
+    answer: &mut u32,
+) -> usize
+    requires { ⌜ (length (now numbers) ≡ 1448) × (length (now names) ≡ 18144) × (i < treeCount (now numbers)) × (i < 64) × (n < 16) × (16 ≤ label)
+        × (i ≡ treePlace (treeAt i (cardOf (now numbers) (now names)) .name) (cardOf (now numbers) (now names))) ⌝ }
+    ensures { λ r. ⌜ Does (finish (length (now (out .entry))) (cardOf (now (numbers .entry)) (now (names .entry))) (onMapping (cardOf (now (numbers .entry)) (now (names .entry))) n (treeAt i (cardOf (now (numbers .entry)) (now (names .entry))) .name) label))
+        (now (answer .exit)) r (now (out .entry)) (now (out .exit)) (cardOf (now (numbers .exit)) (now (names .exit))) ⌝ }
+{
+    if other_label(numbers, i, n, label) {
+        *answer = 10;
+        return 0;
+    }
+    let u = trees::branch_holder(numbers, names, i, n, label);
+    let refusal = trees::standing_refusal(numbers, names, i, u, 0, out.len());
+    if refusal != 0 {
+        *answer = refusal;
+        return 0;
+    }
+    let id = table::next_id(numbers);
+    table::set_branch(numbers, i, n, label);
+    *answer = 0;
+    trees::settle(numbers, names, i, u, false, out, 0, id)
+}
+
+// A Mapping of a tree that does not stand.
+fn map_new(
+    numbers: &mut [u64],
+    names: &mut [u8],
+    n: usize,
+    name: &[u8],
+    label: u64,
+    out: &mut [u8],
+    answer: &mut u32,
+) -> usize
+    requires { ⌜ (length (now numbers) ≡ 1448) × (length (now names) ≡ 18144) × (n < 16) × (16 ≤ label) × (length (now name) ≤ 54) × (treePlace (now name) (cardOf (now numbers) (now names)) ≡ treeCount (now numbers)) ⌝ }
+    ensures { λ r. ⌜ Does (finish (length (now (out .entry))) (cardOf (now (numbers .entry)) (now (names .entry))) (onMapping (cardOf (now (numbers .entry)) (now (names .entry))) n (now (name .entry)) label))
+        (now (answer .exit)) r (now (out .entry)) (now (out .exit)) (cardOf (now (numbers .exit)) (now (names .exit))) ⌝ }
+{
+    let u = trees::new_holder(numbers, names, name, n);
+    let refusal = trees::new_refusal(numbers, u, writer::record_size(name), out.len());
+    if refusal != 0 {
+        *answer = refusal;
+        return 0;
+    }
+    let place = table::tree_count(numbers);
+    let id = table::next_id(numbers);
+    rows::enter_tree(numbers, names, name);
+    table::set_branch(numbers, place, n, label);
+    *answer = 0;
+    trees::grow(numbers, names, place, u, out, id)
+}
+
+pub fn map(
+    numbers: &mut [u64],
+    names: &mut [u8],
+    n: usize,
+    name: &[u8],
+    label: u64,
+    out: &mut [u8],
+    answer: &mut u32,
+) -> usize
+    requires { ⌜ (length (now numbers) ≡ 1448) × (length (now names) ≡ 18144) × (n < 16) × (16 ≤ label) × (length (now name) ≤ 54) ⌝ }
+    ensures { λ r. ⌜ Does (finish (length (now (out .entry))) (cardOf (now (numbers .entry)) (now (names .entry))) (onMapping (cardOf (now (numbers .entry)) (now (names .entry))) n (now (name .entry)) label))
+        (now (answer .exit)) r (now (out .entry)) (now (out .exit)) (cardOf (now (numbers .exit)) (now (names .exit))) ⌝ }
+{
+    let i = table::tree_place(numbers, names, name);
+    if i < table::tree_count(numbers) {
+        return map_standing(numbers, names, i, n, label, out, answer);
+    }
+    map_new(numbers, names, n, name, label, out, answer)
+}
