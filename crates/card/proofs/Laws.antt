@@ -16,10 +16,10 @@ use Rattle.meaning.specs.Events.{Outcome, refused, unless, refuse, accept, fini
 use Rattle.meaning.specs.Calls.{Does}
 use Rattle.octets.specs.Part.{tab}
 use Rattle.octets.proofs.Tab.{tab-length}
-use Rattle.table.specs.Memory.{cardOf, baseIn, treeCount, markAt, markUse, isFreeAt, labelIn}
-use Rattle.table.proofs.Memory.{trees-length}
-use Rattle.table.proofs.Marks.{label-free, label-mapped, label-awaiting}
-use Rattle.table.proofs.Laws.{use-in}
+use Rattle.memory.specs.Memory.{cardOf, baseIn, treeCount, markAt, markUse, isFreeAt, labelIn}
+use Rattle.memory.proofs.Memory.{trees-length}
+use Rattle.memory.proofs.Marks.{label-free, label-mapped, label-awaiting}
+use Rattle.memory.proofs.Laws.{use-in}
 use Rattle.leaves.specs.Order.{joinOf, leaveOf}
 use Rattle.trees.proofs.Laws.{does-refused, standing-at, not-standing}
 use Rattle.routes.specs.Order.{routeOrder}

@@ -8,7 +8,7 @@ ghost use denote.Ref.{ptr};
 ghost use Rattle.meaning.specs.Card.{treeAt, feedOf, freeLabels, lookupLabel, lookupName, nothing};
 ghost use Rattle.meaning.specs.Events.{start, event, finish, onMessage, receive, join, leave, route, notRoot};
 ghost use Rattle.meaning.specs.Calls.{Does, Hands};
-ghost use Rattle.table.specs.Memory.{cardOf, treeCount};
+ghost use Rattle.memory.specs.Memory.{cardOf, treeCount};
 ghost use Rattle.card.specs.Calls.{feedIn, onRead};
 use reader::Read;
 
@@ -276,12 +276,12 @@ fn find_label(numbers: &[u64], label: u64, branches: &mut [u64; 16]) -> bool
     requires { ⌜ length (now numbers) ≡ 1448 ⌝ }
     ensures { λ r. ⌜ ((os : List ℕ) → feedIn (now (branches .exit)) r ≡ lookupLabel label (cardOf (now (numbers .entry)) os)) ⌝ }
 {
-    let sender = table::mapped_to(numbers, label);
+    let sender = labels::mapped_to(numbers, label);
     if sender == 17 {
         return no_feed(branches);
     }
     let i = table::carrier_place(numbers, label);
-    if i < table::tree_count(numbers) {
+    if i < memory::tree_count(numbers) {
         return feed_at(numbers, i, sender, branches);
     }
     no_feed(branches)
@@ -295,7 +295,7 @@ fn find_name(numbers: &[u64], names: &[u8], element: &[u8], branches: &mut [u64;
         return no_feed(branches);
     }
     let i = table::tree_place(numbers, names, element);
-    if i < table::tree_count(numbers) {
+    if i < memory::tree_count(numbers) {
         let via = table::route_of(numbers, names, reader::root_of(element));
         return feed_at(numbers, i, via, branches);
     }
@@ -338,5 +338,5 @@ pub fn lookup_name(numbers: &[u64; 1448], names: &[u8; 18144], element: &[u8]) -
 pub fn free_labels(numbers: &[u64; 1448]) -> u32
     ensures { λ r. ⌜ ((os : List ℕ) → r ≡ freeLabels (cardOf (now (numbers .entry)) os)) ⌝ }
 {
-    table::free_labels(numbers) as u32
+    labels::free_labels(numbers) as u32
 }

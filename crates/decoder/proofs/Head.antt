@@ -13,7 +13,7 @@ use Rattle.meaning.specs.RoundTrip.{both}
 use Rattle.meaning.specs.Card.{Tree, Use, free, Card, withTrees, withLabel, named}
 use Rattle.meaning.specs.Events.{baseOutside}
 use Rattle.meaning.specs.Save.{marked, headSaved, treesRead, usesRead, labelled, allLabelled, onceEach, sameName, keepsRules, saved, tableIn, isSave}
-use Rattle.table.proofs.Marks.{never}
+use Rattle.memory.proofs.Marks.{never}
 use Rattle.entries.specs.Stages.{treesBegin, rowsRead}
 use Rattle.entries.proofs.Rows.{routes-many, trees-many}
 

@@ -5,7 +5,7 @@ ghost use Prim.Native.Nat.{_≤_};
 ghost use lib.ListN.{length, getD};
 ghost use Rattle.meaning.specs.Octets.{fourAt};
 ghost use Rattle.meaning.specs.Save.{tableIn, isSave};
-ghost use Rattle.table.specs.Memory.{cardOf};
+ghost use Rattle.memory.specs.Memory.{cardOf};
 
 // Whether the head may be that of a save: its base is in range, and its routes, trees and labels are not too many.
 fn is_head(octets: &[u8]) -> bool

@@ -13,9 +13,9 @@ use Rattle.meaning.specs.Octets.{fourAt}
 use Rattle.meaning.specs.Card.{Route, Tree, Card, fresh, withNext, withRoutes, withTrees, withBranch, withLeaf, bare, treeAt}
 use Rattle.meaning.specs.Save.{spacedIn, nameIn, routeRead, treeRead, foursIn, routesRead, treesRead}
 use Rattle.octets.proofs.Laws.{front, front-more, copy-done}
-use Rattle.table.specs.Memory.{cardOf, treeCount, routeCount}
-use Rattle.table.proofs.Memory.{trees-length, routes-length}
-use Rattle.table.proofs.Laws.{branches-length}
+use Rattle.memory.specs.Memory.{cardOf, treeCount, routeCount}
+use Rattle.memory.proofs.Memory.{trees-length, routes-length}
+use Rattle.memory.proofs.Laws.{branches-length}
 use Rattle.entries.specs.Stages.{withBranches, headRead, treesBegin, rowsRead}
 use Rattle.fields.proofs.Read.{four-drop}
 

@@ -6,7 +6,7 @@ ghost use lib.ListN.{length, drop, set, getD};
 ghost use Rattle.meaning.specs.Octets.{fourAt};
 ghost use Rattle.meaning.specs.Card.{withRoutes, withTrees, bare, treeAt};
 ghost use Rattle.meaning.specs.Save.{nameIn, routeRead, treeRead, foursIn, routesRead, treesRead};
-ghost use Rattle.table.specs.Memory.{cardOf, treeCount, routeCount};
+ghost use Rattle.memory.specs.Memory.{cardOf, treeCount, routeCount};
 ghost use Rattle.entries.specs.Stages.{withBranches, rowsRead};
 
 // ---- routes
@@ -62,7 +62,7 @@ fn read_tree(octets: &[u8], at: usize, numbers: &mut [u64], names: &mut [u8])
     ensures { λ _. ⌜ cardOf (now (numbers .exit)) (now (names .exit))
         ≡ withTrees (cardOf (now (numbers .entry)) (now (names .entry)) .trees ++ (treeRead (drop at (now (octets .entry))) ∷ [])) (cardOf (now (numbers .entry)) (now (names .entry))) ⌝ }
 {
-    let i = table::tree_count(numbers);
+    let i = memory::tree_count(numbers);
     enter_name(octets, at + 3, numbers, names);
     let leaf = octets::at(octets, at + 53) != 0;
     table::set_leaf(numbers, i, leaf);
@@ -88,7 +88,7 @@ pub fn read_rows(octets: &[u8], numbers: &mut [u64], names: &mut [u8])
     ensures { λ _. ⌜ cardOf (now (numbers .exit)) (now (names .exit)) ≡ rowsRead (now (octets .entry)) ⌝ }
 {
     rows::start_fresh(numbers, octets::four_at(octets, 3));
-    table::set_next_id(numbers, octets::four_at(octets, 7) as u32);
+    memory::set_next_id(numbers, octets::four_at(octets, 7) as u32);
     let routes = octets::at(octets, 11) as usize;
     read_routes(octets, routes, numbers, names);
     let trees = octets::at(octets, 12) as usize;

@@ -14,7 +14,7 @@ use Rattle.meaning.specs.Wire.{element}
 use Rattle.meaning.specs.Save.{spacedIn, nameIn}
 use Rattle.octets.specs.Part.{mid}
 use Rattle.octets.proofs.Laws.{mid-length}
-use Rattle.table.specs.Memory.{upTo}
+use Rattle.memory.specs.Memory.{upTo}
 
 -- ---- numbers behind what was dropped
 

@@ -6,7 +6,7 @@ ghost use lib.ListN.{length, take, drop};
 ghost use Rattle.meaning.specs.Octets.{pick, two};
 ghost use lib.Dec.{eqb};
 ghost use Rattle.meaning.specs.Save.{spacedIn, nameIn};
-ghost use Rattle.table.specs.Memory.{upTo};
+ghost use Rattle.memory.specs.Memory.{upTo};
 
 fn at_most(n: usize, k: usize) -> usize
     ensures { λ r. ⌜ (r ≡ upTo k n) × (r ≤ k) ⌝ }

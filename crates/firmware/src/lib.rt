@@ -7,7 +7,7 @@ ghost use lib.ListN.{length};
 ghost use Rattle.meaning.specs.Card.{freeLabels, lookupLabel, lookupName};
 ghost use Rattle.meaning.specs.Events.{start, event, receive, join, leave, route};
 ghost use Rattle.meaning.specs.Calls.{Does};
-ghost use Rattle.table.specs.Memory.{cardOf};
+ghost use Rattle.memory.specs.Memory.{cardOf};
 ghost use Rattle.card.specs.Calls.{feedIn};
 
 #[no_mangle]

@@ -13,7 +13,7 @@ use Rattle.meaning.specs.Calls.{Hands}
 use Rattle.meaning.specs.Lists.{by-test}
 use Rattle.promise.specs.Promise.{Given, ofLabel, noteAll, noteTaken, feedBy, Step, Past, answerTo, sends, thenStep, thenSteps, history, Each, NoneLive, Leads, isWithdrawn, Promise}
 use Rattle.promise.specs.PromiseProof.{promise-kept}
-use Rattle.table.specs.Memory.{cardOf}
+use Rattle.memory.specs.Memory.{cardOf}
 
 -- ---- calls
 

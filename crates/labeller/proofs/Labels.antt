@@ -16,10 +16,10 @@ use Rattle.meaning.specs.Card.{Tree, Use, free, mapped, awaiting, Card, fresh, 
 use Rattle.meaning.specs.Events.{setLabel}
 use Rattle.meaning.specs.Save.{nameIn, useRead, usesRead, isMappedFor, labelled, allLabelled, onceEach, sameName, tableIn}
 use Rattle.octets.specs.Part.{tab}
-use Rattle.table.specs.Memory.{cardOf, baseIn, treeCount, isFreeAt, isMappedAt, labelIn, labelName}
-use Rattle.table.proofs.Memory.{base-range, trees-length, labels-length}
-use Rattle.table.proofs.Marks.{never, mapped-use, label-free, label-mapped}
-use Rattle.table.proofs.Laws.{label-at, awaited-is}
+use Rattle.memory.specs.Memory.{cardOf, baseIn, treeCount, isFreeAt, isMappedAt, labelIn, labelName}
+use Rattle.memory.proofs.Memory.{base-range, trees-length, labels-length}
+use Rattle.memory.proofs.Marks.{never, mapped-use, label-free, label-mapped}
+use Rattle.memory.proofs.Laws.{label-at, awaited-is}
 use Rattle.entries.specs.Stages.{headRead, treesBegin, rowsRead}
 use Rattle.fields.proofs.Read.{four-drop}
 use Rattle.entries.proofs.Rows.{trees-bare}

@@ -6,7 +6,7 @@ ghost use lib.ListN.{length, drop, set, getD};
 ghost use Rattle.meaning.specs.Octets.{place, fourAt};
 ghost use Rattle.meaning.specs.Card.{withTrees, withLabels, treeAt};
 ghost use Rattle.meaning.specs.Save.{useRead, usesRead, isMappedFor, labelled, allLabelled, sameName, onceEach, tableIn};
-ghost use Rattle.table.specs.Memory.{cardOf, treeCount, isMappedAt, labelIn};
+ghost use Rattle.memory.specs.Memory.{cardOf, treeCount, isMappedAt, labelIn};
 ghost use Rattle.entries.specs.Stages.{rowsRead};
 ghost use Rattle.labeller.specs.Labels.{Unlabelled, Ready};
 
@@ -24,7 +24,7 @@ fn read_use(octets: &[u8], at: usize, numbers: &mut [u64], names: &mut [u8])
     ensures { λ _. ⌜ cardOf (now (numbers .exit)) (now (names .exit))
         ≡ withLabels (set (cardOf (now (numbers .entry)) (now (names .entry)) .labels) (fourAt (drop at (now (octets .entry))) 3 - cardOf (now (numbers .entry)) (now (names .entry)) .base) (useRead (drop at (now (octets .entry))))) (cardOf (now (numbers .entry)) (now (names .entry))) ⌝ }
 {
-    let p = place_of(octets::four_at(octets, at + 3), table::base(numbers));
+    let p = place_of(octets::four_at(octets, at + 3), memory::base(numbers));
     if 256 <= p {
         return;
     }
@@ -53,10 +53,10 @@ fn is_mapped_for(numbers: &[u64], names: &[u8], p: usize, name: &[u8]) -> bool
     requires { ⌜ (length (now numbers) ≡ 1448) × (length (now names) ≡ 18144) × (p < 256) ⌝ }
     ensures { λ r. ⌜ (r ≡ isMappedFor (now (name .entry)) (labelIn (now (numbers .entry)) (now (names .entry)) p)) × (r ≡ true → isMappedAt (now (numbers .entry)) p ≡ true) ⌝ }
 {
-    if table::mapped_at(numbers, p) == 17 {
+    if labels::mapped_at(numbers, p) == 17 {
         return false;
     }
-    octets::equal(table::label_name(names, p), name)
+    octets::equal(labels::label_name(names, p), name)
 }
 
 // The place of the first label that is mapped for a name; 256 where none is.
@@ -91,7 +91,7 @@ fn label_trees(numbers: &mut [u64], names: &[u8])
     ensures { λ _. ⌜ cardOf (now (numbers .exit)) (now (names .entry))
         ≡ withTrees (allLabelled (cardOf (now (numbers .entry)) (now (names .entry)) .base) (cardOf (now (numbers .entry)) (now (names .entry)) .labels) (cardOf (now (numbers .entry)) (now (names .entry)) .trees)) (cardOf (now (numbers .entry)) (now (names .entry))) ⌝ }
 {
-    let n = table::tree_count(numbers);
+    let n = memory::tree_count(numbers);
     let mut i = 0;
     while i < n {
         label_tree(numbers, names, i);

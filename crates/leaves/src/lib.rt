@@ -5,7 +5,7 @@ ghost use lib.ListN.{length};
 ghost use Rattle.meaning.specs.Card.{treeAt, treePlace};
 ghost use Rattle.meaning.specs.Events.{finish};
 ghost use Rattle.meaning.specs.Calls.{Does};
-ghost use Rattle.table.specs.Memory.{cardOf, treeCount};
+ghost use Rattle.memory.specs.Memory.{cardOf, treeCount};
 ghost use Rattle.leaves.specs.Order.{joinOf, leaveOf};
 
 // A leaf joins the tree at place i.
@@ -27,7 +27,7 @@ fn join_standing(
         *answer = refusal;
         return 0;
     }
-    let id = table::next_id(numbers);
+    let id = memory::next_id(numbers);
     table::set_leaf(numbers, i, true);
     *answer = 0;
     trees::settle(numbers, names, i, u, false, out, 0, id)
@@ -51,8 +51,8 @@ fn join_new(
         *answer = refusal;
         return 0;
     }
-    let place = table::tree_count(numbers);
-    let id = table::next_id(numbers);
+    let place = memory::tree_count(numbers);
+    let id = memory::next_id(numbers);
     rows::enter_tree(numbers, names, name);
     table::set_leaf(numbers, place, true);
     *answer = 0;
@@ -71,7 +71,7 @@ pub fn join(
         (now (answer .exit)) r (now (out .entry)) (now (out .exit)) (cardOf (now (numbers .exit)) (now (names .exit))) ⌝ }
 {
     let i = table::tree_place(numbers, names, name);
-    if i < table::tree_count(numbers) {
+    if i < memory::tree_count(numbers) {
         return join_standing(numbers, names, i, out, answer);
     }
     join_new(numbers, names, name, out, answer)
@@ -105,7 +105,7 @@ fn leave_standing(
         *answer = refusal;
         return 0;
     }
-    let id = table::next_id(numbers);
+    let id = memory::next_id(numbers);
     table::set_leaf(numbers, i, false);
     *answer = 0;
     trees::settle(numbers, names, i, u, empty, out, 0, id)
@@ -123,7 +123,7 @@ pub fn leave(
         (now (answer .exit)) r (now (out .entry)) (now (out .exit)) (cardOf (now (numbers .exit)) (now (names .exit))) ⌝ }
 {
     let i = table::tree_place(numbers, names, name);
-    if i < table::tree_count(numbers) {
+    if i < memory::tree_count(numbers) {
         return leave_standing(numbers, names, i, out, answer);
     }
     *answer = 14;

@@ -6,7 +6,7 @@ ghost use lib.ListN.{length};
 ghost use Rattle.meaning.specs.Card.{treeAt, treePlace};
 ghost use Rattle.meaning.specs.Events.{finish, otherLabel, onMapping};
 ghost use Rattle.meaning.specs.Calls.{Does};
-ghost use Rattle.table.specs.Memory.{cardOf, treeCount};
+ghost use Rattle.memory.specs.Memory.{cardOf, treeCount};
 
 // 10: neighbour n's branch of the tree at place i stands with another label.
 fn other_label(numbers: &[u64], i: usize, n: usize, label: u64) -> bool
@@ -45,7 +45,7 @@ fn map_standing(
         *answer = refusal;
         return 0;
     }
-    let id = table::next_id(numbers);
+    let id = memory::next_id(numbers);
     table::set_branch(numbers, i, n, label);
     *answer = 0;
     trees::settle(numbers, names, i, u, false, out, 0, id)
@@ -71,8 +71,8 @@ fn map_new(
         *answer = refusal;
         return 0;
     }
-    let place = table::tree_count(numbers);
-    let id = table::next_id(numbers);
+    let place = memory::tree_count(numbers);
+    let id = memory::next_id(numbers);
     rows::enter_tree(numbers, names, name);
     table::set_branch(numbers, place, n, label);
     *answer = 0;
@@ -93,7 +93,7 @@ pub fn map(
         (now (answer .exit)) r (now (out .entry)) (now (out .exit)) (cardOf (now (numbers .exit)) (now (names .exit))) ⌝ }
 {
     let i = table::tree_place(numbers, names, name);
-    if i < table::tree_count(numbers) {
+    if i < memory::tree_count(numbers) {
         return map_standing(numbers, names, i, n, label, out, answer);
     }
     map_new(numbers, names, n, name, label, out, answer)

@@ -12,9 +12,9 @@ use Rattle.meaning.specs.Wire.{recordOf, nextId, records, idsAfter}
 use Rattle.meaning.specs.Card.{Tree, Card, free, mapped, treeAt, isFree, useOf, heldFor, freeLabels, lowestFree}
 use Rattle.meaning.specs.Events.{still, tell, setUse, setLabel, ended, giveUp, give, letGo, takeUp, moveLabel, relabel, needMove, need, labelsShort, upstream}
 use Rattle.octets.specs.Part.{mid}
-use Rattle.table.specs.Memory.{cardOf, baseIn, treeCount}
-use Rattle.table.proofs.Memory.{trees-length, labels-length}
-use Rattle.table.proofs.Laws.{label-some, label-carried}
+use Rattle.memory.specs.Memory.{cardOf, baseIn, treeCount}
+use Rattle.memory.proofs.Memory.{trees-length, labels-length}
+use Rattle.memory.proofs.Laws.{label-some, label-carried}
 use Rattle.moves.specs.Move.{Wrote, moveSize, relabelSize}
 use Rattle.moves.proofs.Laws.{wrote-nothing, wrote-one, then-length, let-go-size, let-go-stays, take-up-size, move-size}
 use Rattle.moves.proofs.Trees.{give-up-free, give-free}

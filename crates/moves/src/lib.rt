@@ -6,7 +6,7 @@ ghost use lib.ListN.{length};
 ghost use Rattle.meaning.specs.Wire.{rootIn, records};
 ghost use Rattle.meaning.specs.Card.{Card, withBranch, withLeaf, treeAt, routeOf, heldFor, freeLabels, noRoute};
 ghost use Rattle.meaning.specs.Events.{Moved, giveUp, give, letGo, takeUp, moveLabel, relabel, needMove, need, labelsShort, upstream, holder};
-ghost use Rattle.table.specs.Memory.{cardOf, treeCount};
+ghost use Rattle.memory.specs.Memory.{cardOf, treeCount};
 ghost use Rattle.moves.specs.Move.{Wrote, moveSize, relabelSize};
 
 // Where the next record goes, and its identifier.
@@ -74,8 +74,8 @@ fn give(
     ensures { λ r. ⌜ Wrote (give i u (cardOf (now (numbers .entry)) (now (names .entry)))) id at (now (out .entry)) (now (out .exit)) (cardOf (now (numbers .exit)) (now (names .exit))) (r .at) (r .id)
         × (freeLabels (cardOf (now (numbers .exit)) (now (names .exit))) + 1 ≡ freeLabels (cardOf (now (numbers .entry)) (now (names .entry)))) ⌝ }
 {
-    let p = table::lowest_free(numbers);
-    let label = table::base(numbers) + p as u64;
+    let p = labels::lowest_free(numbers);
+    let label = memory::base(numbers) + p as u64;
     let name = table::tree_name(names, i);
     let end = at + (24 + name.len());
     let next = writer::send(id, out, at, u, 0x0400, label, name);
@@ -185,7 +185,7 @@ pub fn labels_short(numbers: &[u64], i: usize, u: u64) -> bool
     if u == 17 {
         return false;
     }
-    table::labels_short(numbers, 1)
+    labels::labels_short(numbers, 1)
 }
 
 // The neighbour that a tree of this name, if it is not empty, holds a label for; 17 for none.

@@ -11,7 +11,7 @@ ghost use Rattle.meaning.specs.Octets.{two, four};
 ghost use Rattle.meaning.specs.Wire.{nextId};
 ghost use Rattle.meaning.specs.Notice.{statusOf, isStatus, isFatal, statusCode, copiedId, copiedType, noticeDue, noticeRecord, notice, isFramed, isTold};
 ghost use Rattle.meaning.specs.Calls.{over, Does, Hands};
-ghost use Rattle.table.specs.Memory.{cardOf};
+ghost use Rattle.memory.specs.Memory.{cardOf};
 ghost use Rattle.notice.specs.Read.{readOf};
 
 // ---- the status
@@ -175,9 +175,9 @@ fn tell(
             *answer = 16;
             return 0;
         }
-        let id = table::next_id(numbers);
+        let id = memory::next_id(numbers);
         put_notice(out, id, neighbour, number, octets);
-        table::set_next_id(numbers, next_of(id));
+        memory::set_next_id(numbers, next_of(id));
         *answer = 0;
         return 26;
     }

@@ -9,8 +9,8 @@ use Rattle.meaning.specs.Card.{Route, Tree, Use, mapped, awaiting, freeLabels}
 use Rattle.meaning.specs.Save.{spaced, nameSaved, marked, headSaved, routeSaved, foursOf, treeSaved, useSaved}
 use Rattle.octets.specs.Part.{mid}
 use Rattle.octets.proofs.Tab.{tab-is}
-use Rattle.table.specs.Memory.{cardOf, baseIn, routeCount, treeCount}
-use Rattle.table.proofs.Memory.{routes-length, trees-length}
+use Rattle.memory.specs.Memory.{cardOf, baseIn, routeCount, treeCount}
+use Rattle.memory.proofs.Memory.{routes-length, trees-length}
 use Rattle.texts.proofs.Parts.{laid-part, laid-then, laid-all, two-parts}
 use Rattle.recorder.proofs.Rows.{joined, all-joined, Lot, Stand, rows-lent, rows-done}
 use Rattle.texts.proofs.Sizes.{space-length, name-length}

@@ -7,7 +7,7 @@ ghost use lib.ListN.{length};
 ghost use Rattle.meaning.specs.Octets.{pick, four};
 ghost use Rattle.meaning.specs.Card.{treeAt};
 ghost use Rattle.meaning.specs.Save.{nameSaved, marked, headSaved, routeSaved, foursOf, treeSaved, useSaved};
-ghost use Rattle.table.specs.Memory.{cardOf, baseIn, treeCount, routeIn, isFreeAt, labelIn};
+ghost use Rattle.memory.specs.Memory.{cardOf, baseIn, treeCount, routeIn, isFreeAt, labelIn};
 
 // ---- the head
 
@@ -15,9 +15,9 @@ pub fn put_head(numbers: &[u64], out: &mut [u8])
     requires { ⌜ (length (now numbers) ≡ 1448) × (length (now out) ≡ 15) ⌝ }
     ensures { λ _. ⌜ ((os : List ℕ) → now (out .exit) ≡ headSaved (cardOf (now (numbers .entry)) os)) ⌝ }
 {
-    let base = table::base(numbers);
-    let next = table::next_id(numbers);
-    let uses = 256 - table::free_labels(numbers);
+    let base = memory::base(numbers);
+    let next = memory::next_id(numbers);
+    let uses = 256 - labels::free_labels(numbers);
     let head = [
         0x4c,
         0x53,
@@ -30,8 +30,8 @@ pub fn put_head(numbers: &[u64], out: &mut [u8])
         (next / 65536 % 256) as u8,
         (next / 256 % 256) as u8,
         (next % 256) as u8,
-        table::route_count(numbers) as u8,
-        table::tree_count(numbers) as u8,
+        memory::route_count(numbers) as u8,
+        memory::tree_count(numbers) as u8,
         (uses / 256 % 256) as u8,
         (uses % 256) as u8,
     ];
@@ -125,17 +125,17 @@ pub fn put_use(numbers: &[u64], names: &[u8], p: usize, out: &mut [u8])
     requires { ⌜ (length (now numbers) ≡ 1448) × (length (now names) ≡ 18144) × (p < 256) × (isFreeAt (now numbers) p ≡ false) × (length (now out) ≡ 59) ⌝ }
     ensures { λ _. ⌜ now (out .exit) ≡ useSaved (baseIn (now (numbers .entry)) + p) (labelIn (now (numbers .entry)) (now (names .entry)) p) ⌝ }
 {
-    let label = table::base(numbers) + p as u64;
-    let n = table::mapped_at(numbers, p);
+    let label = memory::base(numbers) + p as u64;
+    let n = labels::mapped_at(numbers, p);
     if n == 17 {
         put_state(
             out,
             label,
             2,
-            table::awaited_at(numbers, p),
-            table::label_name(names, p),
+            labels::awaited_at(numbers, p),
+            labels::label_name(names, p),
         );
     } else {
-        put_state(out, label, 1, n, table::label_name(names, p));
+        put_state(out, label, 1, n, labels::label_name(names, p));
     }
 }

@@ -4,7 +4,7 @@ ghost use mathlib.Core.Bool.{true, false};
 ghost use lib.ListN.{length};
 ghost use Rattle.meaning.specs.Octets.{same};
 ghost use Rattle.meaning.specs.Save.{saved, tableIn, isSave, restore};
-ghost use Rattle.table.specs.Memory.{cardOf};
+ghost use Rattle.memory.specs.Memory.{cardOf};
 
 // Whether the save of the table in the memory is these octets.
 fn is_saved_as(numbers: &[u64], names: &[u8], octets: &[u8]) -> bool

@@ -6,7 +6,7 @@ ghost use lib.ListN.{length};
 ghost use Rattle.meaning.specs.Wire.{records};
 ghost use Rattle.meaning.specs.Card.{Card, treeAt, freeLabels};
 ghost use Rattle.meaning.specs.Events.{needOne, needAll, ofRoot, moveOne, moveAll};
-ghost use Rattle.table.specs.Memory.{cardOf, treeCount};
+ghost use Rattle.memory.specs.Memory.{cardOf, treeCount};
 ghost use Rattle.moves.specs.Move.{Wrote, sizeOne, sizeAll};
 use moves::Written;
 
@@ -49,7 +49,7 @@ pub fn need_all(numbers: &[u64], names: &[u8], root: &[u8], u: u64) -> usize
     requires { ⌜ (length (now numbers) ≡ 1448) × (length (now names) ≡ 18144) ⌝ }
     ensures { λ r. ⌜ (r ≡ needAll (now (root .entry)) u (cardOf (now (numbers .entry)) (now (names .entry)))) × (r ≤ 64) ⌝ }
 {
-    let n = table::tree_count(numbers);
+    let n = memory::tree_count(numbers);
     let mut sum = 0;
     let mut i = 0;
     while i < n {
@@ -64,7 +64,7 @@ pub fn size_all(numbers: &[u64], names: &[u8], root: &[u8], u: u64) -> usize
     requires { ⌜ (length (now numbers) ≡ 1448) × (length (now names) ≡ 18144) ⌝ }
     ensures { λ r. ⌜ (r ≡ sizeAll (now (root .entry)) u (cardOf (now (numbers .entry)) (now (names .entry)))) × (r ≤ 9984) ⌝ }
 {
-    let n = table::tree_count(numbers);
+    let n = memory::tree_count(numbers);
     let mut sum = 0;
     let mut i = 0;
     while i < n {
@@ -112,7 +112,7 @@ pub fn move_all(
         × (sizeAll (now root) u (cardOf (now numbers) (now names)) ≤ length (now out)) ⌝ }
     ensures { λ r. ⌜ Wrote (moveAll (now (root .entry)) u (cardOf (now (numbers .entry)) (now (names .entry)))) id 0 (now (out .entry)) (now (out .exit)) (cardOf (now (numbers .exit)) (now (names .exit))) (r .at) (r .id) ⌝ }
 {
-    let n = table::tree_count(numbers);
+    let n = memory::tree_count(numbers);
     let mut at = 0;
     let mut next = id;
     let mut i = 0;

@@ -15,8 +15,8 @@ use Rattle.meaning.specs.Events.{Outcome, refused, taken, unless, finish, Moved
 use Rattle.meaning.specs.RoutesStay.{all-routes}
 use Rattle.meaning.specs.Calls.{Does}
 use Rattle.octets.proofs.Laws.{mid-none}
-use Rattle.table.specs.Memory.{cardOf, routeCount}
-use Rattle.table.proofs.Memory.{routes-length}
+use Rattle.memory.specs.Memory.{cardOf, routeCount}
+use Rattle.memory.proofs.Memory.{routes-length}
 use Rattle.moves.specs.Move.{Wrote, sizeOne, sizeAll}
 use Rattle.moves.proofs.Laws.{then-length, records-append}
 use Rattle.moves.proofs.Trees.{one-other, one-many, one-size}

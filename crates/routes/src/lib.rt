@@ -8,7 +8,7 @@ ghost use Rattle.meaning.specs.Octets.{_when_else_};
 ghost use Rattle.meaning.specs.Card.{noRoute, routeOf, routePlace, freeLabels, withRoutes};
 ghost use Rattle.meaning.specs.Events.{finish, routesFull, routesWith, labelsShort, needAll, upstream};
 ghost use Rattle.meaning.specs.Calls.{Does};
-ghost use Rattle.table.specs.Memory.{cardOf};
+ghost use Rattle.memory.specs.Memory.{cardOf};
 ghost use Rattle.moves.specs.Move.{sizeAll};
 ghost use Rattle.trees.specs.End.{Ended};
 ghost use Rattle.routes.specs.Order.{movedTo, routeOrder};
@@ -26,7 +26,7 @@ fn routes_full(numbers: &[u64], names: &[u8], root: &[u8]) -> bool
         && leb 32 (length (cardOf (now (numbers .entry)) (now (names .entry)) .routes))) ⌝ }
 {
     if table::route_of(numbers, names, root) == 17 {
-        return 32 <= table::route_count(numbers);
+        return 32 <= memory::route_count(numbers);
     }
     false
 }
@@ -40,7 +40,7 @@ fn route_refusal(numbers: &[u64], names: &[u8], root: &[u8], via: u64, u: u64, r
     if routes_full(numbers, names, root) {
         return 15;
     }
-    if table::labels_short(numbers, roots::need_all(numbers, names, root, u)) {
+    if labels::labels_short(numbers, roots::need_all(numbers, names, root, u)) {
         return 12;
     }
     if room < roots::size_all(numbers, names, root, u) {
@@ -76,10 +76,10 @@ fn re_route(
         × (needAll (now root) u (cardOf (now numbers) (now names)) ≤ freeLabels (cardOf (now numbers) (now names))) × (sizeAll (now root) u (cardOf (now numbers) (now names)) ≤ length (now out)) ⌝ }
     ensures { λ r. ⌜ Ended (movedTo (cardOf (now (numbers .entry)) (now (names .entry))) (now (root .entry)) via) ((cardOf (now (numbers .entry)) (now (names .entry))) .next) 0 (now (out .entry)) (now (out .exit)) (cardOf (now (numbers .exit)) (now (names .exit))) r ⌝ }
 {
-    let w = roots::move_all(numbers, names, root, u, out, table::next_id(numbers));
+    let w = roots::move_all(numbers, names, root, u, out, memory::next_id(numbers));
     let next = w.id;
     set_route(numbers, names, root, via);
-    table::set_next_id(numbers, next);
+    memory::set_next_id(numbers, next);
     w.at
 }
 

@@ -9,9 +9,9 @@ use lib.Seq.{getD-set-same, getD-set-other}
 use lib.Dec.{eqb}
 use borrow.Author.Tests.{eqb-true, eqb-false}
 use Rattle.meaning.specs.Lists.{by-test}
-use Rattle.table.specs.Memory.{markAt, markUse, markPlace, isFreeAt, isMappedAt, labelIn, ownPlace, carriesAt, Relabelled}
-use Rattle.table.proofs.Memory.{base-same, free-same, own-same, label-same, agree-refl, agree-set}
-use Rattle.table.proofs.Marks.{mapped-at, mapped-use, carried-in, carried-out, not-far, not-named, own-some, own-none, remarked, remarked-free, own-beside}
+use Rattle.memory.specs.Memory.{markAt, markUse, markPlace, isFreeAt, isMappedAt, labelIn, ownPlace, carriesAt, Relabelled}
+use Rattle.memory.proofs.Memory.{base-same, free-same, own-same, label-same, agree-refl, agree-set}
+use Rattle.memory.proofs.Marks.{mapped-at, mapped-use, carried-in, carried-out, not-far, not-named, own-some, own-none, remarked, remarked-free, own-beside}
 use Rattle.rows.specs.Parts.{Lowered, LoweredOne}
 
 -- the same use, whatever place the mark names

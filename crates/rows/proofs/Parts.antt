@@ -12,8 +12,8 @@ use Rattle.meaning.specs.Lists.{by-test}
 use Rattle.octets.specs.Part.{mid, shifted}
 use Rattle.octets.proofs.Laws.{mid-length, mid-in, mid-before, mid-after, moved-length, moved-in, shifted-length}
 use Rattle.octets.proofs.Tab.{tab-ext, tab-is}
-use Rattle.table.specs.Memory.{upTo, textAt}
-use Rattle.table.proofs.Memory.{upTo-le, upTo-in}
+use Rattle.memory.specs.Memory.{upTo, textAt}
+use Rattle.memory.proofs.Memory.{upTo-le, upTo-in}
 use Rattle.rows.specs.Parts.{Written, Closed}
 
 -- outside the part

@@ -16,10 +16,10 @@ use Rattle.meaning.specs.Events.{baseOutside, setUse, setLabel}
 use Rattle.octets.specs.Part.{mid, tab}
 use Rattle.octets.proofs.Tab.{tab-length, tab-get, tab-ext, tab-set, tab-snoc, tab-cut, put-in, put-end}
 use Rattle.octets.proofs.Bits.{all-set}
-use Rattle.table.specs.Memory.{upTo, textAt, nameLimit, treeName, labelName, rootName, baseIn, nextIn, routeCount, treeCount, routeIn, wordAt, isFreeAt, markAt, markUse, markPlace, isMappedAt, labelIn, carriesAt, ownPlace, ownLabel, treeIn, cardOf, Relabelled}
-use Rattle.table.proofs.Memory.{upTo-le, upTo-in, treeCount-le, Agree, base-same, next-same, route-same, routes-same, free-same, own-same, own-kept, tree-with, tree-same, trees-same, label-same, labels-same, agree-refl, agree-set, tree-at}
-use Rattle.table.proofs.Marks.{mapped-at, mapped-use, unmapped-free, label-free, label-mapped, label-awaiting, carried-in, not-far, not-mapped, not-named, own-some, own-none, relabelled-again, remarked, remarked-free, own-beside}
-use Rattle.table.proofs.Laws.{label-at}
+use Rattle.memory.specs.Memory.{upTo, textAt, nameLimit, treeName, labelName, rootName, baseIn, nextIn, routeCount, treeCount, routeIn, wordAt, isFreeAt, markAt, markUse, markPlace, isMappedAt, labelIn, carriesAt, ownPlace, ownLabel, treeIn, cardOf, Relabelled}
+use Rattle.memory.proofs.Memory.{upTo-le, upTo-in, treeCount-le, Agree, base-same, next-same, route-same, routes-same, free-same, own-same, own-kept, tree-with, tree-same, trees-same, label-same, labels-same, agree-refl, agree-set, tree-at}
+use Rattle.memory.proofs.Marks.{mapped-at, mapped-use, unmapped-free, label-free, label-mapped, label-awaiting, carried-in, not-far, not-mapped, not-named, own-some, own-none, relabelled-again, remarked, remarked-free, own-beside}
+use Rattle.memory.proofs.Laws.{label-at}
 use Rattle.rows.specs.Parts.{Written, Closed, Lowered}
 use Rattle.rows.proofs.Parts.{written, Carries, lower, text-carried, text-put}
 use Rattle.rows.proofs.Lower.{use-kept}

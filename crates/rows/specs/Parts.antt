@@ -3,7 +3,7 @@ use Prim.Native.Nat.{ℕ, _+_, _≤_, _<_}
 use mathlib.Core.Path.{_≡_}
 use mathlib.Core.List.{List}
 use lib.ListN.{length, getD}
-use Rattle.table.specs.Memory.{labelIn, ownPlace, ownLabel}
+use Rattle.memory.specs.Memory.{labelIn, ownPlace, ownLabel}
 
 -- the values vs stand from place a on, and all else is as it was
 pub record Written (a : ℕ) (vs xs ys : List ℕ) : Type 0 where

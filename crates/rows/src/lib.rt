@@ -7,24 +7,8 @@ ghost use lib.ListN.{length, replicate, set};
 ghost use Rattle.meaning.specs.Octets.{pick, put, cut};
 ghost use Rattle.meaning.specs.Card.{Card, fresh, withTrees, withRoutes, withLabels, bare, treeAt, mapped, awaiting, routePlace};
 ghost use Rattle.meaning.specs.Events.{setUse, setLabel};
-ghost use Rattle.table.specs.Memory.{cardOf, baseIn, treeCount, routeCount, isFreeAt, isMappedAt};
+ghost use Rattle.memory.specs.Memory.{cardOf, baseIn, treeCount, routeCount, isFreeAt, isMappedAt};
 ghost use Rattle.rows.specs.Parts.{Written, Closed, Lowered, LoweredOne};
-
-fn tree_count(numbers: &[u64]) -> usize
-    requires { ⌜ length (now numbers) ≡ 1448 ⌝ }
-    ensures { λ r. ⌜ (r ≡ treeCount (now (numbers .entry))) × (r ≤ 64) ⌝ }
-{
-    let n = numbers[3];
-    if n < 64 { n as usize } else { 64 }
-}
-
-fn route_count(numbers: &[u64]) -> usize
-    requires { ⌜ length (now numbers) ≡ 1448 ⌝ }
-    ensures { λ r. ⌜ (r ≡ routeCount (now (numbers .entry))) × (r ≤ 32) ⌝ }
-{
-    let n = numbers[2];
-    if n < 32 { n as usize } else { 32 }
-}
 
 // ---- parts of the memory
 
@@ -69,7 +53,7 @@ pub fn enter_tree(numbers: &mut [u64], names: &mut [u8], name: &[u8])
     ensures { λ _. ⌜ cardOf (now (numbers .exit)) (now (names .exit))
         ≡ withTrees (cardOf (now (numbers .entry)) (now (names .entry)) .trees ++ (bare (now (name .entry)) ∷ [])) (cardOf (now (numbers .entry)) (now (names .entry))) ⌝ }
 {
-    let n = tree_count(numbers);
+    let n = memory::tree_count(numbers);
     clear(numbers, 100 + n * 17, 17);
     put_text(names, n * 55, name);
     numbers[36 + n] = 256;
@@ -109,7 +93,7 @@ pub fn remove_tree(numbers: &mut [u64], names: &mut [u8], i: usize)
     ensures { λ _. ⌜ cardOf (now (numbers .exit)) (now (names .exit))
         ≡ withTrees (cut (cardOf (now (numbers .entry)) (now (names .entry)) .trees) i) (cardOf (now (numbers .entry)) (now (names .entry))) ⌝ }
 {
-    let n = tree_count(numbers);
+    let n = memory::tree_count(numbers);
     lower_behind(numbers, i, n);
     close_numbers(numbers, 36 + i, 36 + n, 1);
     close_numbers(numbers, 100 + i * 17, 100 + n * 17, 17);
@@ -124,7 +108,7 @@ pub fn map_label(numbers: &mut [u64], names: &mut [u8], p: usize, i: usize, n: u
         ≡ setLabel i (baseIn (now (numbers .entry)) + p) (setUse (baseIn (now (numbers .entry)) + p) (mapped n (treeAt i (cardOf (now (numbers .entry)) (now (names .entry))) .name)) (cardOf (now (numbers .entry)) (now (names .entry)))) ⌝ }
 {
     octets::copy_within(names, i * 55, 3520 + p * 55, 55);
-    table::set_taken(numbers, p);
+    labels::set_taken(numbers, p);
     numbers[1188 + p] = n + 256 * i as u64;
     numbers[36 + i] = p as u64;
 }
@@ -146,7 +130,7 @@ pub fn put_use(numbers: &mut [u64], names: &mut [u8], p: usize, held: bool, n: u
         ≡ withLabels (set (cardOf (now (numbers .entry)) (now (names .entry)) .labels) p (pick held (mapped n (now (name .entry))) (awaiting n (now (name .entry))))) (cardOf (now (numbers .entry)) (now (names .entry))) ⌝ }
 {
     put_text(names, 3520 + p * 55, name);
-    table::set_taken(numbers, p);
+    labels::set_taken(numbers, p);
     numbers[1188 + p] = use_of(held, n) + 16384;
 }
 
@@ -168,7 +152,7 @@ pub fn append_route(numbers: &mut [u64], names: &mut [u8], root: &[u8], via: u64
     ensures { λ _. ⌜ cardOf (now (numbers .exit)) (now (names .exit))
         ≡ withRoutes (cardOf (now (numbers .entry)) (now (names .entry)) .routes ++ (record { root = now (root .entry); via = via } ∷ [])) (cardOf (now (numbers .entry)) (now (names .entry))) ⌝ }
 {
-    let n = route_count(numbers);
+    let n = memory::route_count(numbers);
     put_text(names, 17600 + n * 17, root);
     numbers[4 + n] = via;
     numbers[2] = (n + 1) as u64;
@@ -182,7 +166,7 @@ pub fn put_route(numbers: &mut [u64], names: &mut [u8], i: usize, root: &[u8], v
     ensures { λ _. ⌜ cardOf (now (numbers .exit)) (now (names .exit))
         ≡ withRoutes (put (cardOf (now (numbers .entry)) (now (names .entry)) .routes) (routePlace (now (root .entry)) (cardOf (now (numbers .entry)) (now (names .entry)))) (record { root = now (root .entry); via = via })) (cardOf (now (numbers .entry)) (now (names .entry))) ⌝ }
 {
-    let n = route_count(numbers);
+    let n = memory::route_count(numbers);
     if i < n {
         numbers[4 + i] = via;
         return;
@@ -196,7 +180,7 @@ pub fn remove_route(numbers: &mut [u64], names: &mut [u8], i: usize)
     ensures { λ _. ⌜ cardOf (now (numbers .exit)) (now (names .exit))
         ≡ withRoutes (cut (cardOf (now (numbers .entry)) (now (names .entry)) .routes) i) (cardOf (now (numbers .entry)) (now (names .entry))) ⌝ }
 {
-    let n = route_count(numbers);
+    let n = memory::route_count(numbers);
     close_numbers(numbers, 4 + i, 4 + n, 1);
     close_octets(names, 17600 + i * 17, 17600 + n * 17, 17);
     numbers[2] = (n - 1) as u64;

@@ -16,10 +16,10 @@ use Rattle.meaning.specs.Card.{Route, Tree, Use, mapped, awaiting, Card, treeAt
 use Rattle.meaning.specs.Events.{notRoot, baseOutside, upstream, upstreamOf, holder}
 use Rattle.meaning.specs.Save.{all, isName, onceEach, isRoute, sameRoot, isBranchLabel, isTree, sameName, isUse, isCarried, allCarried, isMappedFor, carriesOwn, holdsRight, keepsRules}
 use Rattle.octets.proofs.Tab.{tab-get}
-use Rattle.table.specs.Memory.{baseIn, nextIn, routeCount, treeCount, rootName, labelName, routeIn, labelIn, cardOf}
-use Rattle.table.proofs.Memory.{routeCount-le, treeCount-le, base-range, routes-length, trees-length, labels-length}
-use Rattle.table.proofs.Marks.{by-use}
-use Rattle.table.proofs.Laws.{branches-length, use-under, use-above, use-at}
+use Rattle.memory.specs.Memory.{baseIn, nextIn, routeCount, treeCount, rootName, labelName, routeIn, labelIn, cardOf}
+use Rattle.memory.proofs.Memory.{routeCount-le, treeCount-le, base-range, routes-length, trees-length, labels-length}
+use Rattle.memory.proofs.Marks.{by-use}
+use Rattle.memory.proofs.Laws.{branches-length, use-under, use-above, use-at}
 
 -- ---- loops over a list: all, any, once each, from place i on. b is what the code says of the test
 

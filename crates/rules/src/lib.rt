@@ -9,7 +9,7 @@ ghost use lib.ListN.{length, drop};
 ghost use Rattle.meaning.specs.Octets.{any};
 ghost use Rattle.meaning.specs.Card.{treeAt, isEmpty, useOf, isFor, named};
 ghost use Rattle.meaning.specs.Save.{all, isName, onceEach, isRoute, sameRoot, isBranchLabel, isTree, sameName, isUse, isCarried, allCarried, isMappedFor, carriesOwn, holdsRight, keepsRules};
-ghost use Rattle.table.specs.Memory.{cardOf, baseIn, treeCount, routeIn, isFreeAt, labelIn, labelName};
+ghost use Rattle.memory.specs.Memory.{cardOf, baseIn, treeCount, routeIn, isFreeAt, labelIn, labelName};
 
 // ---- routes
 
@@ -31,7 +31,7 @@ fn routes_good(numbers: &[u64], names: &[u8]) -> bool
     requires { ⌜ (length (now numbers) ≡ 1448) × (length (now names) ≡ 18144) ⌝ }
     ensures { λ r. ⌜ r ≡ all isRoute (cardOf (now (numbers .entry)) (now (names .entry)) .routes) ⌝ }
 {
-    let n = table::route_count(numbers);
+    let n = memory::route_count(numbers);
     let mut i = 0;
     while i < n {
         if !is_route(numbers, names, i) {
@@ -47,7 +47,7 @@ fn root_from(numbers: &[u64], names: &[u8], from: usize, root: &[u8]) -> bool
     requires { ⌜ (length (now numbers) ≡ 1448) × (length (now names) ≡ 18144) ⌝ }
     ensures { λ r. ⌜ r ≡ any (isFor (now (root .entry))) (drop from (cardOf (now (numbers .entry)) (now (names .entry)) .routes)) ⌝ }
 {
-    let n = table::route_count(numbers);
+    let n = memory::route_count(numbers);
     let mut i = from;
     while i < n {
         if octets::equal(table::root_name(names, i), root) {
@@ -62,7 +62,7 @@ fn roots_once(numbers: &[u64], names: &[u8]) -> bool
     requires { ⌜ (length (now numbers) ≡ 1448) × (length (now names) ≡ 18144) ⌝ }
     ensures { λ r. ⌜ r ≡ onceEach sameRoot (cardOf (now (numbers .entry)) (now (names .entry)) .routes) ⌝ }
 {
-    let n = table::route_count(numbers);
+    let n = memory::route_count(numbers);
     let mut i = 0;
     while i < n {
         if root_from(numbers, names, i + 1, table::root_name(names, i)) {
@@ -135,7 +135,7 @@ fn trees_good(numbers: &[u64], names: &[u8]) -> bool
     requires { ⌜ (length (now numbers) ≡ 1448) × (length (now names) ≡ 18144) ⌝ }
     ensures { λ r. ⌜ r ≡ all isTree (cardOf (now (numbers .entry)) (now (names .entry)) .trees) ⌝ }
 {
-    let n = table::tree_count(numbers);
+    let n = memory::tree_count(numbers);
     let mut i = 0;
     while i < n {
         if !is_tree(numbers, names, i) {
@@ -151,7 +151,7 @@ fn name_from(numbers: &[u64], names: &[u8], from: usize, name: &[u8]) -> bool
     requires { ⌜ (length (now numbers) ≡ 1448) × (length (now names) ≡ 18144) ⌝ }
     ensures { λ r. ⌜ r ≡ any (named (now (name .entry))) (drop from (cardOf (now (numbers .entry)) (now (names .entry)) .trees)) ⌝ }
 {
-    let n = table::tree_count(numbers);
+    let n = memory::tree_count(numbers);
     let mut i = from;
     while i < n {
         if octets::equal(table::tree_name(names, i), name) {
@@ -167,7 +167,7 @@ pub fn names_once(numbers: &[u64], names: &[u8]) -> bool
     requires { ⌜ (length (now numbers) ≡ 1448) × (length (now names) ≡ 18144) ⌝ }
     ensures { λ r. ⌜ r ≡ onceEach sameName (cardOf (now (numbers .entry)) (now (names .entry)) .trees) ⌝ }
 {
-    let n = table::tree_count(numbers);
+    let n = memory::tree_count(numbers);
     let mut i = 0;
     while i < n {
         if name_from(numbers, names, i + 1, table::tree_name(names, i)) {
@@ -185,10 +185,10 @@ fn is_near(numbers: &[u64], p: usize) -> bool
     requires { ⌜ (length (now numbers) ≡ 1448) × (p < 256) × (isFreeAt (now numbers) p ≡ false) ⌝ }
     ensures { λ r. ⌜ ((os : List ℕ) → isUse (labelIn (now (numbers .entry)) os p) ≡ (r && isName (labelName os p))) ⌝ }
 {
-    if table::mapped_at(numbers, p) != 17 {
+    if labels::mapped_at(numbers, p) != 17 {
         return true;
     }
-    table::awaited_at(numbers, p) < 16
+    labels::awaited_at(numbers, p) < 16
 }
 
 // The neighbour of a label in use is one of the sixteen, whatever the memory holds: its name is what can be wrong.
@@ -196,11 +196,11 @@ fn is_use(numbers: &[u64], names: &[u8], p: usize) -> bool
     requires { ⌜ (length (now numbers) ≡ 1448) × (length (now names) ≡ 18144) × (p < 256) ⌝ }
     ensures { λ r. ⌜ r ≡ isUse (labelIn (now (numbers .entry)) (now (names .entry)) p) ⌝ }
 {
-    if table::is_free(numbers, p) {
+    if labels::is_free(numbers, p) {
         return true;
     }
     if is_near(numbers, p) {
-        return is_name(table::label_name(names, p));
+        return is_name(labels::label_name(names, p));
     }
     false
 }
@@ -224,12 +224,12 @@ fn is_carried(numbers: &[u64], names: &[u8], p: usize) -> bool
     requires { ⌜ (length (now numbers) ≡ 1448) × (length (now names) ≡ 18144) × (p < 256) ⌝ }
     ensures { λ r. ⌜ r ≡ isCarried (cardOf (now (numbers .entry)) (now (names .entry))) (baseIn (now (numbers .entry)) + p) (labelIn (now (numbers .entry)) (now (names .entry)) p) ⌝ }
 {
-    if table::mapped_at(numbers, p) == 17 {
+    if labels::mapped_at(numbers, p) == 17 {
         return true;
     }
-    let i = table::tree_place(numbers, names, table::label_name(names, p));
-    if i < table::tree_count(numbers) {
-        return table::tree_label(numbers, i) == table::base(numbers) + p as u64;
+    let i = table::tree_place(numbers, names, labels::label_name(names, p));
+    if i < memory::tree_count(numbers) {
+        return table::tree_label(numbers, i) == memory::base(numbers) + p as u64;
     }
     false
 }
@@ -253,7 +253,7 @@ fn is_mapped_for(numbers: &[u64], names: &[u8], label: u64, name: &[u8]) -> bool
     requires { ⌜ (length (now numbers) ≡ 1448) × (length (now names) ≡ 18144) ⌝ }
     ensures { λ r. ⌜ r ≡ isMappedFor (now (name .entry)) (useOf label (cardOf (now (numbers .entry)) (now (names .entry)))) ⌝ }
 {
-    let b = table::base(numbers);
+    let b = memory::base(numbers);
     if label < b {
         return false;
     }
@@ -261,10 +261,10 @@ fn is_mapped_for(numbers: &[u64], names: &[u8], label: u64, name: &[u8]) -> bool
         return false;
     }
     let p = (label - b) as usize;
-    if table::mapped_at(numbers, p) == 17 {
+    if labels::mapped_at(numbers, p) == 17 {
         return false;
     }
-    octets::equal(table::label_name(names, p), name)
+    octets::equal(labels::label_name(names, p), name)
 }
 
 fn carries_own(numbers: &[u64], names: &[u8], i: usize) -> bool
@@ -282,7 +282,7 @@ fn own_labels(numbers: &[u64], names: &[u8]) -> bool
     requires { ⌜ (length (now numbers) ≡ 1448) × (length (now names) ≡ 18144) ⌝ }
     ensures { λ r. ⌜ r ≡ all (carriesOwn (cardOf (now (numbers .entry)) (now (names .entry)))) (cardOf (now (numbers .entry)) (now (names .entry)) .trees) ⌝ }
 {
-    let n = table::tree_count(numbers);
+    let n = memory::tree_count(numbers);
     let mut i = 0;
     while i < n {
         if !carries_own(numbers, names, i) {
@@ -305,7 +305,7 @@ fn held_right(numbers: &[u64], names: &[u8]) -> bool
     requires { ⌜ (length (now numbers) ≡ 1448) × (length (now names) ≡ 18144) ⌝ }
     ensures { λ r. ⌜ r ≡ all (holdsRight (cardOf (now (numbers .entry)) (now (names .entry)))) (cardOf (now (numbers .entry)) (now (names .entry)) .trees) ⌝ }
 {
-    let n = table::tree_count(numbers);
+    let n = memory::tree_count(numbers);
     let mut i = 0;
     while i < n {
         if !holds_right(numbers, names, i) {

@@ -12,9 +12,9 @@ use Rattle.meaning.specs.Events.{roomShort, refuse}
 use Rattle.meaning.specs.Calls.{over, Does}
 use Rattle.octets.specs.Part.{mid, tab}
 use Rattle.octets.proofs.Laws.{mid-none}
-use Rattle.table.specs.Memory.{cardOf, baseIn, routeCount, treeCount, routeIn, treeIn, labelIn}
-use Rattle.table.proofs.Memory.{labels-length, tree-at}
-use Rattle.table.proofs.Laws.{branches-length}
+use Rattle.memory.specs.Memory.{cardOf, baseIn, routeCount, treeCount, routeIn, treeIn, labelIn}
+use Rattle.memory.proofs.Memory.{labels-length, tree-at}
+use Rattle.memory.proofs.Laws.{branches-length}
 use Rattle.texts.specs.Laid.{laid}
 use Rattle.texts.proofs.Parts.{laid-part, laid-then}
 use Rattle.recorder.proofs.Rows.{joined, joined-first, joined-ext, joined-length, all-joined, Lot}

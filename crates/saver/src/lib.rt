@@ -7,7 +7,7 @@ ghost use lib.ListN.{length};
 ghost use denote.Ref.{ptr};
 ghost use Rattle.meaning.specs.Save.{useSaved, routesSaved, treesSaved, usesSaved, saved, save};
 ghost use Rattle.meaning.specs.Calls.{over, Does, Hands};
-ghost use Rattle.table.specs.Memory.{cardOf, baseIn, labelIn};
+ghost use Rattle.memory.specs.Memory.{cardOf, baseIn, labelIn};
 ghost use Rattle.texts.specs.Laid.{laid};
 
 // ---- routes, trees and labels in use, one behind the other
@@ -19,7 +19,7 @@ fn put_routes(numbers: &[u64], names: &[u8], out: &mut [u8], from: usize) -> usi
     ensures { λ r. ⌜ (now (out .exit) ≡ laid from (routesSaved (cardOf (now (numbers .entry)) (now (names .entry)) .routes)) (now (out .entry)))
         × (r ≡ from + length (routesSaved (cardOf (now (numbers .entry)) (now (names .entry)) .routes))) ⌝ }
 {
-    let n = table::route_count(numbers);
+    let n = memory::route_count(numbers);
     let mut at = from;
     let mut i = 0;
     while i < n {
@@ -38,7 +38,7 @@ fn put_trees(numbers: &[u64], names: &[u8], out: &mut [u8], from: usize) -> usiz
     ensures { λ r. ⌜ (now (out .exit) ≡ laid from (treesSaved (cardOf (now (numbers .entry)) (now (names .entry)) .trees)) (now (out .entry)))
         × (r ≡ from + length (treesSaved (cardOf (now (numbers .entry)) (now (names .entry)) .trees))) ⌝ }
 {
-    let n = table::tree_count(numbers);
+    let n = memory::tree_count(numbers);
     let mut at = from;
     let mut i = 0;
     while i < n {
@@ -57,7 +57,7 @@ fn put_label(numbers: &[u64], names: &[u8], p: usize, out: &mut [u8], at: usize)
     ensures { λ r. ⌜ (now (out .exit) ≡ laid at (useSaved (baseIn (now (numbers .entry)) + p) (labelIn (now (numbers .entry)) (now (names .entry)) p)) (now (out .entry)))
         × (r ≡ at + length (useSaved (baseIn (now (numbers .entry)) + p) (labelIn (now (numbers .entry)) (now (names .entry)) p))) ⌝ }
 {
-    if table::is_free(numbers, p) {
+    if labels::is_free(numbers, p) {
         return at;
     }
     let e = at + 59;
@@ -88,9 +88,9 @@ pub fn saved_size(numbers: &[u64]) -> usize
     requires { ⌜ length (now numbers) ≡ 1448 ⌝ }
     ensures { λ r. ⌜ ((os : List ℕ) → r ≡ length (saved (cardOf (now (numbers .entry)) os))) × (r ≤ 23343) ⌝ }
 {
-    let routes = table::route_count(numbers);
-    let trees = table::tree_count(numbers);
-    let uses = 256 - table::free_labels(numbers);
+    let routes = memory::route_count(numbers);
+    let trees = memory::tree_count(numbers);
+    let uses = 256 - labels::free_labels(numbers);
     15 + routes * 21 + trees * 118 + uses * 59
 }
 

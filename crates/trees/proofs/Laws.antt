@@ -19,8 +19,8 @@ use Rattle.meaning.specs.Calls.{over, Does}
 use Rattle.moves.proofs.Held.{holder-range, with-none}
 use Rattle.moves.specs.Move.{Wrote}
 use Rattle.moves.proofs.Laws.{wrote-then}
-use Rattle.table.specs.Memory.{cardOf, treeCount, baseIn}
-use Rattle.table.proofs.Memory.{trees-length, base-range}
+use Rattle.memory.specs.Memory.{cardOf, treeCount, baseIn}
+use Rattle.memory.proofs.Memory.{trees-length, base-range}
 use Rattle.trees.specs.End.{Ended, thenCut}
 
 -- ---- a tree's place

@@ -15,7 +15,7 @@ use Rattle.meaning.specs.Events.{Outcome, taken, unless, finish, Moved, still, 
 use Rattle.meaning.specs.Calls.{Does}
 use Rattle.octets.proofs.Tab.{put-end, cut-end}
 use Rattle.moves.proofs.Laws.{take-up-stays, take-up-size, alike-empty}
-use Rattle.table.specs.Memory.{cardOf, treeCount}
+use Rattle.memory.specs.Memory.{cardOf, treeCount}
 use Rattle.trees.specs.End.{Ended}
 use Rattle.trees.proofs.Laws.{not-standing, does-refused, does-short, enter-is, does-ended, when-1, when-2, when-3, when-0, count-is, any-zeros}
 

@@ -17,7 +17,7 @@ use Rattle.meaning.specs.Calls.{Does}
 use Rattle.octets.proofs.Tab.{put-in}
 use Rattle.moves.specs.Move.{moveSize, relabelSize}
 use Rattle.moves.proofs.Laws.{records-append, relabel-stays, alike-empty, relabel-size}
-use Rattle.table.specs.Memory.{cardOf, treeCount}
+use Rattle.memory.specs.Memory.{cardOf, treeCount}
 use Rattle.trees.specs.End.{Ended, thenCut}
 use Rattle.trees.proofs.Laws.{does-refused, does-short, enter-is, does-ended, when-first, when-second, when-none, count-is}
 

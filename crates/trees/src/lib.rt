@@ -8,7 +8,7 @@ ghost use Rattle.meaning.specs.Octets.{_when_else_};
 ghost use Rattle.meaning.specs.Wire.{records};
 ghost use Rattle.meaning.specs.Card.{treeAt, withBranch, withLeaf, bare, freeLabels};
 ghost use Rattle.meaning.specs.Events.{relabel, takeUp, needMove, need, labelsShort, upstreamOf};
-ghost use Rattle.table.specs.Memory.{cardOf, treeCount};
+ghost use Rattle.memory.specs.Memory.{cardOf, treeCount};
 ghost use Rattle.moves.specs.Move.{relabelSize};
 ghost use Rattle.trees.specs.End.{Ended, thenCut};
 
@@ -74,13 +74,13 @@ pub fn new_refusal(numbers: &[u64], u: u64, size: usize, room: usize) -> u32
     ensures { λ r. ⌜ ((os : List ℕ) → r ≡ 11 when leb 64 (length (cardOf (now (numbers .entry)) os .trees))
         else 12 when ltb (freeLabels (cardOf (now (numbers .entry)) os)) (needMove u) else 16 when ltb room (needMove u * size) else 0) ⌝ }
 {
-    if 64 <= table::tree_count(numbers) {
+    if 64 <= memory::tree_count(numbers) {
         return 11;
     }
     if u == 17 {
         return 0;
     }
-    if table::labels_short(numbers, 1) {
+    if labels::labels_short(numbers, 1) {
         return 12;
     }
     if room < size { 16 } else { 0 }
@@ -109,10 +109,10 @@ pub fn settle(
     let end = w.at;
     if empty {
         rows::remove_tree(numbers, names, i);
-        table::set_next_id(numbers, next);
+        memory::set_next_id(numbers, next);
         return end;
     }
-    table::set_next_id(numbers, next);
+    memory::set_next_id(numbers, next);
     end
 }
 
@@ -132,6 +132,6 @@ pub fn grow(
 {
     let w = moves::take_up(numbers, names, i, u, out, 0, id);
     let next = w.id;
-    table::set_next_id(numbers, next);
+    memory::set_next_id(numbers, next);
     w.at
 }

@@ -6,7 +6,7 @@ ghost use lib.ListN.{length};
 ghost use Rattle.meaning.specs.Card.{treeAt, treePlace, withBranch, isEmpty};
 ghost use Rattle.meaning.specs.Events.{finish, lessBranch, onWithdraw, onRelease};
 ghost use Rattle.meaning.specs.Calls.{Does};
-ghost use Rattle.table.specs.Memory.{cardOf, treeCount};
+ghost use Rattle.memory.specs.Memory.{cardOf, treeCount};
 
 // What a Withdraw of a label from neighbour n leaves of the tree at place i: its branch there, and whether it is empty.
 fn less_branch(numbers: &[u64], i: usize, n: usize, label: u64) -> u64
@@ -53,7 +53,7 @@ fn withdraw_standing(
         return 0;
     }
     let id = writer::send(
-        table::next_id(numbers),
+        memory::next_id(numbers),
         out,
         0,
         n as u64,
@@ -86,7 +86,7 @@ fn withdraw_unknown(
         return 0;
     }
     let next = writer::send(
-        table::next_id(numbers),
+        memory::next_id(numbers),
         out,
         0,
         n as u64,
@@ -94,7 +94,7 @@ fn withdraw_unknown(
         label,
         name,
     );
-    table::set_next_id(numbers, next);
+    memory::set_next_id(numbers, next);
     *answer = 0;
     size
 }
@@ -113,7 +113,7 @@ pub fn withdraw(
         (now (answer .exit)) r (now (out .entry)) (now (out .exit)) (cardOf (now (numbers .exit)) (now (names .exit))) ⌝ }
 {
     let i = table::tree_place(numbers, names, name);
-    if i < table::tree_count(numbers) {
+    if i < memory::tree_count(numbers) {
         return withdraw_standing(numbers, names, i, n, label, out, answer);
     }
     withdraw_unknown(numbers, names, n, name, label, out, answer)
@@ -131,8 +131,8 @@ pub fn release(
     ensures { λ _. ⌜ ((s : List ℕ) → Does (finish (length s) (cardOf (now (numbers .entry)) (now (names .entry))) (onRelease (cardOf (now (numbers .entry)) (now (names .entry))) n (now (name .entry)) label))
         (now (answer .exit)) 0 s s (cardOf (now (numbers .exit)) (now (names .entry)))) ⌝ }
 {
-    if table::is_awaited(numbers, names, n as u64, name, label) {
-        table::free_label(numbers, label);
+    if labels::is_awaited(numbers, names, n as u64, name, label) {
+        labels::free_label(numbers, label);
         *answer = 0;
         return;
     }

@@ -6,8 +6,8 @@ use lib.ListN.{set}
 use lib.Seq.{set-out}
 use borrow.Author.Needs.{needs}
 use Rattle.meaning.specs.Card.{treeAt}
-use Rattle.table.specs.Memory.{cardOf}
-use Rattle.table.proofs.Laws.{branches-length}
+use Rattle.memory.specs.Memory.{cardOf}
+use Rattle.memory.proofs.Laws.{branches-length}
 use Rattle.card.proofs.Laws.{feed-is}
 use Rattle.card.proofs.feed_at.Statement.{statement}
 use Rattle.card.proofs.feed_at.Tie as tie

@@ -2,7 +2,7 @@ use mathlib.Core.Path.{ap, _∙_}
 use Prim.Native.Nat.{ℕ}
 use mathlib.Core.List.{List}
 use Rattle.meaning.specs.Card.{routeOf}
-use Rattle.table.specs.Memory.{cardOf}
+use Rattle.memory.specs.Memory.{cardOf}
 use Rattle.card.proofs.Laws.{name-refused, name-found, name-unknown}
 use borrow.Author.Needs.{needs}
 use Rattle.card.proofs.find_name.Statement.{statement}

@@ -1,4 +1,4 @@
-use Rattle.table.specs.Memory.{cardOf}
+use Rattle.memory.specs.Memory.{cardOf}
 use Rattle.card.proofs.Laws.{does-same, says-mapping, says-withdraw, says-release, says-nothing}
 use Rattle.trees.proofs.Laws.{does-refused}
 use borrow.Author.Needs.{needs}

@@ -1,7 +1,7 @@
 use mathlib.Core.Path.{sym, _∙_}
 use borrow.Author.Tests.{not-true, not-false}
 use borrow.Author.Needs.{needs}
-use Rattle.table.proofs.Marks.{never}
+use Rattle.memory.proofs.Marks.{never}
 use Rattle.decoder.proofs.Head.{names-not}
 use Rattle.decoder.proofs.decode.Statement.{statement}
 use Rattle.decoder.proofs.decode.Tie as tie

@@ -1,7 +1,7 @@
 use native.Mathlib.Omega.{arith}
 use borrow.Author.Tests.{leb-true, leb-false}
 use borrow.Author.Needs.{needs}
-use Rattle.table.proofs.Marks.{never}
+use Rattle.memory.proofs.Marks.{never}
 use Rattle.decoder.proofs.Head.{no-save}
 use Rattle.decoder.proofs.is_head.Statement.{statement}
 use Rattle.decoder.proofs.is_head.Tie as tie

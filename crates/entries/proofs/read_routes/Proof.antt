@@ -5,7 +5,7 @@ use lib.ListN.{length, drop}
 use borrow.Author.Needs.{needs}
 use Rattle.meaning.specs.Save.{routesRead}
 use Rattle.meaning.specs.Card.{withRoutes}
-use Rattle.table.specs.Memory.{cardOf}
+use Rattle.memory.specs.Memory.{cardOf}
 use Rattle.entries.proofs.Rows.{routes-none, routes-more, routes-room}
 use Rattle.entries.proofs.read_routes.Statement.{statement}
 use Rattle.entries.proofs.read_routes.Tie as tie

@@ -3,8 +3,8 @@ use mathlib.Core.Bool.{not}
 use mathlib.Core.Path.{sym, ap, _∙_}
 use lib.Dec.{eqb}
 use borrow.Author.Needs.{needs}
-use Rattle.table.proofs.Memory.{trees-length}
-use Rattle.table.specs.Memory.{cardOf}
+use Rattle.memory.proofs.Memory.{trees-length}
+use Rattle.memory.specs.Memory.{cardOf}
 use Rattle.entries.proofs.Rows.{entered, changed, tree-made}
 use Rattle.entries.proofs.read_tree.Statement.{statement}
 use Rattle.entries.proofs.read_tree.Tie as tie

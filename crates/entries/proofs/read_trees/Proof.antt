@@ -5,7 +5,7 @@ use lib.ListN.{length, drop}
 use borrow.Author.Needs.{needs}
 use Rattle.meaning.specs.Save.{treesRead}
 use Rattle.meaning.specs.Card.{withTrees}
-use Rattle.table.specs.Memory.{cardOf}
+use Rattle.memory.specs.Memory.{cardOf}
 use Rattle.entries.proofs.Rows.{trees-none, trees-more, trees-room}
 use Rattle.entries.proofs.read_trees.Statement.{statement}
 use Rattle.entries.proofs.read_trees.Tie as tie

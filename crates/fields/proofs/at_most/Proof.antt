@@ -1,7 +1,7 @@
 use native.Mathlib.Omega.{arith}
 use mathlib.Core.Path.{refl}
 use borrow.Author.Tests.{lt-ltb, le-ltb}
-use Rattle.table.specs.Memory.{upTo}
+use Rattle.memory.specs.Memory.{upTo}
 use Rattle.fields.proofs.at_most.Statement.{statement}
 use Rattle.fields.proofs.at_most.Tie as tie
 

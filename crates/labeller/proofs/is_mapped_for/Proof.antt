@@ -1,7 +1,7 @@
 use mathlib.Core.Path.{sym, ap, _∙_}
 use borrow.Author.Needs.{needs}
 use Rattle.meaning.specs.Octets.{same}
-use Rattle.table.proofs.Marks.{never}
+use Rattle.memory.proofs.Marks.{never}
 use Rattle.labeller.proofs.Labels.{mapped-not, mapped-named}
 use Rattle.labeller.proofs.is_mapped_for.Statement.{statement}
 use Rattle.labeller.proofs.is_mapped_for.Tie as tie

@@ -3,7 +3,7 @@ use native.Mathlib.Omega.{arith}
 use mathlib.Core.Path.{_≡_, refl, _∙_}
 use lib.ListN.{length}
 use borrow.Author.Needs.{needs}
-use Rattle.table.specs.Memory.{treeCount}
+use Rattle.memory.specs.Memory.{treeCount}
 use Rattle.labeller.proofs.Labels.{Labelled, labelled-none, labelled-in, labelled-ready, labelled-more, labelled-all}
 use Rattle.labeller.proofs.label_trees.Statement.{statement}
 use Rattle.labeller.proofs.label_trees.Tie as tie

@@ -7,7 +7,7 @@ use Rattle.meaning.specs.Save.{isMappedFor}
 use Rattle.meaning.specs.Octets.{place}
 use Rattle.octets.proofs.Tab.{place-hit, place-miss, place-none}
 use Rattle.octets.specs.Part.{tab}
-use Rattle.table.specs.Memory.{cardOf, labelIn}
+use Rattle.memory.specs.Memory.{cardOf, labelIn}
 use Rattle.labeller.proofs.Labels.{mapped-start}
 use Rattle.labeller.proofs.mapped_place.Statement.{statement}
 use Rattle.labeller.proofs.mapped_place.Tie as tie

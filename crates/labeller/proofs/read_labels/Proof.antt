@@ -2,7 +2,7 @@ use native.Mathlib.Omega.{arith}
 use mathlib.Core.Path.{_∙_}
 use borrow.Author.Needs.{needs}
 use Rattle.meaning.specs.Card.{Card}
-use Rattle.table.specs.Memory.{cardOf}
+use Rattle.memory.specs.Memory.{cardOf}
 use Rattle.labeller.proofs.Labels.{unlabelled-kept, once-kept, rows-unlabelled, table-whole}
 use Rattle.labeller.proofs.read_labels.Statement.{statement}
 use Rattle.labeller.proofs.read_labels.Tie as tie

@@ -5,7 +5,7 @@ use lib.ListN.{length, drop}
 use borrow.Author.Needs.{needs}
 use Rattle.meaning.specs.Save.{usesRead}
 use Rattle.meaning.specs.Card.{withLabels}
-use Rattle.table.specs.Memory.{cardOf}
+use Rattle.memory.specs.Memory.{cardOf}
 use Rattle.labeller.proofs.Labels.{labels-none, labels-more, unlabelled-kept}
 use Rattle.labeller.proofs.read_uses.Statement.{statement}
 use Rattle.labeller.proofs.read_uses.Tie as tie

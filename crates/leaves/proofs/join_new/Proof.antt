@@ -5,8 +5,8 @@ use mathlib.Core.Path.{refl, sym, _∙_}
 use mathlib.Core.Bool.{true}
 use native.Mathlib.Omega.{arith}
 use Rattle.meaning.specs.Card.{withLeaf}
-use Rattle.table.specs.Memory.{cardOf}
-use Rattle.table.proofs.Memory.{trees-length}
+use Rattle.memory.specs.Memory.{cardOf}
+use Rattle.memory.proofs.Memory.{trees-length}
 use borrow.Author.Needs.{needs}
 use Rattle.leaves.proofs.join_new.Statement.{statement}
 use Rattle.leaves.proofs.join_new.Tie as tie

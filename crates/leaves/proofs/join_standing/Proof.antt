@@ -4,8 +4,8 @@ use mathlib.Core.List.{[]}
 use Prim.Native.Nat.{_<_}
 use lib.ListN.{length}
 use Rattle.meaning.specs.Card.{treeAt}
-use Rattle.table.specs.Memory.{cardOf}
-use Rattle.table.proofs.Memory.{trees-length}
+use Rattle.memory.specs.Memory.{cardOf}
+use Rattle.memory.proofs.Memory.{trees-length}
 use Rattle.leaves.proofs.Laws.{join-standing, leaf-stands, leaf-full}
 use Rattle.trees.proofs.Laws.{no-records}
 use Rattle.trees.proofs.Standing.{standing-refused, standing-taken, standing-ends, settle-ready}

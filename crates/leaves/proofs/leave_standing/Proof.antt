@@ -8,9 +8,9 @@ use mathlib.Core.List.{[]}
 use Prim.Native.Nat.{_<_}
 use lib.ListN.{length}
 use Rattle.meaning.specs.Card.{treeAt}
-use Rattle.table.specs.Memory.{cardOf}
-use Rattle.table.proofs.Memory.{trees-length}
-use Rattle.table.proofs.Laws.{branches-length}
+use Rattle.memory.specs.Memory.{cardOf}
+use Rattle.memory.proofs.Memory.{trees-length}
+use Rattle.memory.proofs.Laws.{branches-length}
 use borrow.Author.Needs.{needs}
 use Rattle.leaves.proofs.leave_standing.Statement.{statement}
 use Rattle.leaves.proofs.leave_standing.Tie as tie

@@ -4,8 +4,8 @@ use Rattle.trees.proofs.Newcomer.{new-refused, few-trees-stand, snoc-length, gr
 use mathlib.Core.Path.{refl, sym, _∙_}
 use native.Mathlib.Omega.{arith}
 use Rattle.meaning.specs.Card.{withBranch}
-use Rattle.table.specs.Memory.{cardOf}
-use Rattle.table.proofs.Memory.{trees-length}
+use Rattle.memory.specs.Memory.{cardOf}
+use Rattle.memory.proofs.Memory.{trees-length}
 use borrow.Author.Needs.{needs}
 use Rattle.mappings.proofs.map_new.Statement.{statement}
 use Rattle.mappings.proofs.map_new.Tie as tie

@@ -4,9 +4,9 @@ use native.Mathlib.Omega.{arith}
 use Prim.Native.Nat.{_<_}
 use lib.ListN.{length}
 use Rattle.meaning.specs.Card.{treeAt}
-use Rattle.table.specs.Memory.{cardOf}
-use Rattle.table.proofs.Memory.{trees-length}
-use Rattle.table.proofs.Laws.{branches-length}
+use Rattle.memory.specs.Memory.{cardOf}
+use Rattle.memory.proofs.Memory.{trees-length}
+use Rattle.memory.proofs.Laws.{branches-length}
 use Rattle.mappings.proofs.Laws.{mapping-other, mapping-standing, branch-left}
 use Rattle.trees.proofs.Laws.{no-records}
 use Rattle.trees.proofs.Standing.{branch-stands, standing-refused, standing-taken, standing-ends, settle-ready}

@@ -3,8 +3,8 @@ use mathlib.Core.Bool.{Bool}
 use borrow.Author.Needs.{needs}
 use Rattle.meaning.specs.Card.{Tree, withBranch, withLeaf, treeAt}
 use Rattle.meaning.specs.Events.{holder}
-use Rattle.table.specs.Memory.{cardOf}
-use Rattle.table.proofs.Laws.{branches-length}
+use Rattle.memory.specs.Memory.{cardOf}
+use Rattle.memory.proofs.Laws.{branches-length}
 use Rattle.moves.proofs.Held.{with-none, with-own}
 use Rattle.moves.proofs.holder.Statement.{statement}
 use Rattle.moves.proofs.holder.Tie as tie

@@ -1,7 +1,7 @@
 use native.Mathlib.Omega.{arith}
 use mathlib.Core.Path.{_≡_, sym, _∙_}
 use Rattle.meaning.specs.Card.{treeAt}
-use Rattle.table.specs.Memory.{cardOf}
+use Rattle.memory.specs.Memory.{cardOf}
 use Rattle.moves.proofs.Steps.{let-nothing, let-go-some, let-go-room}
 use borrow.Author.Needs.{needs}
 use Rattle.moves.proofs.let_go.Statement.{statement}

@@ -1,6 +1,6 @@
 use mathlib.Core.Path.{_∙_}
 use Rattle.meaning.specs.Events.{letGo, takeUp, moveLabel}
-use Rattle.table.specs.Memory.{cardOf}
+use Rattle.memory.specs.Memory.{cardOf}
 use Rattle.moves.proofs.Laws.{wrote-then}
 use Rattle.moves.proofs.Steps.{room-first, room-then, let-go-many}
 use borrow.Author.Needs.{needs}

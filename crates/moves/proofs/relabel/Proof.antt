@@ -1,7 +1,7 @@
 use native.Mathlib.Omega.{arith}
 use mathlib.Core.Path.{_≡_, sym, _∙_}
 use Rattle.meaning.specs.Card.{Card, treeAt, heldFor}
-use Rattle.table.specs.Memory.{cardOf}
+use Rattle.memory.specs.Memory.{cardOf}
 use Rattle.moves.proofs.Laws.{wrote-nothing}
 use Rattle.moves.proofs.Steps.{relabel-none, relabel-some, need-other, resize-some}
 use borrow.Author.Needs.{needs}

@@ -1,6 +1,6 @@
 use native.Mathlib.Omega.{arith}
 use Rattle.meaning.specs.Card.{Card}
-use Rattle.table.specs.Memory.{cardOf}
+use Rattle.memory.specs.Memory.{cardOf}
 use Rattle.moves.proofs.Steps.{take-nothing, take-up-some, take-up-room, need-one}
 use borrow.Author.Needs.{needs}
 use Rattle.moves.proofs.take_up.Statement.{statement}

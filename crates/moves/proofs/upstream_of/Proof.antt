@@ -2,7 +2,7 @@ use Prim.Native.Nat.{ℕ}
 use mathlib.Core.Path.{ap, _∙_}
 use mathlib.Core.List.{List}
 use Rattle.meaning.specs.Card.{routeOf}
-use Rattle.table.specs.Memory.{cardOf}
+use Rattle.memory.specs.Memory.{cardOf}
 use Rattle.moves.proofs.Steps.{upstream-some, upstream-none}
 use borrow.Author.Needs.{needs}
 use Rattle.moves.proofs.upstream_of.Statement.{statement}

@@ -1,6 +1,6 @@
 -- `notice::notice_core` meets its contract: 1 first, and then what `tell` does. Assumes nothing.
 use Rattle.notice.proofs.Laws.{does-far}
-use Rattle.table.specs.Memory.{cardOf}
+use Rattle.memory.specs.Memory.{cardOf}
 use borrow.Author.Needs.{needs}
 use Rattle.notice.proofs.notice_core.Statement.{statement}
 use Rattle.notice.proofs.notice_core.Tie as tie

@@ -1,6 +1,6 @@
 -- `notice::tell` meets its contract: each return is one law of the call's definition. Assumes nothing.
 use mathlib.Core.Path.{sym, _∙_}
-use Rattle.table.specs.Memory.{cardOf}
+use Rattle.memory.specs.Memory.{cardOf}
 use Rattle.notice.proofs.Laws.{does-silent, does-short, does-tell}
 use borrow.Author.Needs.{needs}
 use Rattle.notice.proofs.tell.Statement.{statement}

@@ -7,8 +7,8 @@ use mathlib.Core.List.{List, []}
 use lib.ListN.{length}
 use Rattle.meaning.specs.Octets.{four}
 use Rattle.meaning.specs.Card.{treeAt}
-use Rattle.table.specs.Memory.{cardOf}
-use Rattle.table.proofs.Laws.{branches-length}
+use Rattle.memory.specs.Memory.{cardOf}
+use Rattle.memory.proofs.Laws.{branches-length}
 use Rattle.octets.specs.Part.{mid}
 use Rattle.recorder.proofs.Rows.{Rows, rows-none}
 use Rattle.recorder.proofs.Laws.{fourRow, fours-lot, fours-next, fours-done}

@@ -7,11 +7,11 @@ use borrow.Author.Needs.{needs}
 use Rattle.recorder.proofs.put_head.Statement.{statement}
 use Rattle.recorder.proofs.put_head.Tie as tie
 use Rattle.octets.proofs.copy.Reads as copy-reads
-use Rattle.table.proofs.base.Reads as base-reads
-use Rattle.table.proofs.free_labels.Reads as free-labels-reads
-use Rattle.table.proofs.next_id.Reads as next-id-reads
-use Rattle.table.proofs.route_count.Reads as route-count-reads
-use Rattle.table.proofs.tree_count.Reads as tree-count-reads
+use Rattle.memory.proofs.base.Reads as base-reads
+use Rattle.labels.proofs.free_labels.Reads as free-labels-reads
+use Rattle.memory.proofs.next_id.Reads as next-id-reads
+use Rattle.memory.proofs.route_count.Reads as route-count-reads
+use Rattle.memory.proofs.tree_count.Reads as tree-count-reads
 
 base-requires : tie.Need-base-requires
 base-requires c κs = search needs

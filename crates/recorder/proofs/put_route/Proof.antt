@@ -1,5 +1,5 @@
 -- `recorder::put_route` meets its contract: four octets and a space are the route. Assumes nothing.
-use Rattle.table.specs.Memory.{routeIn}
+use Rattle.memory.specs.Memory.{routeIn}
 use Rattle.recorder.proofs.Laws.{route-put}
 use borrow.Author.Needs.{needs}
 use Rattle.recorder.proofs.put_route.Statement.{statement}

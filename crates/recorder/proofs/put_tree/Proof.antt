@@ -1,7 +1,7 @@
 -- `recorder::put_tree` meets its contract: four parts of the output, one behind the other, are the tree. Assumes nothing.
 use Rattle.meaning.specs.Card.{treeAt}
-use Rattle.table.specs.Memory.{cardOf}
-use Rattle.table.proofs.Laws.{branches-length}
+use Rattle.memory.specs.Memory.{cardOf}
+use Rattle.memory.proofs.Laws.{branches-length}
 use Rattle.recorder.proofs.Laws.{tree-put}
 use borrow.Author.Needs.{needs}
 use Rattle.recorder.proofs.put_tree.Statement.{statement}

@@ -2,17 +2,17 @@
 use mathlib.Core.Path.{sym, ap, _∙_}
 use Prim.Native.Nat.{ℕ, _+_}
 use Rattle.meaning.specs.Card.{mapped}
-use Rattle.table.specs.Memory.{labelIn, labelName}
-use Rattle.table.proofs.Laws.{mapped-is}
+use Rattle.memory.specs.Memory.{labelIn, labelName}
+use Rattle.memory.proofs.Laws.{mapped-is}
 use Rattle.recorder.proofs.Laws.{use-mapped, use-awaiting}
 use borrow.Author.Needs.{needs}
 use Rattle.recorder.proofs.put_use.Statement.{statement}
 use Rattle.recorder.proofs.put_use.Tie as tie
 use Rattle.recorder.proofs.put_state.Reads as put-state-reads
-use Rattle.table.proofs.awaited_at.Reads as awaited-at-reads
-use Rattle.table.proofs.base.Reads as base-reads
-use Rattle.table.proofs.label_name.Reads as label-name-reads
-use Rattle.table.proofs.mapped_at.Reads as mapped-at-reads
+use Rattle.labels.proofs.awaited_at.Reads as awaited-at-reads
+use Rattle.memory.proofs.base.Reads as base-reads
+use Rattle.labels.proofs.label_name.Reads as label-name-reads
+use Rattle.labels.proofs.mapped_at.Reads as mapped-at-reads
 
 base-requires : tie.Need-base-requires
 base-requires c κs = search needs

@@ -1,7 +1,7 @@
 use mathlib.Core.Path.{sym, _∙_}
 use borrow.Author.Tests.{not-true, not-false}
 use borrow.Author.Needs.{needs}
-use Rattle.table.proofs.Marks.{never}
+use Rattle.memory.proofs.Marks.{never}
 use Rattle.restorer.proofs.Whole.{taken, not-taken}
 use Rattle.restorer.proofs.is_taken.Statement.{statement}
 use Rattle.restorer.proofs.is_taken.Tie as tie

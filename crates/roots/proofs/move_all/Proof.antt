@@ -2,7 +2,7 @@ use Prim.Native.Nat.{_-_, _≤_, _<_}
 use native.Mathlib.Omega.{arith}
 use mathlib.Core.Path.{_≡_, refl, _∙_}
 use lib.ListN.{length}
-use Rattle.table.specs.Memory.{treeCount}
+use Rattle.memory.specs.Memory.{treeCount}
 use Rattle.roots.proofs.Laws.{Moving, moving-none, moving-in, moving-need, moving-room, moving-more, moving-all}
 use borrow.Author.Needs.{needs}
 use Rattle.roots.proofs.move_all.Statement.{statement}

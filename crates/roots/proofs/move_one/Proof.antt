@@ -1,8 +1,8 @@
 use native.Mathlib.Omega.{arith}
 use mathlib.Core.Path.{sym, _∙_}
 use Rattle.meaning.specs.Card.{Card, treeAt}
-use Rattle.table.specs.Memory.{cardOf}
-use Rattle.table.proofs.Memory.{trees-length}
+use Rattle.memory.specs.Memory.{cardOf}
+use Rattle.memory.proofs.Memory.{trees-length}
 use Rattle.moves.proofs.Held.{holder-range}
 use Rattle.roots.proofs.Laws.{need-of, one-fills, one-of, one-nothing}
 use borrow.Author.Needs.{needs}

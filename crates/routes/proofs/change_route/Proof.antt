@@ -1,6 +1,6 @@
 use mathlib.Core.Path.{refl, sym, ap, _∙_, subst}
 use native.Mathlib.Omega.{arith}
-use Rattle.table.specs.Memory.{cardOf}
+use Rattle.memory.specs.Memory.{cardOf}
 use Rattle.routes.proofs.Laws.{order-same, order-refused, order-ready, order-done}
 use borrow.Author.Needs.{needs}
 use Rattle.routes.proofs.change_route.Statement.{statement}

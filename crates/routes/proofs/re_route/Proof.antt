@@ -2,7 +2,7 @@ use Rattle.meaning.specs.Card.{withNext}
 use Rattle.routes.proofs.Laws.{moved-room, moved-ends}
 use mathlib.Core.Path.{refl, sym, ap, _∙_, subst}
 use native.Mathlib.Omega.{arith}
-use Rattle.table.specs.Memory.{cardOf}
+use Rattle.memory.specs.Memory.{cardOf}
 use Rattle.routes.proofs.Laws.{same-place, moved-ends}
 use borrow.Author.Needs.{needs}
 use Rattle.routes.proofs.re_route.Statement.{statement}

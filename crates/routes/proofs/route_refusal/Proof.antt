@@ -2,7 +2,7 @@ use mathlib.Core.Path.{refl, sym, ap, _∙_, subst}
 use native.Mathlib.Omega.{arith}
 use mathlib.Core.Bool.{true, false}
 use borrow.Author.Tests.{lt-ltb, le-ltb}
-use Rattle.table.specs.Memory.{cardOf}
+use Rattle.memory.specs.Memory.{cardOf}
 use Rattle.meaning.specs.Events.{labelsShort, needAll, upstream}
 use Rattle.moves.specs.Move.{sizeAll}
 use Rattle.trees.proofs.Laws.{when-1, when-2, when-3, when-0}

@@ -1,7 +1,7 @@
 use mathlib.Core.Path.{refl, sym, ap, _∙_, subst}
 use native.Mathlib.Omega.{arith}
 use borrow.Author.Tests.{eq-eqb, ne-eqb}
-use Rattle.table.proofs.Memory.{routes-length}
+use Rattle.memory.proofs.Memory.{routes-length}
 use borrow.Author.Needs.{needs}
 use Rattle.routes.proofs.routes_full.Statement.{statement}
 use Rattle.routes.proofs.routes_full.Tie as tie

@@ -1,8 +1,8 @@
-use Rattle.table.proofs.Memory.{routes-length, routeCount-le}
+use Rattle.memory.proofs.Memory.{routes-length, routeCount-le}
 use mathlib.Core.Path.{refl, sym, ap, _∙_, subst}
 use native.Mathlib.Omega.{arith}
-use Rattle.table.specs.Memory.{cardOf, routeCount}
-use Rattle.table.proofs.Memory.{routes-length}
+use Rattle.memory.specs.Memory.{cardOf, routeCount}
+use Rattle.memory.proofs.Memory.{routes-length}
 use Rattle.routes.proofs.Laws.{gone-is, put-is, stands-below, room-for-it}
 use borrow.Author.Needs.{needs}
 use Rattle.routes.proofs.set_route.Statement.{statement}

@@ -3,7 +3,7 @@ use native.Mathlib.Omega.{arith}
 use mathlib.Core.Path.{_≡_, sym, _∙_}
 use lib.ListN.{drop}
 use Rattle.meaning.specs.Save.{allCarried}
-use Rattle.table.specs.Memory.{cardOf, baseIn}
+use Rattle.memory.specs.Memory.{cardOf, baseIn}
 use Rattle.rules.proofs.Laws.{carried-start, carried-hit, carried-miss, carried-none, label-there, labels-end}
 use borrow.Author.Needs.{needs}
 use Rattle.rules.proofs.all_carried.Statement.{statement}

@@ -5,7 +5,7 @@ use lib.ListN.{drop}
 use mathlib.Core.List.{List}
 use Rattle.meaning.specs.Card.{treeAt}
 use Rattle.meaning.specs.Save.{all, isBranchLabel}
-use Rattle.table.specs.Memory.{cardOf}
+use Rattle.memory.specs.Memory.{cardOf}
 use Rattle.rules.proofs.Laws.{all-hit, all-miss, all-none, branch-there, branches-end}
 use borrow.Author.Needs.{needs}
 use Rattle.rules.proofs.branches_good.Statement.{statement}

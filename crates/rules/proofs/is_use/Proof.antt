@@ -1,7 +1,7 @@
 use mathlib.Core.Path.{sym, ap, ap₂, _∙_}
 use mathlib.Core.Bool.{Bool, _&&_}
 use Rattle.meaning.specs.Save.{isName}
-use Rattle.table.specs.Memory.{labelName}
+use Rattle.memory.specs.Memory.{labelName}
 use Rattle.rules.proofs.Laws.{use-none}
 use borrow.Author.Needs.{needs}
 use Rattle.rules.proofs.is_use.Statement.{statement}

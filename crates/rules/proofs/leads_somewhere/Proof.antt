@@ -1,5 +1,5 @@
 use mathlib.Core.Path.{sym}
-use Rattle.table.proofs.Laws.{branches-length}
+use Rattle.memory.proofs.Laws.{branches-length}
 use Rattle.rules.proofs.Laws.{leaf-leads, branch-leads}
 use borrow.Author.Needs.{needs}
 use Rattle.rules.proofs.leads_somewhere.Statement.{statement}

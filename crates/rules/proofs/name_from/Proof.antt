@@ -4,7 +4,7 @@ use mathlib.Core.Path.{_≡_, refl, sym, _∙_}
 use lib.ListN.{drop}
 use Rattle.meaning.specs.Octets.{any}
 use Rattle.meaning.specs.Card.{named}
-use Rattle.table.specs.Memory.{cardOf}
+use Rattle.memory.specs.Memory.{cardOf}
 use Rattle.rules.proofs.Laws.{any-hit, any-miss, any-none, tree-there, tree-for, trees-end}
 use borrow.Author.Needs.{needs}
 use Rattle.rules.proofs.name_from.Statement.{statement}

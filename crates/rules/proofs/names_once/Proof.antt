@@ -3,7 +3,7 @@ use native.Mathlib.Omega.{arith}
 use mathlib.Core.Path.{_≡_, refl, sym, _∙_}
 use lib.ListN.{drop}
 use Rattle.meaning.specs.Save.{onceEach, sameName}
-use Rattle.table.specs.Memory.{cardOf}
+use Rattle.memory.specs.Memory.{cardOf}
 use Rattle.rules.proofs.Laws.{once-hit, once-miss, once-none, tree-there, name-like, trees-end}
 use borrow.Author.Needs.{needs}
 use Rattle.rules.proofs.names_once.Statement.{statement}

@@ -3,7 +3,7 @@ use native.Mathlib.Omega.{arith}
 use mathlib.Core.Path.{_≡_, refl, sym, _∙_}
 use lib.ListN.{drop}
 use Rattle.meaning.specs.Save.{all, carriesOwn}
-use Rattle.table.specs.Memory.{cardOf}
+use Rattle.memory.specs.Memory.{cardOf}
 use Rattle.rules.proofs.Laws.{all-hit, all-miss, all-none, tree-there, trees-end}
 use borrow.Author.Needs.{needs}
 use Rattle.rules.proofs.own_labels.Statement.{statement}

@@ -3,7 +3,7 @@ use mathlib.Core.Path.{_≡_, refl, sym, _∙_}
 use lib.ListN.{drop}
 use Rattle.meaning.specs.Octets.{any}
 use Rattle.meaning.specs.Card.{isFor}
-use Rattle.table.specs.Memory.{cardOf}
+use Rattle.memory.specs.Memory.{cardOf}
 use Rattle.rules.proofs.Laws.{any-hit, any-miss, any-none, route-there, route-for, routes-end}
 use borrow.Author.Needs.{needs}
 use Rattle.rules.proofs.root_from.Statement.{statement}

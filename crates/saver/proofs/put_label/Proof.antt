@@ -2,14 +2,14 @@
 use native.Mathlib.Omega.{arith}
 use mathlib.Core.Path.{sym, _∙_}
 use Prim.Native.Nat.{_+_}
-use Rattle.table.specs.Memory.{baseIn, labelIn}
+use Rattle.memory.specs.Memory.{baseIn, labelIn}
 use Rattle.recorder.proofs.Sizes.{use-length}
 use Rattle.saver.proofs.Laws.{label-skip, label-put}
 use borrow.Author.Needs.{needs}
 use Rattle.saver.proofs.put_label.Statement.{statement}
 use Rattle.saver.proofs.put_label.Tie as tie
 use Rattle.recorder.proofs.put_use.Reads as put-use-reads
-use Rattle.table.proofs.is_free.Reads as is-free-reads
+use Rattle.labels.proofs.is_free.Reads as is-free-reads
 
 is-free-requires : tie.Need-is-free-requires
 is-free-requires c κs = search needs

@@ -2,7 +2,7 @@
 use Prim.Native.Nat.{_-_, _<_}
 use native.Mathlib.Omega.{arith}
 use borrow.Author.Needs.{needs}
-use Rattle.table.specs.Memory.{routeCount, routeIn}
+use Rattle.memory.specs.Memory.{routeCount, routeIn}
 use Rattle.recorder.proofs.Rows.{Rows, rows-none, rows-room, rows-lent, rows-done}
 use Rattle.recorder.proofs.Sizes.{route-length}
 use Rattle.saver.proofs.Laws.{routeRow, routes-lot}

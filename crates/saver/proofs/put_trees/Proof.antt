@@ -3,9 +3,9 @@ use Prim.Native.Nat.{_-_, _<_}
 use native.Mathlib.Omega.{arith}
 use mathlib.Core.Path.{ap, _∙_}
 use Rattle.meaning.specs.Save.{treeSaved}
-use Rattle.table.proofs.Memory.{tree-at}
+use Rattle.memory.proofs.Memory.{tree-at}
 use borrow.Author.Needs.{needs}
-use Rattle.table.specs.Memory.{treeCount}
+use Rattle.memory.specs.Memory.{treeCount}
 use Rattle.recorder.proofs.Rows.{Rows, rows-none, rows-room, rows-lent, rows-done}
 use Rattle.saver.proofs.Laws.{treeRow, trees-lot, tree-size}
 use Rattle.saver.proofs.put_trees.Statement.{statement}

@@ -1,6 +1,6 @@
 -- `saver::save_core` meets its contract: 16 where the save is longer than the output, and else what `write_save` does. Assumes nothing.
 use native.Mathlib.Omega.{arith}
-use Rattle.table.specs.Memory.{cardOf}
+use Rattle.memory.specs.Memory.{cardOf}
 use Rattle.saver.proofs.Laws.{does-short, does-save}
 use borrow.Author.Needs.{needs}
 use Rattle.saver.proofs.save_core.Statement.{statement}

@@ -4,9 +4,9 @@ use Rattle.saver.proofs.Laws.{saved-size}
 use borrow.Author.Needs.{needs}
 use Rattle.saver.proofs.saved_size.Statement.{statement}
 use Rattle.saver.proofs.saved_size.Tie as tie
-use Rattle.table.proofs.free_labels.Reads as free-labels-reads
-use Rattle.table.proofs.route_count.Reads as route-count-reads
-use Rattle.table.proofs.tree_count.Reads as tree-count-reads
+use Rattle.labels.proofs.free_labels.Reads as free-labels-reads
+use Rattle.memory.proofs.route_count.Reads as route-count-reads
+use Rattle.memory.proofs.tree_count.Reads as tree-count-reads
 
 route-count-requires : tie.Need-route-count-requires
 route-count-requires c κs = search needs

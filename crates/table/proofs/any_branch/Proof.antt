@@ -7,8 +7,8 @@ use lib.ListN.{drop, set, length-set}
 use borrow.Author.Needs.{needs}
 use Rattle.meaning.specs.Octets.{any}
 use Rattle.meaning.specs.Card.{isBranch, treeAt}
-use Rattle.table.specs.Memory.{cardOf}
-use Rattle.table.proofs.Laws.{branches-length, others-but, others-miss, others-hit, others-none}
+use Rattle.memory.specs.Memory.{cardOf}
+use Rattle.memory.proofs.Laws.{branches-length, others-but, others-miss, others-hit, others-none}
 use Rattle.table.proofs.any_branch.Statement.{statement}
 use Rattle.table.proofs.any_branch.Tie as tie
 

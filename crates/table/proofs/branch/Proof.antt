@@ -1,5 +1,5 @@
 use borrow.Author.Needs.{needs}
-use Rattle.table.proofs.Laws.{branch-at}
+use Rattle.memory.proofs.Laws.{branch-at}
 use Rattle.table.proofs.branch.Statement.{statement}
 use Rattle.table.proofs.branch.Tie as tie
 

@@ -1,5 +1,5 @@
 use mathlib.Core.Path.{sym}
-use Rattle.table.proofs.Marks.{not-far, not-mapped, carried-by}
+use Rattle.memory.proofs.Marks.{not-far, not-mapped, carried-by}
 use borrow.Author.Needs.{needs}
 use Rattle.table.proofs.carries_at.Statement.{statement}
 use Rattle.table.proofs.carries_at.Tie as tie

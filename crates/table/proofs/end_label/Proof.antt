@@ -1,6 +1,6 @@
 use native.Mathlib.Omega.{arith}
 use mathlib.Core.List.{[]}
-use Rattle.table.proofs.Laws.{label-carried, own-inside, ends}
+use Rattle.memory.proofs.Laws.{label-carried, own-inside, ends}
 use borrow.Author.Needs.{needs}
 use Rattle.table.proofs.end_label.Statement.{statement}
 use Rattle.table.proofs.end_label.Tie as tie

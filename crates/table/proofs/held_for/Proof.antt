@@ -1,8 +1,8 @@
 use native.Mathlib.Omega.{arith}
 use mathlib.Core.Path.{sym, _∙_}
-use Rattle.table.specs.Memory.{ownPlace}
-use Rattle.table.proofs.Marks.{carried-out}
-use Rattle.table.proofs.Laws.{held-some, held-none}
+use Rattle.memory.specs.Memory.{ownPlace}
+use Rattle.memory.proofs.Marks.{carried-out}
+use Rattle.memory.proofs.Laws.{held-some, held-none}
 use borrow.Author.Needs.{needs}
 use Rattle.table.proofs.held_for.Statement.{statement}
 use Rattle.table.proofs.held_for.Tie as tie

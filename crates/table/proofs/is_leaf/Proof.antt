@@ -1,5 +1,5 @@
 use borrow.Author.Needs.{needs}
-use Rattle.table.proofs.Laws.{leaf-at}
+use Rattle.memory.proofs.Laws.{leaf-at}
 use Rattle.table.proofs.is_leaf.Statement.{statement}
 use Rattle.table.proofs.is_leaf.Tie as tie
 

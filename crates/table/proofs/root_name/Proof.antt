@@ -1,5 +1,5 @@
 use borrow.Author.Needs.{needs}
-use Rattle.table.specs.Memory.{rootName}
+use Rattle.memory.specs.Memory.{rootName}
 use Rattle.table.proofs.root_name.Statement.{statement}
 use Rattle.table.proofs.root_name.Tie as tie
 

@@ -1,5 +1,5 @@
 use borrow.Author.Needs.{needs}
-use Rattle.table.proofs.Laws.{route-some, route-none}
+use Rattle.memory.proofs.Laws.{route-some, route-none}
 use Rattle.table.proofs.route_of.Statement.{statement}
 use Rattle.table.proofs.route_of.Tie as tie
 

@@ -7,8 +7,8 @@ use Rattle.meaning.specs.Octets.{place}
 use Rattle.meaning.specs.Card.{isFor, routePlace}
 use Rattle.octets.specs.Part.{tab}
 use Rattle.octets.proofs.Tab.{place-hit, place-miss, place-none}
-use Rattle.table.specs.Memory.{cardOf, routeIn}
-use Rattle.table.proofs.Laws.{routes-start, rooted-at}
+use Rattle.memory.specs.Memory.{cardOf, routeIn}
+use Rattle.memory.proofs.Laws.{routes-start, rooted-at}
 use Rattle.table.proofs.route_place.Statement.{statement}
 use Rattle.table.proofs.route_place.Tie as tie
 

@@ -1,6 +1,6 @@
 use mathlib.Core.Path.{refl}
 use borrow.Author.Needs.{needs}
-use Rattle.table.specs.Memory.{routeIn}
+use Rattle.memory.specs.Memory.{routeIn}
 use Rattle.table.proofs.route_via.Statement.{statement}
 use Rattle.table.proofs.route_via.Tie as tie
 

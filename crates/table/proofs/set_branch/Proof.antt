@@ -1,5 +1,5 @@
 use borrow.Author.Needs.{needs}
-use Rattle.table.proofs.Laws.{set-branch}
+use Rattle.memory.proofs.Laws.{set-branch}
 use Rattle.table.proofs.set_branch.Statement.{statement}
 use Rattle.table.proofs.set_branch.Tie as tie
 

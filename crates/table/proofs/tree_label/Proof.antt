@@ -1,8 +1,8 @@
 use native.Mathlib.Omega.{arith}
 use mathlib.Core.Path.{sym, _∙_}
-use Rattle.table.specs.Memory.{ownPlace}
-use Rattle.table.proofs.Marks.{carried-out}
-use Rattle.table.proofs.Laws.{label-some, label-none}
+use Rattle.memory.specs.Memory.{ownPlace}
+use Rattle.memory.proofs.Marks.{carried-out}
+use Rattle.memory.proofs.Laws.{label-some, label-none}
 use borrow.Author.Needs.{needs}
 use Rattle.table.proofs.tree_label.Statement.{statement}
 use Rattle.table.proofs.tree_label.Tie as tie

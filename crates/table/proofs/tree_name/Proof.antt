@@ -1,7 +1,7 @@
 use mathlib.Core.Path.{sym, _∙_}
 use borrow.Author.Needs.{needs}
-use Rattle.table.specs.Memory.{treeName}
-use Rattle.table.proofs.Laws.{name-at}
+use Rattle.memory.specs.Memory.{treeName}
+use Rattle.memory.proofs.Laws.{name-at}
 use Rattle.table.proofs.tree_name.Statement.{statement}
 use Rattle.table.proofs.tree_name.Tie as tie
 

@@ -1,6 +1,6 @@
 use borrow.Author.Needs.{needs}
 use Rattle.meaning.specs.Card.{treeAt}
-use Rattle.table.specs.Memory.{cardOf}
+use Rattle.memory.specs.Memory.{cardOf}
 use Rattle.trees.proofs.Laws.{branch-held}
 use Rattle.trees.proofs.branch_holder.Statement.{statement}
 use Rattle.trees.proofs.branch_holder.Tie as tie

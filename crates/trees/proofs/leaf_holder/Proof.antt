@@ -1,7 +1,7 @@
 use borrow.Author.Needs.{needs}
 use Rattle.meaning.specs.Card.{treeAt}
-use Rattle.table.specs.Memory.{cardOf}
-use Rattle.table.proofs.Laws.{branches-length}
+use Rattle.memory.specs.Memory.{cardOf}
+use Rattle.memory.proofs.Laws.{branches-length}
 use Rattle.trees.proofs.Laws.{leaf-held}
 use Rattle.trees.proofs.leaf_holder.Statement.{statement}
 use Rattle.trees.proofs.leaf_holder.Tie as tie

@@ -1,5 +1,5 @@
 use Rattle.trees.proofs.Laws.{new-held, new-led}
-use Rattle.table.specs.Memory.{cardOf}
+use Rattle.memory.specs.Memory.{cardOf}
 use borrow.Author.Needs.{needs}
 use Rattle.trees.proofs.new_holder.Statement.{statement}
 use Rattle.trees.proofs.new_holder.Tie as tie

@@ -1,6 +1,6 @@
-use Rattle.table.specs.Memory.{cardOf}
+use Rattle.memory.specs.Memory.{cardOf}
 use mathlib.Core.Path.{sym, _∙_}
-use Rattle.table.proofs.Memory.{trees-length}
+use Rattle.memory.proofs.Memory.{trees-length}
 use Rattle.trees.proofs.Newcomer.{many-trees, none-needed, none-free, no-room, all-fits}
 use borrow.Author.Needs.{needs}
 use Rattle.trees.proofs.new_refusal.Statement.{statement}

@@ -3,7 +3,7 @@ use mathlib.Core.Path.{ap, _∙_}
 use native.Mathlib.Omega.{arith}
 use Rattle.meaning.specs.Card.{withNext}
 use Rattle.moves.proofs.Laws.{relabel-stays}
-use Rattle.table.proofs.Memory.{trees-length}
+use Rattle.memory.proofs.Memory.{trees-length}
 use Rattle.trees.proofs.Laws.{count-is, ended-cut}
 use borrow.Author.Needs.{needs}
 use Rattle.trees.proofs.settle.Statement.{statement}

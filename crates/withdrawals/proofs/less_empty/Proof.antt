@@ -1,4 +1,4 @@
-use Rattle.table.proofs.Laws.{branches-length}
+use Rattle.memory.proofs.Laws.{branches-length}
 use Rattle.withdrawals.proofs.Laws.{leaf-left, none-left}
 use mathlib.Core.Path.{sym, _∙_}
 use borrow.Author.Needs.{needs}

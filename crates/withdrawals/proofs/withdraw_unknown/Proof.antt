@@ -1,7 +1,7 @@
 use mathlib.Core.Path.{refl, sym, _∙_}
 use native.Mathlib.Omega.{arith}
-use Rattle.table.specs.Memory.{cardOf}
-use Rattle.table.proofs.Memory.{trees-length}
+use Rattle.memory.specs.Memory.{cardOf}
+use Rattle.memory.proofs.Memory.{trees-length}
 use Rattle.trees.proofs.Laws.{zero-free}
 use Rattle.withdrawals.proofs.Laws.{unknown-room, unknown-done}
 use borrow.Author.Needs.{needs}
