@@ -32,7 +32,7 @@ fn read_use(octets: &[u8], at: usize, numbers: &mut [u64], names: &mut [u8])
     let n = fields::put_name(octets, at + 9, &mut name);
     let held = octets::at(octets, at + 7) == 1;
     let neighbour = octets::at(octets, at + 8) % 16;
-    rows::put_use(numbers, names, p as usize, held, neighbour, &name[0..n]);
+    marks::put_use(numbers, names, p as usize, held, neighbour, &name[0..n]);
 }
 
 fn read_uses(octets: &[u8], at: usize, n: usize, numbers: &mut [u64], names: &mut [u8])
@@ -83,7 +83,7 @@ fn label_tree(numbers: &mut [u64], names: &[u8], i: usize)
     if 256 <= p {
         return;
     }
-    rows::attach(numbers, i, p);
+    marks::attach(numbers, i, p);
 }
 
 fn label_trees(numbers: &mut [u64], names: &[u8])

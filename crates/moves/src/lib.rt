@@ -79,7 +79,7 @@ fn give(
     let name = table::tree_name(names, i);
     let end = at + (24 + name.len());
     let next = writer::send(id, out, at, u, 0x0400, label, name);
-    rows::map_label(numbers, names, p, i, u);
+    marks::map_label(numbers, names, p, i, u);
     Written { at: end, id: next }
 }
 

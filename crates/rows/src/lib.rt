@@ -1,13 +1,11 @@
-// Trees and routes that come and go in the card's memory, the labels' remembered names, and the fresh card.
+// Trees and routes that come and go in the card's memory, and the fresh card.
 ghost use mathlib.Core.Path.{_≡_};
-ghost use mathlib.Core.Bool.{true};
 ghost use mathlib.Core.List.{List, [], _∷_, _++_};
 ghost use Prim.Native.Nat.{ℕ, _+_, _-_, _≤_, _<_};
-ghost use lib.ListN.{length, replicate, set};
-ghost use Rattle.meaning.specs.Octets.{pick, put, cut};
-ghost use Rattle.meaning.specs.Card.{Card, fresh, withTrees, withRoutes, withLabels, bare, treeAt, mapped, awaiting, routePlace};
-ghost use Rattle.meaning.specs.Events.{setUse, setLabel};
-ghost use Rattle.memory.specs.Memory.{cardOf, baseIn, treeCount, routeCount, isFreeAt, isMappedAt};
+ghost use lib.ListN.{length, replicate};
+ghost use Rattle.meaning.specs.Octets.{put, cut};
+ghost use Rattle.meaning.specs.Card.{fresh, withTrees, withRoutes, bare, routePlace};
+ghost use Rattle.memory.specs.Memory.{cardOf, treeCount, routeCount};
 ghost use Rattle.rows.specs.Parts.{Written, Closed, Lowered, LoweredOne};
 
 // ---- parts of the memory
@@ -35,7 +33,7 @@ fn clear(numbers: &mut [u64], a: usize, k: usize)
 }
 
 // A text in its slot: its length, and then its octets.
-fn put_text(names: &mut [u8], at: usize, text: &[u8])
+pub fn put_text(names: &mut [u8], at: usize, text: &[u8])
     requires { ⌜ (at + 1 + length (now text) ≤ length (now names)) × (length (now text) < 256) ⌝ }
     ensures { λ _. ⌜ Written at (length (now (text .entry)) ∷ now (text .entry)) (now (names .entry)) (now (names .exit)) ⌝ }
 {
@@ -99,49 +97,6 @@ pub fn remove_tree(numbers: &mut [u64], names: &mut [u8], i: usize)
     close_numbers(numbers, 100 + i * 17, 100 + n * 17, 17);
     close_octets(names, i * 55, n * 55, 55);
     numbers[3] = (n - 1) as u64;
-}
-
-// The label at place p of the block, which is free, is mapped to neighbour n for the tree at place i, which carries it from now on.
-pub fn map_label(numbers: &mut [u64], names: &mut [u8], p: usize, i: usize, n: u64)
-    requires { ⌜ (length (now numbers) ≡ 1448) × (length (now names) ≡ 18144) × (p < 256) × (i < treeCount (now numbers)) × (i < 64) × (n < 16) × (isFreeAt (now numbers) p ≡ true) ⌝ }
-    ensures { λ _. ⌜ cardOf (now (numbers .exit)) (now (names .exit))
-        ≡ setLabel i (baseIn (now (numbers .entry)) + p) (setUse (baseIn (now (numbers .entry)) + p) (mapped n (treeAt i (cardOf (now (numbers .entry)) (now (names .entry))) .name)) (cardOf (now (numbers .entry)) (now (names .entry)))) ⌝ }
-{
-    octets::copy_within(names, i * 55, 3520 + p * 55, 55);
-    labels::set_taken(numbers, p);
-    numbers[1188 + p] = n + 256 * i as u64;
-    numbers[36 + i] = p as u64;
-}
-
-// The number of a use: mapped to neighbour n, or awaiting release from it.
-fn use_of(held: bool, n: u64) -> u64
-    requires { ⌜ n < 16 ⌝ }
-    ensures { λ r. ⌜ (r ≡ pick held n (n + 16)) × (r < 32) ⌝ }
-{
-    if held { n } else { n + 16 }
-}
-
-// The label at place p of the block, which no tree carries, is from now on mapped to neighbour n for that name, or awaits release
-// from n. Its mark names place 64, where no tree stands.
-pub fn put_use(numbers: &mut [u64], names: &mut [u8], p: usize, held: bool, n: u64, name: &[u8])
-    requires { ⌜ (length (now numbers) ≡ 1448) × (length (now names) ≡ 18144) × (p < 256) × (n < 16) × (length (now name) ≤ 54)
-        × ((j : ℕ) → j < treeCount (now numbers) → treeAt j (cardOf (now numbers) (now names)) .label ≡ baseIn (now numbers) + p → ⊥) ⌝ }
-    ensures { λ _. ⌜ cardOf (now (numbers .exit)) (now (names .exit))
-        ≡ withLabels (set (cardOf (now (numbers .entry)) (now (names .entry)) .labels) p (pick held (mapped n (now (name .entry))) (awaiting n (now (name .entry))))) (cardOf (now (numbers .entry)) (now (names .entry))) ⌝ }
-{
-    put_text(names, 3520 + p * 55, name);
-    labels::set_taken(numbers, p);
-    numbers[1188 + p] = use_of(held, n) + 16384;
-}
-
-// The tree at place i carries from now on the label at place p of the block, which is mapped and which no tree carries.
-pub fn attach(numbers: &mut [u64], i: usize, p: usize)
-    requires { ⌜ (length (now numbers) ≡ 1448) × (p < 256) × (i < treeCount (now numbers)) × (i < 64) × (isMappedAt (now numbers) p ≡ true)
-        × ((os : List ℕ) (j : ℕ) → j < treeCount (now numbers) → treeAt j (cardOf (now numbers) os) .label ≡ baseIn (now numbers) + p → ⊥) ⌝ }
-    ensures { λ _. ⌜ ((os : List ℕ) → cardOf (now (numbers .exit)) os ≡ setLabel i (baseIn (now (numbers .entry)) + p) (cardOf (now (numbers .entry)) os)) ⌝ }
-{
-    numbers[1188 + p] = numbers[1188 + p] % 256 + 256 * i as u64;
-    numbers[36 + i] = p as u64;
 }
 
 // ---- routes

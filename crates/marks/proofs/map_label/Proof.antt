@@ -1,9 +1,9 @@
 use native.Mathlib.Omega.{arith}
 use lib.ListN.{length-set}
-use Rattle.rows.proofs.Rows.{map-label}
+use Rattle.marks.proofs.Marks.{map-label}
 use borrow.Author.Needs.{needs}
-use Rattle.rows.proofs.map_label.Statement.{statement}
-use Rattle.rows.proofs.map_label.Tie as tie
+use Rattle.marks.proofs.map_label.Statement.{statement}
+use Rattle.marks.proofs.map_label.Tie as tie
 
 mul-copy-within : tie.Need-mul-copy-within
 mul-copy-within c = search needs

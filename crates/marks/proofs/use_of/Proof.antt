@@ -1,8 +1,8 @@
 use mathlib.Core.Path.{refl}
 use native.Mathlib.Omega.{arith}
 use borrow.Author.Needs.{needs}
-use Rattle.rows.proofs.use_of.Statement.{statement}
-use Rattle.rows.proofs.use_of.Tie as tie
+use Rattle.marks.proofs.use_of.Statement.{statement}
+use Rattle.marks.proofs.use_of.Tie as tie
 
 add-result : tie.Need-add-result
 add-result c = search needs

@@ -1,8 +1,8 @@
-use Rattle.rows.proofs.Rows.{put-use}
+use Rattle.marks.proofs.Marks.{put-use}
 use native.Mathlib.Omega.{arith}
 use borrow.Author.Needs.{needs}
-use Rattle.rows.proofs.put_use.Statement.{statement}
-use Rattle.rows.proofs.put_use.Tie as tie
+use Rattle.marks.proofs.put_use.Statement.{statement}
+use Rattle.marks.proofs.put_use.Tie as tie
 
 mul-put-text : tie.Need-mul-put-text
 mul-put-text c = search needs
@@ -41,7 +41,7 @@ returns : tie.Need-returns
 returns c =
     let s = c .before .before .before .before .before .before .before .before .before .before .before .before in
     let t = c .before .before .before .set-taken .ensures in
-    put-use (s .args .numbers .now) _ (s .args .names .now) _ (s .args .name .now) (s .args .p) (s .args .n) _ (s .args .held) (s .pre .2) (s .pre .3) (s .pre .4) (c .before .before .before .before .before .before .before .put-text .ensures) (t .0) (t .1) (s .pre .0) (s .pre .5) (c .use-of .ensures .0)
+    put-use (s .args .numbers .now) _ (s .args .names .now) _ (s .args .name .now) (s .args .place) (s .args .n) _ (s .args .held) (s .pre .2) (s .pre .3) (s .pre .4) (c .before .before .before .before .before .before .before .put-text .ensures) (t .0) (t .1) (s .pre .0) (s .pre .5) (c .use-of .ensures .0)
 
 pub put-use-spec : {M : Type 1} → statement M
 put-use-spec =

@@ -1,9 +1,9 @@
-use Rattle.rows.proofs.Rows.{attach}
+use Rattle.marks.proofs.Marks.{attach}
 use lib.ListN.{length-set}
 use native.Mathlib.Omega.{arith}
 use borrow.Author.Needs.{needs}
-use Rattle.rows.proofs.attach.Statement.{statement}
-use Rattle.rows.proofs.attach.Tie as tie
+use Rattle.marks.proofs.attach.Statement.{statement}
+use Rattle.marks.proofs.attach.Tie as tie
 
 add-numbers : tie.Need-add-numbers
 add-numbers c = search needs
