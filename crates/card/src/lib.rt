@@ -5,11 +5,12 @@ ghost use mathlib.Core.List.{List};
 ghost use Prim.Native.Nat.{ℕ, _≤_, _<_};
 ghost use lib.ListN.{length};
 ghost use denote.Ref.{ptr};
-ghost use Rattle.meaning.specs.Card.{treeAt, feedOf, freeLabels, lookupLabel, lookupName, nothing};
+ghost use Rattle.meaning.specs.Card.{freeLabels, lookupLabel, lookupName};
 ghost use Rattle.meaning.specs.Events.{start, event, finish, onMessage, receive, join, leave, route, notRoot};
 ghost use Rattle.meaning.specs.Calls.{Does, Hands};
-ghost use Rattle.memory.specs.Memory.{cardOf, treeCount};
-ghost use Rattle.card.specs.Calls.{feedIn, onRead};
+ghost use Rattle.memory.specs.Memory.{cardOf};
+ghost use Rattle.card.specs.Calls.{onRead};
+ghost use Rattle.lookups.specs.Feed.{feedIn};
 use reader::Read;
 
 // ---- start
@@ -252,60 +253,10 @@ pub struct Feed {
     pub branches: [u64; 16],
 }
 
-// Where the tree at place i leads while u is its upstream, whose own branch is held. The one place is cleared where the row
-// was laid, and nothing is read again: a load behind a store to a part of what it loads would wait for that store.
-fn feed_at(numbers: &[u64], i: usize, u: u64, branches: &mut [u64; 16]) -> bool
-    requires { ⌜ (length (now numbers) ≡ 1448) × (i < treeCount (now numbers)) × (i < 64) ⌝ }
-    ensures { λ r. ⌜ ((os : List ℕ) → feedIn (now (branches .exit)) r ≡ feedOf u (treeAt i (cardOf (now (numbers .entry)) os))) ⌝ }
-{
-    *branches = table::branches(numbers, i);
-    if u < 16 {
-        branches[u as usize] = 0;
-    }
-    table::is_leaf(numbers, i)
-}
-
-fn no_feed(branches: &mut [u64; 16]) -> bool
-    ensures { λ r. ⌜ feedIn (now (branches .exit)) r ≡ nothing ⌝ }
-{
-    *branches = [0u64; 16];
-    false
-}
-
-fn find_label(numbers: &[u64], label: u64, branches: &mut [u64; 16]) -> bool
-    requires { ⌜ length (now numbers) ≡ 1448 ⌝ }
-    ensures { λ r. ⌜ ((os : List ℕ) → feedIn (now (branches .exit)) r ≡ lookupLabel label (cardOf (now (numbers .entry)) os)) ⌝ }
-{
-    let sender = labels::mapped_to(numbers, label);
-    if sender == 17 {
-        return no_feed(branches);
-    }
-    let i = table::carrier_place(numbers, label);
-    if i < memory::tree_count(numbers) {
-        return feed_at(numbers, i, sender, branches);
-    }
-    no_feed(branches)
-}
-
-fn find_name(numbers: &[u64], names: &[u8], element: &[u8], branches: &mut [u64; 16]) -> bool
-    requires { ⌜ (length (now numbers) ≡ 1448) × (length (now names) ≡ 18144) ⌝ }
-    ensures { λ r. ⌜ feedIn (now (branches .exit)) r ≡ lookupName (now (element .entry)) (cardOf (now (numbers .entry)) (now (names .entry))) ⌝ }
-{
-    if reader::element_refusal(element) != 0 {
-        return no_feed(branches);
-    }
-    let i = table::tree_place(numbers, names, element);
-    if i < memory::tree_count(numbers) {
-        let via = table::route_of(numbers, names, reader::root_of(element));
-        return feed_at(numbers, i, via, branches);
-    }
-    no_feed(branches)
-}
-
 pub fn lookup_label_core(numbers: &[u64; 1448], label: u32, branches: &mut [u64; 16]) -> bool
     ensures { λ r. ⌜ ((os : List ℕ) → feedIn (now (branches .exit)) r ≡ lookupLabel label (cardOf (now (numbers .entry)) os)) ⌝ }
 {
-    find_label(numbers, label as u64, branches)
+    lookups::find_label(numbers, label as u64, branches)
 }
 
 pub fn lookup_label(numbers: &[u64; 1448], label: u32) -> Feed
@@ -324,7 +275,7 @@ pub fn lookup_name_core(
 ) -> bool
     ensures { λ r. ⌜ feedIn (now (branches .exit)) r ≡ lookupName (now (element .entry)) (cardOf (now (numbers .entry)) (now (names .entry))) ⌝ }
 {
-    find_name(numbers, names, element, branches)
+    lookups::find_name(numbers, names, element, branches)
 }
 
 pub fn lookup_name(numbers: &[u64; 1448], names: &[u8; 18144], element: &[u8]) -> Feed

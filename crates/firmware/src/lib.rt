@@ -8,7 +8,7 @@ ghost use Rattle.meaning.specs.Card.{freeLabels, lookupLabel, lookupName};
 ghost use Rattle.meaning.specs.Events.{start, event, receive, join, leave, route};
 ghost use Rattle.meaning.specs.Calls.{Does};
 ghost use Rattle.memory.specs.Memory.{cardOf};
-ghost use Rattle.card.specs.Calls.{feedIn};
+ghost use Rattle.lookups.specs.Feed.{feedIn};
 
 #[no_mangle]
 pub extern "C" fn card_start(numbers: &mut [u64; 1448], base: u32) -> u32

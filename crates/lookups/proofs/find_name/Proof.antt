@@ -3,10 +3,10 @@ use Prim.Native.Nat.{ℕ}
 use mathlib.Core.List.{List}
 use Rattle.meaning.specs.Card.{routeOf}
 use Rattle.memory.specs.Memory.{cardOf}
-use Rattle.card.proofs.Laws.{name-refused, name-found, name-unknown}
+use Rattle.lookups.proofs.Laws.{name-refused, name-found, name-unknown}
 use borrow.Author.Needs.{needs}
-use Rattle.card.proofs.find_name.Statement.{statement}
-use Rattle.card.proofs.find_name.Tie as tie
+use Rattle.lookups.proofs.find_name.Statement.{statement}
+use Rattle.lookups.proofs.find_name.Tie as tie
 
 element-refusal-requires : tie.Need-element-refusal-requires
 element-refusal-requires c κs = search needs

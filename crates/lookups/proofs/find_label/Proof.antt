@@ -1,9 +1,9 @@
 use mathlib.Core.List.{[]}
 use mathlib.Core.Path.{sym, _∙_}
-use Rattle.card.proofs.Laws.{none-found, mapped-inside, carrier-found, carrier-none}
+use Rattle.lookups.proofs.Laws.{none-found, mapped-inside, carrier-found, carrier-none}
 use borrow.Author.Needs.{needs}
-use Rattle.card.proofs.find_label.Statement.{statement}
-use Rattle.card.proofs.find_label.Tie as tie
+use Rattle.lookups.proofs.find_label.Statement.{statement}
+use Rattle.lookups.proofs.find_label.Tie as tie
 
 mapped-to-requires : tie.Need-mapped-to-requires
 mapped-to-requires c κs = search needs

@@ -8,9 +8,9 @@ use borrow.Author.Needs.{needs}
 use Rattle.meaning.specs.Card.{treeAt}
 use Rattle.memory.specs.Memory.{cardOf}
 use Rattle.memory.proofs.Laws.{branches-length}
-use Rattle.card.proofs.Laws.{feed-is}
-use Rattle.card.proofs.feed_at.Statement.{statement}
-use Rattle.card.proofs.feed_at.Tie as tie
+use Rattle.lookups.proofs.Laws.{feed-is}
+use Rattle.lookups.proofs.feed_at.Statement.{statement}
+use Rattle.lookups.proofs.feed_at.Tie as tie
 
 branches-requires : tie.Need-branches-requires
 branches-requires c κs = search needs
