@@ -8,7 +8,7 @@ use lib.ListN.{set, replicate}
 use lib.Dec.{leb, ltb}
 use borrow.Author.Tests.{eq-eqb, ne-eqb, leb-true, leb-false, ltb-true, ltb-false}
 use Rattle.meaning.specs.Octets.{place}
-use Rattle.meaning.specs.Lists.{by-test, getD-out}
+use Rattle.meaning.specs.Lists.{by-test, getD-out, set-replicate}
 use Rattle.meaning.specs.Wire.{rootIn, elementRefusal}
 use Rattle.meaning.specs.Card.{Card, Tree, Use, free, mapped, awaiting, Feed, noRoute, bare, treePlace, treeAt, isBranch, notHeld, mappedTo, useOf, routeOf, Branch, nothing, branchesFrom, feedOf, carries, carrier, feedOfUse, lookupLabel, lookupName}
 use Rattle.octets.specs.Part.{tab}
@@ -30,10 +30,7 @@ no-branches k zero = refl
 no-branches k (suc n) = no-branches (suc k) n
 
 still-none : (k n u : ℕ) → branchesFrom k (set (replicate n 0) u 0) ≡ []
-unfolding branchesFrom isBranch
-still-none k zero u = refl
-still-none k (suc n) zero = no-branches (suc k) n
-still-none k (suc n) (suc u) = still-none (suc k) n u
+still-none k n u = ap (branchesFrom k) (set-replicate n u 0) ∙ no-branches k n
 
 bare-feed : (u : ℕ) (a : List ℕ) → feedOf u (bare a) ≡ nothing
 unfolding feedOf notHeld bare nothing

@@ -6,7 +6,7 @@ use native.Mathlib.Omega.{arith}
 use mathlib.Core.Path.{_≡_, refl, sym, ap, ap₂, _∙_}
 use mathlib.Core.Bool.{Bool, true, false}
 use mathlib.Core.List.{List, [], _∷_, _++_}
-use lib.ListN.{getD, length, set, List·getD-eq-default}
+use lib.ListN.{getD, length, set, replicate, List·getD-eq-default}
 use lib.Dec.{eqb}
 use borrow.Author.Tests.{eqb-true, eq-eqb}
 use Rattle.meaning.specs.Octets.{pick, place, count, same, put, cut, _when_else_}
@@ -193,3 +193,9 @@ positive (suc k) h = omega arith
 pub append-nil {ℓ} : {A : Type ℓ} (l : List A) → l ++ [] ≡ l
 append-nil [] = refl
 append-nil (x ∷ l) = ap (_∷_ x) (append-nil l)
+
+-- what every element is, stored over one of them
+pub set-replicate {ℓ} : {A : Type ℓ} (n u : ℕ) (x : A) → set (replicate n x) u x ≡ replicate n x
+set-replicate zero u x = refl
+set-replicate (suc n) zero x = refl
+set-replicate (suc n) (suc u) x = ap (λ l. x ∷ l) (set-replicate n u x)

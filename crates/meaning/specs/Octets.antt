@@ -26,6 +26,11 @@ unfoldable pub any {ℓ} : {A : Type ℓ} → (A → Bool) → List A → Bool
 any t [] = false
 any t (x ∷ xs) = let later = any t xs in pick (t x) true later
 
+-- whether every element passes the test
+unfoldable pub all {ℓ} : {A : Type ℓ} → (A → Bool) → List A → Bool
+all t [] = true
+all t (x ∷ xs) = let rest = all t xs in pick (t x) rest false
+
 -- `place` is the length where nothing was found, and there `put` appends and `cut` removes nothing
 unfoldable pub put {ℓ} : {A : Type ℓ} → List A → ℕ → A → List A
 put l i a = take i l ++ a ∷ drop (suc i) l

@@ -8,7 +8,7 @@ use mathlib.Core.Bool.{Bool, true, false, not, _&&_, _||_}
 use mathlib.Core.List.{List, [], _∷_, _++_}
 use lib.ListN.{take, drop, getD, length, set, replicate}
 use lib.Dec.{eqb, leb, ltb}
-use Rattle.meaning.specs.Octets.{pick, place, count, any, same, two, four, twoAt, fourAt, _when_else_}
+use Rattle.meaning.specs.Octets.{pick, place, count, any, same, two, four, twoAt, fourAt, _when_else_, all}
 use Rattle.meaning.specs.Wire.{rootIn, opaqueIn, elementRefusal, element, opaqueLimit}
 use Rattle.meaning.specs.Card.{Route, Tree, Use, free, mapped, awaiting, Card, withLabel, treeLimit, routeLimit, labelCount, isFor, named, isEmpty, isFree, heldFor, useOf, treeOf, freeLabels}
 use Rattle.meaning.specs.Events.{Out, roomShort, refuse, baseOutside, notRoot, upstreamOf}
@@ -141,14 +141,10 @@ tableIn o =
 
 -- ---- the rules in force
 
-unfoldable pub all {ℓ} : {A : Type ℓ} → (A → Bool) → List A → Bool
-all t [] = true
-all t (x ∷ xs) = let rest = all t xs in pick (t x) rest false
-
 unfoldable pub isName : List ℕ → Bool
 isName a = eqb (elementRefusal a) 0
 
--- each passes its test, and no later one passes `same as this one`
+-- no later one passes `same as this one`
 unfoldable pub onceEach {ℓ} : {A : Type ℓ} → (A → A → Bool) → List A → Bool
 onceEach like [] = true
 onceEach like (x ∷ xs) = let rest = onceEach like xs in pick (any (like x) xs) false rest

@@ -5,13 +5,13 @@ use mathlib.Core.Path.{_≡_, refl}
 use mathlib.Core.Bool.{Bool, true, _&&_}
 use mathlib.Core.List.{List, [], _∷_, _++_}
 use lib.Dec.{eqb}
-use Rattle.meaning.specs.Octets.{same}
+use Rattle.meaning.specs.Octets.{same, all}
 use Rattle.meaning.specs.Wire.{rootIn, element, mapping}
 use Rattle.meaning.specs.Card.{Card, fresh}
 use Rattle.meaning.specs.Events.{Out, Event, join, route, event, start}
 use Rattle.meaning.specs.Computing.{computing}
 use Rattle.meaning.specs.Examples.{enough, A, heard}
-use Rattle.meaning.specs.Save.{padded, spaced, nameSaved, marked, headSaved, routeSaved, foursOf, treeSaved, useSaved, routesSaved, treesSaved, usesSaved, saved, save, spacedIn, nameIn, routeRead, foursIn, treeRead, useRead, routesRead, treesRead, usesRead, isMappedFor, labelled, allLabelled, tableIn, all, isName, onceEach, isRoute, sameRoot, isBranchLabel, isTree, sameName, isUse, isCarried, allCarried, carriesOwn, holdsRight, keepsRules, isSave, restore}
+use Rattle.meaning.specs.Save.{padded, spaced, nameSaved, marked, headSaved, routeSaved, foursOf, treeSaved, useSaved, routesSaved, treesSaved, usesSaved, saved, save, spacedIn, nameIn, routeRead, foursIn, treeRead, useRead, routesRead, treesRead, usesRead, isMappedFor, labelled, allLabelled, tableIn, isName, onceEach, isRoute, sameRoot, isBranchLabel, isTree, sameName, isUse, isCarried, allCarried, carriesOwn, holdsRight, keepsRules, isSave, restore}
 
 -- as `computing`, for the definitions of saves
 unfoldable pub computingSaves : ℕ

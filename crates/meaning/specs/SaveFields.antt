@@ -10,14 +10,14 @@ use lib.ListN.{take, drop, getD, length, length-append, length-take, length-repl
 use lib.Seq.{take-all, take-at, drop-at, getD-at, drop-drop, take-append-seam}
 use lib.Dec.{eqb, leb}
 use borrow.Author.Tests.{eqb-true, leb-true}
-use Rattle.meaning.specs.Octets.{pick, four, fourAt, twoAt}
+use Rattle.meaning.specs.Octets.{pick, four, fourAt, twoAt, all}
 use Rattle.meaning.specs.Lists.{by-test, positive}
 use Rattle.meaning.specs.Wire.{addressLength, familyIn, rootLength, rootIn, opaqueIn, elementRefusal, element, opaqueLimit}
 use Rattle.meaning.specs.Card.{Route, Tree, mapped, awaiting, withLabel}
 use Rattle.meaning.specs.WireLaws.{element-family}
 use Rattle.meaning.specs.RoundTrip.{both, Whole, whole, root-size, element-parts}
 use Rattle.meaning.specs.NoticeLaws.{four-back}
-use Rattle.meaning.specs.Save.{all, isBranchLabel, padded, spaced, nameSaved, marked, routeSaved, foursOf, treeSaved, spacedIn, nameIn, routeRead, foursIn, treeRead, useRead}
+use Rattle.meaning.specs.Save.{isBranchLabel, padded, spaced, nameSaved, marked, routeSaved, foursOf, treeSaved, spacedIn, nameIn, routeRead, foursIn, treeRead, useRead}
 
 pub all-cons {ℓ} : {A : Type ℓ} (t : A → Bool) (x : A) (xs : List A) → all t (x ∷ xs) ≡ true → (t x ≡ true) × (all t xs ≡ true)
 unfolding all

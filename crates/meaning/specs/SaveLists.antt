@@ -10,13 +10,13 @@ use lib.ListN.{getD, length, replicate, length-append}
 use lib.Seq.{drop-at, set-append-seam}
 use lib.Dec.{eqb, leb, ltb}
 use borrow.Author.Tests.{eqb-true, leb-true, ltb-true, not-true, not-false}
-use Rattle.meaning.specs.Octets.{pick, place, count}
+use Rattle.meaning.specs.Octets.{pick, place, count, all}
 use Rattle.meaning.specs.Lists.{by-test}
 use Rattle.meaning.specs.Wire.{elementRefusal}
 use Rattle.meaning.specs.Card.{Route, Tree, Use, free, mapped, awaiting, withLabel, bare, isFree, isEmpty}
 use Rattle.meaning.specs.Events.{notRoot}
 use Rattle.meaning.specs.RoundTrip.{both}
-use Rattle.meaning.specs.Save.{routeSaved, treeSaved, useSaved, routesSaved, treesSaved, usesSaved, routesRead, treesRead, usesRead, isMappedFor, labelled, allLabelled, all, isName, isRoute, isBranchLabel, isTree, isUse}
+use Rattle.meaning.specs.Save.{routeSaved, treeSaved, useSaved, routesSaved, treesSaved, usesSaved, routesRead, treesRead, usesRead, isMappedFor, labelled, allLabelled, isName, isRoute, isBranchLabel, isTree, isUse}
 use Rattle.meaning.specs.SaveFields.{all-cons, route-length, route-back, tree-length, tree-back, useRecord, use-length, use-label, use-after, use-back}
 
 -- ---- what the tests of one record tell

@@ -9,12 +9,12 @@ use mathlib.Core.List.{List, [], _∷_}
 use lib.ListN.{getD, length}
 use lib.Dec.{eqb}
 use borrow.Author.Tests.{eqb-false, eq-eqb, le-leb, lt-ltb}
-use Rattle.meaning.specs.Octets.{same}
+use Rattle.meaning.specs.Octets.{same, all}
 use Rattle.meaning.specs.Wire.{mapping, withdraw, messageIn, elementRefusal}
 use Rattle.meaning.specs.Card.{Tree, Use, free, mapped, awaiting, Card, fresh, withNext, bare, treeOf, treeAt, isEmpty, useOf}
 use Rattle.meaning.specs.Events.{refuse, accept, Event, receive, join, leave, route, baseOutside, start}
 use Rattle.meaning.specs.Lists.{by-test, picked, same-refl}
-use Rattle.meaning.specs.Save.{all, isName, isBranchLabel, isTree, isUse, isCarried, isMappedFor, carriesOwn, keepsRules, saved, restore}
+use Rattle.meaning.specs.Save.{isName, isBranchLabel, isTree, isUse, isCarried, isMappedFor, carriesOwn, keepsRules, saved, restore}
 use Rattle.meaning.specs.SaveRules.{all-of, Rules, rules-kept}
 use Rattle.meaning.specs.SaveLaws.{restored}
 use Rattle.promise.specs.Promise.{Given, ofLabel, branchSaid, branchBy, branchesBy, Step, Past, thenSteps, history, Each, Promise}

@@ -7,14 +7,14 @@ use mathlib.Core.Bool.{Bool, true, false}
 use mathlib.Core.List.{List, [], _∷_}
 use lib.Dec.{eqb}
 use borrow.Author.Tests.{eqb-true, eqb-false, le-leb, ltb-false}
-use Rattle.meaning.specs.Octets.{put, cut}
+use Rattle.meaning.specs.Octets.{put, cut, all}
 use Rattle.meaning.specs.Wire.{mapping, withdraw, release, Message, messageIn, elementRefusal, Sent, records, nextId, idsAfter}
 use Rattle.meaning.specs.Card.{noRoute, Tree, free, Card, withNext, withRoutes, withTrees, withLabels, treePlace, routeOf, routePlace}
 use Rattle.meaning.specs.Events.{Out, Outcome, refused, taken, unless, refuse, accept, roomShort, finish, Moved, setUse, relabel, upstreamOf, entered, swept, enter, become, onMapping, onWithdraw, onRelease, onMessage, noNeighbour, onOctets, onJoin, onLeave, routesWith, notRoute, notRoot, reRoute, onRoute, Event, receive, join, leave, route, outcome, event}
 use Rattle.meaning.specs.Lists.{by-test, picked, no-when}
 use Rattle.meaning.specs.RoundTrip.{Heard, heard, Sendable, AllSendable}
 use Rattle.meaning.specs.RoutesStay.{relabel-routes}
-use Rattle.meaning.specs.Save.{all, isRoute}
+use Rattle.meaning.specs.Save.{isRoute}
 use Rattle.meaning.specs.SaveFields.{all-cons}
 use Rattle.promise.specs.Promise.{Given, isAbout, mark, remove, noteSent, noteAll, noteTaken, Step, Past, answerTo, sends, thenStep, thenSteps, Each}
 use Rattle.promise.specs.CardLaws.{swept-routes}

@@ -9,12 +9,12 @@ use lib.ListN.{length, drop, getD, set, drop-of-length-le}
 use lib.Seq.{drop-cons, set-out}
 use lib.Dec.{eqb, leb, ltb}
 use borrow.Author.Tests.{lt-ltb, le-leb, lt-leb, eq-eqb, ne-eqb, not-true, not-false}
-use Rattle.meaning.specs.Octets.{any, same}
+use Rattle.meaning.specs.Octets.{any, same, all}
 use Rattle.meaning.specs.Lists.{getD-out, getD-same}
 use Rattle.meaning.specs.Wire.{rootIn}
 use Rattle.meaning.specs.Card.{Route, Tree, Use, mapped, awaiting, Card, treeAt, treeOf, treePlace, bare, isBranch, isEmpty, isFree, mappedTo, useOf, isFor, named, routeOf, heldFor}
 use Rattle.meaning.specs.Events.{notRoot, baseOutside, upstream, upstreamOf, holder}
-use Rattle.meaning.specs.Save.{all, isName, onceEach, isRoute, sameRoot, isBranchLabel, isTree, sameName, isUse, isCarried, allCarried, isMappedFor, carriesOwn, holdsRight, keepsRules}
+use Rattle.meaning.specs.Save.{isName, onceEach, isRoute, sameRoot, isBranchLabel, isTree, sameName, isUse, isCarried, allCarried, isMappedFor, carriesOwn, holdsRight, keepsRules}
 use Rattle.octets.proofs.Tab.{tab-get}
 use Rattle.memory.specs.Memory.{baseIn, nextIn, routeCount, treeCount, rootName, labelName, routeIn, labelIn, cardOf}
 use Rattle.memory.proofs.Memory.{routeCount-le, treeCount-le, base-range, routes-length, trees-length, labels-length}

@@ -6,9 +6,9 @@ ghost use mathlib.Core.Bool.{false, not, _&&_};
 ghost use mathlib.Core.List.{List};
 ghost use Prim.Native.Nat.{ℕ, _+_, _<_};
 ghost use lib.ListN.{length, drop};
-ghost use Rattle.meaning.specs.Octets.{any};
+ghost use Rattle.meaning.specs.Octets.{any, all};
 ghost use Rattle.meaning.specs.Card.{treeAt, isEmpty, useOf, isFor, named};
-ghost use Rattle.meaning.specs.Save.{all, isName, onceEach, isRoute, sameRoot, isBranchLabel, isTree, sameName, isUse, isCarried, allCarried, isMappedFor, carriesOwn, holdsRight, keepsRules};
+ghost use Rattle.meaning.specs.Save.{isName, onceEach, isRoute, sameRoot, isBranchLabel, isTree, sameName, isUse, isCarried, allCarried, isMappedFor, carriesOwn, holdsRight, keepsRules};
 ghost use Rattle.memory.specs.Memory.{cardOf, baseIn, treeCount, routeIn, isFreeAt, labelIn, labelName};
 
 // ---- routes

@@ -11,7 +11,7 @@ use lib.Seq.{set-set, set-comm}
 use lib.Dec.{ltb}
 use borrow.Author.Tests.{lt-leb, le-ltb, lt-ltb}
 use Rattle.meaning.specs.Octets.{pick, any, cut, _when_else_}
-use Rattle.meaning.specs.Lists.{picked, same-eq, place-finds, getD-out, getD-same}
+use Rattle.meaning.specs.Lists.{picked, same-eq, place-finds, getD-out, getD-same, set-replicate}
 use Rattle.meaning.specs.Wire.{Sent, records, idsAfter, rootIn}
 use Rattle.meaning.specs.Card.{Tree, Card, free, noRoute, withNext, withTrees, withBranch, withLeaf, named, bare, treePlace, treeOf, treeAt, isBranch, notHeld, leadsOn, useOf, routeOf}
 use Rattle.meaning.specs.Events.{refused, taken, refuse, accept, roomShort, finish, Moved, followedBy, relabel, upstream, holder, upstreamOf, entered, swept, enter}
@@ -151,15 +151,13 @@ zero-free ns os = unfold useOf cardOf in rw (lt-leb (baseIn ns) 0 (omega (arith,
 
 -- ---- a tree's branches, and its upstream
 
-pub any-zeros : (k u : ℕ) → any isBranch (set (replicate k 0) u 0) ≡ false
+no-branch : (k : ℕ) → any isBranch (replicate k 0) ≡ false
 unfolding any isBranch
-any-zeros zero u = refl
-any-zeros (suc k) zero = any-none k
-  where
-    any-none : (k : ℕ) → any isBranch (replicate k 0) ≡ false
-    any-none zero = refl
-    any-none (suc k) = any-none k
-any-zeros (suc k) (suc u) = any-zeros k u
+no-branch zero = refl
+no-branch (suc k) = no-branch k
+
+pub any-zeros : (k u : ℕ) → any isBranch (set (replicate k 0) u 0) ≡ false
+any-zeros k u = ap (any isBranch) (set-replicate k u 0) ∙ no-branch k
 
 pub any-set : (bs : List ℕ) (n l : ℕ) → n < length bs → 0 < l → any isBranch (set bs n l) ≡ true
 unfolding any isBranch

@@ -3,8 +3,8 @@ use Prim.Native.String.{String}
 use mathlib.Core.Path.{_≡_, refl}
 use mathlib.Core.List.{[], _∷_, _++_}
 use lib.ListN.{replicate}
-use Rattle.meaning.specs.Octets.{same}
-use Rattle.words.specs.Words.{ascii, all, uncommented, lengthen, pieces, filled, words, valueFrom, value, isNumber, digit, isHexTo, isHex, octetsOf}
+use Rattle.meaning.specs.Octets.{same, all}
+use Rattle.words.specs.Words.{ascii, uncommented, lengthen, pieces, filled, words, valueFrom, value, isNumber, digit, isHexTo, isHex, octetsOf}
 use Rattle.verbs.specs.Line.{isSaveHex, Said, requestedVerb, verbOf, withNumber, withHex, withSave, withNumberHex, withHexNumber, withNumbersHex, does, saidBy, orderOf}
 
 unfoldable pub says : String → Said

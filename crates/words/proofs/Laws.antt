@@ -10,10 +10,10 @@ use lib.ListN.{length, take, drop, getD, set, length-append, drop-of-length-le}
 use lib.Seq.{drop-cons, drop-drop, getD-drop, take-all, set-at}
 use lib.Dec.{eqb, leb, ltb}
 use borrow.Author.Tests.{eqb-true, eqb-false, eq-eqb, ne-eqb, leb-true, ltb-true, ltb-false, lt-ltb, le-ltb}
-use Rattle.meaning.specs.Octets.{pick, same}
+use Rattle.meaning.specs.Octets.{pick, same, all}
 use Rattle.meaning.specs.Lists.{by-test, same-eq}
 use Rattle.octets.proofs.Laws.{front, front-more}
-use Rattle.words.specs.Words.{ascii, part, NextWord, Puts, all, isGap, uncommented, lengthen, pieces, filled, words, isDigit, valueFrom, value, isNumber, isHexDigit, digit, isHexTo, octetsOf, glyph, hexOf, spell, numeral}
+use Rattle.words.specs.Words.{ascii, part, NextWord, Puts, isGap, uncommented, lengthen, pieces, filled, words, isDigit, valueFrom, value, isNumber, isHexDigit, digit, isHexTo, octetsOf, glyph, hexOf, spell, numeral}
 use Rattle.words.specs.Scan.{isLetter, letters, numberIn}
 use Rattle.words.specs.declared.Number.{Number}
 

@@ -7,8 +7,9 @@ use mathlib.Core.Bool.{Bool, true, false}
 use mathlib.Core.List.{List, [], _∷_, _++_}
 use lib.Dec.{ltb}
 use borrow.Author.Tests.{ltb-true, ltb-false, lt-ltb, le-leb, lt-leb}
+use Rattle.meaning.specs.Octets.{all}
 use Rattle.meaning.specs.Lists.{by-test}
-use Rattle.words.specs.Words.{all, isDigit, valueFrom, value, isNumber, digit, octetsOf, spell, numeral, glyph, hexOf}
+use Rattle.words.specs.Words.{isDigit, valueFrom, value, isNumber, digit, octetsOf, spell, numeral, glyph, hexOf}
 
 -- ---- numbers
 

@@ -7,16 +7,12 @@ use mathlib.Core.Bool.{Bool, true, false, _&&_, _||_}
 use mathlib.Core.List.{List, [], _∷_, _++_}
 use lib.ListN.{length, take, drop}
 use lib.Dec.{eqb, leb, ltb}
-use Rattle.meaning.specs.Octets.{pick, same}
+use Rattle.meaning.specs.Octets.{pick, same, all}
 
 -- the octets of a text
 unfoldable pub ascii : String → List ℕ
 ascii String.[] = []
 ascii (String._∷_ c s) = code c ∷ ascii s
-
-unfoldable pub all : (ℕ → Bool) → List ℕ → Bool
-all t [] = true
-all t (c ∷ cs) = let rest = all t cs in pick (t c) rest false
 
 -- the part of a line from s to e
 abbrev pub part : ℕ → ℕ → List ℕ → List ℕ

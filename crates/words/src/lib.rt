@@ -3,7 +3,8 @@ ghost use mathlib.Core.Path.{_≡_};
 ghost use mathlib.Core.Bool.{false};
 ghost use Prim.Native.Nat.{_+_, _*_, _/_, _≤_, _<_};
 ghost use lib.ListN.{length, take, drop, getD};
-ghost use Rattle.words.specs.Words.{all, isGap, words, isDigit, isUpper, isLower, isHexDigit, digit, isHexTo, isHex, octetsOf};
+ghost use Rattle.meaning.specs.Octets.{all};
+ghost use Rattle.words.specs.Words.{isGap, words, isDigit, isUpper, isLower, isHexDigit, digit, isHexTo, isHex, octetsOf};
 ghost use Rattle.words.specs.Words.{NextWord, numeral, glyph as glyphOf, hexOf, Puts};
 ghost use Rattle.words.specs.Scan.{isLetter, letters, numberIn};
 

@@ -3,8 +3,9 @@ use native.Mathlib.Omega.{arith}
 use mathlib.Core.Path.{_≡_, refl, sym, ap, _∙_}
 use lib.ListN.{drop}
 use mathlib.Core.List.{List}
+use Rattle.meaning.specs.Octets.{all}
 use Rattle.meaning.specs.Card.{treeAt}
-use Rattle.meaning.specs.Save.{all, isBranchLabel}
+use Rattle.meaning.specs.Save.{isBranchLabel}
 use Rattle.memory.specs.Memory.{cardOf}
 use Rattle.rules.proofs.Laws.{all-hit, all-miss, all-none, branch-there, branches-end}
 use borrow.Author.Needs.{needs}

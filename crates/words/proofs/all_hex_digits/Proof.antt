@@ -4,7 +4,8 @@ use native.Mathlib.Omega.{arith}
 use mathlib.Core.Path.{_≡_, refl, sym, _∙_}
 use lib.ListN.{length, drop}
 use borrow.Author.Needs.{needs}
-use Rattle.words.specs.Words.{all, isHexDigit}
+use Rattle.meaning.specs.Octets.{all}
+use Rattle.words.specs.Words.{isHexDigit}
 use Rattle.words.proofs.Laws.{all-more, all-stop, all-end}
 use Rattle.words.proofs.all_hex_digits.Statement.{statement}
 use Rattle.words.proofs.all_hex_digits.Tie as tie

@@ -4,7 +4,8 @@ use mathlib.Core.Path.{_≡_, refl, sym, _∙_}
 use lib.ListN.{length, drop, getD}
 use borrow.Author.Needs.{needs}
 use borrow.Author.Tests.{not-true, not-false}
-use Rattle.words.specs.Words.{all, isDigit, valueFrom}
+use Rattle.meaning.specs.Octets.{all}
+use Rattle.words.specs.Words.{isDigit, valueFrom}
 use Rattle.words.proofs.Laws.{all-more, all-stop, all-end, value-more, value-end, value-grows, between, number-letter, number-large, number-is}
 use Rattle.words.proofs.read_number.Statement.{statement}
 use Rattle.words.proofs.read_number.Tie as tie
