@@ -244,6 +244,24 @@ impl Maker {
         self.look(lookups);
     }
 
+    /// Where labels run short, a few come back (by what chance in a hundred, how few, how many) and are soon used up,
+    /// so that events need just as many as are free, or one more.
+    fn run_short(
+        &mut self,
+        (chance, fewest, most): (usize, usize, usize),
+        lookups: usize,
+        (recipe, busy): (&Recipe, usize),
+    ) {
+        if self.releases_due > 0 {
+            self.releases_due -= 1;
+            self.play(&[(1, awaited_release)], lookups);
+        } else if self.card().free_labels() < 3 && self.rng.percent(chance) {
+            self.releases_due = self.rng.between(fewest, most);
+        } else {
+            self.play(recipe, busy);
+        }
+    }
+
     /// Asks the card something, in that share of a hundred.
     fn look(&mut self, share: usize) {
         if self.rng.percent(share) {
@@ -343,14 +361,7 @@ fn open_exhaust(maker: &mut Maker) {
 }
 
 fn step_exhaust(maker: &mut Maker) {
-    if maker.releases_due > 0 {
-        maker.releases_due -= 1;
-        maker.play(&[(1, awaited_release)], 15);
-    } else if maker.card().free_labels() < 3 && maker.rng.percent(5) {
-        maker.releases_due = maker.rng.between(2, 20);
-    } else {
-        maker.play(NO_RELEASE, 30);
-    }
+    maker.run_short((5, 2, 20), 15, (NO_RELEASE, 30));
 }
 
 fn open_held(maker: &mut Maker) {
@@ -359,17 +370,8 @@ fn open_held(maker: &mut Maker) {
     maker.grow(20);
 }
 
-/// Where labels run short, a few come back and are soon used up, so that
-/// events need just as many as are free, or one more.
 fn step_held(maker: &mut Maker) {
-    if maker.releases_due > 0 {
-        maker.releases_due -= 1;
-        maker.play(&[(1, awaited_release)], 10);
-    } else if maker.card().free_labels() < 3 && maker.rng.percent(12) {
-        maker.releases_due = maker.rng.between(1, 9);
-    } else {
-        maker.play(HELD, 40);
-    }
+    maker.run_short((12, 1, 9), 10, (HELD, 40));
 }
 
 /// Few trees: a save of a full card makes a line of 46 thousand digits.

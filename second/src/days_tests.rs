@@ -1,6 +1,6 @@
 use super::*;
 use crate::notice::Notice;
-use std::collections::BTreeSet;
+use std::collections::{BTreeMap, BTreeSet};
 
 /// The lines written for a day.
 fn answers(lines: &[Vec<u8>]) -> Vec<String> {
@@ -130,23 +130,36 @@ fn occasion(card: &Card, order: &Order, number: u8) -> Option<&'static str> {
     }
 }
 
+/// How often a day of that kind meets each occasion: what it is, by the card
+/// before an order, the order, the number written, and the card afterwards.
+fn occasions(
+    name: &str,
+    seed: u64,
+    what: impl Fn(&Card, &Order, u8, &Card) -> Option<&'static str>,
+) -> BTreeMap<&'static str, usize> {
+    let kind = kind_named(name).expect("it is one of the kinds");
+    let mut met = BTreeMap::new();
+    let mut bench = Bench::new();
+    for line in make(kind, seed, 3000) {
+        let Said::Order(order) = bench::read_line(&line) else {
+            continue;
+        };
+        let before = bench.card.clone();
+        let written = bench.obey(&order);
+        let number = bench::written_number(&written).unwrap_or(0);
+        if let Some(what) = what(&before, &order, number, &bench.card) {
+            *met.entry(what).or_insert(0) += 1;
+        }
+    }
+    met
+}
+
 #[test]
 fn a_held_day_has_its_occasions() {
-    let held = kind_named("held").expect("it is one of the kinds");
     for seed in 1..=3 {
-        let mut met = std::collections::BTreeMap::new();
-        let mut bench = Bench::new();
-        for line in make(held, seed, 3000) {
-            let Said::Order(order) = bench::read_line(&line) else {
-                continue;
-            };
-            let before = bench.card.clone();
-            let written = bench.obey(&order);
-            let number = bench::written_number(&written).unwrap_or(0);
-            if let Some(what) = occasion(&before, &order, number) {
-                *met.entry(what).or_insert(0) += 1;
-            }
-        }
+        let met = occasions("held", seed, |before, order, number, _| {
+            occasion(before, order, number)
+        });
         assert!(met.len() == 10 && met.values().all(|n| *n >= 5), "{met:?}");
     }
 }
@@ -170,28 +183,17 @@ fn swap(before: &Card, order: &Order, number: u8) -> Option<&'static str> {
 
 #[test]
 fn a_day_of_saves_has_its_occasions() {
-    let saves = kind_named("saves").expect("it is one of the kinds");
     for seed in 1..=3 {
-        let mut met = std::collections::BTreeMap::new();
-        let mut bench = Bench::new();
-        for line in make(saves, seed, 3000) {
-            let Said::Order(order) = bench::read_line(&line) else {
-                continue;
-            };
-            let before = bench.card.clone();
-            let written = bench.obey(&order);
-            let number = bench::written_number(&written).unwrap_or(0);
-            if let Some(what) = swap(&before, &order, number) {
-                *met.entry(what).or_insert(0) += 1;
-            }
-            if order == Order::Save {
-                *met.entry(["saved", "no room"][usize::from(number == 16)])
-                    .or_insert(0) += 1;
-            }
+        let met = occasions("saves", seed, |before, order, number, after| {
             if number == 19 {
-                assert_eq!(bench.card, before);
+                assert_eq!(after, before);
             }
-        }
+            match order {
+                Order::Save if number == 16 => Some("no room"),
+                Order::Save => Some("saved"),
+                _ => swap(before, order, number),
+            }
+        });
         assert!(met.len() == 8 && met.values().all(|n| *n >= 10), "{met:?}");
     }
 }
