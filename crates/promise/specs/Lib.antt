@@ -12,3 +12,4 @@ pub mod NoWayBack
 pub mod PromiseExample
 pub mod SaveSteps
 pub mod SaveKept
+pub mod Deeds

@@ -134,7 +134,7 @@ module _ (p : Past) (u : Upheld p) (w : Writable p) where
 
 -- ---- a history
 
-start-writable : (base : ℕ) → Writable (record { card = start base .card; live = []; accepted = [] })
+pub start-writable : (base : ℕ) → Writable (record { card = start base .card; live = []; accepted = [] })
 unfolding start accept refuse withNext fresh all AllPassed Each
 start-writable base =
     by-test (baseOutside base)
