@@ -37,7 +37,7 @@ pub fn decode(octets: &[u8], numbers: &mut [u64], names: &mut [u8]) -> bool
         return false;
     }
     entries::read_rows(octets, numbers, names);
-    if !rules::names_once(numbers, names) {
+    if !rowrules::names_once(numbers, names) {
         return false;
     }
     labeller::read_labels(octets, numbers, names);

@@ -4,7 +4,7 @@ use mathlib.Core.Path.{_≡_, sym, _∙_}
 use lib.ListN.{drop}
 use Rattle.meaning.specs.Save.{allCarried}
 use Rattle.memory.specs.Memory.{cardOf, baseIn}
-use Rattle.rules.proofs.Laws.{carried-start, carried-hit, carried-miss, carried-none, label-there, labels-end}
+use Rattle.rowrules.proofs.Laws.{carried-start, carried-hit, carried-miss, carried-none, label-there, labels-end}
 use borrow.Author.Needs.{needs}
 use Rattle.rules.proofs.all_carried.Statement.{statement}
 use Rattle.rules.proofs.all_carried.Tie as tie

@@ -1,4 +1,4 @@
-use Rattle.rules.proofs.Laws.{holds}
+use Rattle.rowrules.proofs.Laws.{holds}
 use borrow.Author.Needs.{needs}
 use Rattle.rules.proofs.holds_right.Statement.{statement}
 use Rattle.rules.proofs.holds_right.Tie as tie

@@ -1,4 +1,4 @@
-use mathlib.Core.Path.{sym, _∙_}
+use mathlib.Core.Path.{_∙_}
 use Rattle.rules.proofs.Laws.{use-mapped, use-awaiting}
 use borrow.Author.Needs.{needs}
 use Rattle.rules.proofs.is_near.Statement.{statement}

@@ -5,7 +5,7 @@ use lib.ListN.{drop}
 use Rattle.meaning.specs.Octets.{all}
 use Rattle.meaning.specs.Save.{isUse}
 use Rattle.memory.specs.Memory.{cardOf}
-use Rattle.rules.proofs.Laws.{all-hit, all-miss, all-none, label-there, labels-end}
+use Rattle.rowrules.proofs.Laws.{all-hit, all-miss, all-none, label-there, labels-end}
 use borrow.Author.Needs.{needs}
 use Rattle.rules.proofs.uses_good.Statement.{statement}
 use Rattle.rules.proofs.uses_good.Tie as tie

@@ -3,8 +3,8 @@ use mathlib.Core.Path.{ap}
 use lib.Dec.{eqb}
 use Rattle.meaning.specs.Save.{isName}
 use borrow.Author.Needs.{needs}
-use Rattle.rules.proofs.is_name.Statement.{statement}
-use Rattle.rules.proofs.is_name.Tie as tie
+use Rattle.rowrules.proofs.is_name.Statement.{statement}
+use Rattle.rowrules.proofs.is_name.Tie as tie
 
 element-refusal-requires : tie.Need-element-refusal-requires
 element-refusal-requires c κs = search needs

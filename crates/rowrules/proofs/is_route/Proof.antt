@@ -1,9 +1,9 @@
 use mathlib.Core.Path.{sym, ap}
 use lib.ListN.{length}
-use Rattle.rules.proofs.Laws.{route-far, route-four, route-sixteen}
+use Rattle.rowrules.proofs.Laws.{route-far, route-four, route-sixteen}
 use borrow.Author.Needs.{needs}
-use Rattle.rules.proofs.is_route.Statement.{statement}
-use Rattle.rules.proofs.is_route.Tie as tie
+use Rattle.rowrules.proofs.is_route.Statement.{statement}
+use Rattle.rowrules.proofs.is_route.Tie as tie
 
 route-via-requires : tie.Need-route-via-requires
 route-via-requires c κs = search needs

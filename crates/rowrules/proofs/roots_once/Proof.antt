@@ -4,10 +4,10 @@ use mathlib.Core.Path.{_≡_, refl, sym, _∙_}
 use lib.ListN.{drop}
 use Rattle.meaning.specs.Save.{onceEach, sameRoot}
 use Rattle.memory.specs.Memory.{cardOf}
-use Rattle.rules.proofs.Laws.{once-hit, once-miss, once-none, route-there, root-like, routes-end}
+use Rattle.rowrules.proofs.Laws.{once-hit, once-miss, once-none, route-there, root-like, routes-end}
 use borrow.Author.Needs.{needs}
-use Rattle.rules.proofs.roots_once.Statement.{statement}
-use Rattle.rules.proofs.roots_once.Tie as tie
+use Rattle.rowrules.proofs.roots_once.Statement.{statement}
+use Rattle.rowrules.proofs.roots_once.Tie as tie
 
 abbrev Inv-loop : tie.InvT-loop
 Inv-loop numbers names n i₀ i = (i ≤ n) × (onceEach sameRoot (cardOf numbers names .routes) ≡ onceEach sameRoot (drop i (cardOf numbers names .routes)))

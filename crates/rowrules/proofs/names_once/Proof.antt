@@ -4,10 +4,10 @@ use mathlib.Core.Path.{_≡_, refl, sym, _∙_}
 use lib.ListN.{drop}
 use Rattle.meaning.specs.Save.{onceEach, sameName}
 use Rattle.memory.specs.Memory.{cardOf}
-use Rattle.rules.proofs.Laws.{once-hit, once-miss, once-none, tree-there, name-like, trees-end}
+use Rattle.rowrules.proofs.Laws.{once-hit, once-miss, once-none, tree-there, name-like, trees-end}
 use borrow.Author.Needs.{needs}
-use Rattle.rules.proofs.names_once.Statement.{statement}
-use Rattle.rules.proofs.names_once.Tie as tie
+use Rattle.rowrules.proofs.names_once.Statement.{statement}
+use Rattle.rowrules.proofs.names_once.Tie as tie
 
 abbrev Inv-loop : tie.InvT-loop
 Inv-loop numbers names n i₀ i = (i ≤ n) × (onceEach sameName (cardOf numbers names .trees) ≡ onceEach sameName (drop i (cardOf numbers names .trees)))

@@ -5,10 +5,10 @@ use lib.ListN.{drop}
 use Rattle.meaning.specs.Octets.{all}
 use Rattle.meaning.specs.Save.{isRoute}
 use Rattle.memory.specs.Memory.{cardOf}
-use Rattle.rules.proofs.Laws.{all-hit, all-miss, all-none, route-there, routes-end}
+use Rattle.rowrules.proofs.Laws.{all-hit, all-miss, all-none, route-there, routes-end}
 use borrow.Author.Needs.{needs}
-use Rattle.rules.proofs.routes_good.Statement.{statement}
-use Rattle.rules.proofs.routes_good.Tie as tie
+use Rattle.rowrules.proofs.routes_good.Statement.{statement}
+use Rattle.rowrules.proofs.routes_good.Tie as tie
 
 abbrev Inv-loop : tie.InvT-loop
 Inv-loop numbers names n i₀ i = (i ≤ n) × (all isRoute (cardOf numbers names .routes) ≡ all isRoute (drop i (cardOf numbers names .routes)))

@@ -1,9 +1,9 @@
 use mathlib.Core.Path.{sym}
 use Rattle.memory.proofs.Laws.{branches-length}
-use Rattle.rules.proofs.Laws.{leaf-leads, branch-leads}
+use Rattle.rowrules.proofs.Laws.{leaf-leads, branch-leads}
 use borrow.Author.Needs.{needs}
-use Rattle.rules.proofs.leads_somewhere.Statement.{statement}
-use Rattle.rules.proofs.leads_somewhere.Tie as tie
+use Rattle.rowrules.proofs.leads_somewhere.Statement.{statement}
+use Rattle.rowrules.proofs.leads_somewhere.Tie as tie
 
 is-leaf-requires : tie.Need-is-leaf-requires
 is-leaf-requires c κs = search needs

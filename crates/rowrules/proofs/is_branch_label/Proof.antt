@@ -1,7 +1,7 @@
 use mathlib.Core.Path.{sym}
-use Rattle.rules.proofs.Laws.{branch-none, branch-low, branch-high}
-use Rattle.rules.proofs.is_branch_label.Statement.{statement}
-use Rattle.rules.proofs.is_branch_label.Tie as tie
+use Rattle.rowrules.proofs.Laws.{branch-none, branch-low, branch-high}
+use Rattle.rowrules.proofs.is_branch_label.Statement.{statement}
+use Rattle.rowrules.proofs.is_branch_label.Tie as tie
 
 returns : tie.Need-returns
 returns c = sym (branch-none _ (c .if1 .taken))

@@ -5,10 +5,10 @@ use lib.ListN.{drop}
 use Rattle.meaning.specs.Octets.{any}
 use Rattle.meaning.specs.Card.{named}
 use Rattle.memory.specs.Memory.{cardOf}
-use Rattle.rules.proofs.Laws.{any-hit, any-miss, any-none, tree-there, tree-for, trees-end}
+use Rattle.rowrules.proofs.Laws.{any-hit, any-miss, any-none, tree-there, tree-for, trees-end}
 use borrow.Author.Needs.{needs}
-use Rattle.rules.proofs.name_from.Statement.{statement}
-use Rattle.rules.proofs.name_from.Tie as tie
+use Rattle.rowrules.proofs.name_from.Statement.{statement}
+use Rattle.rowrules.proofs.name_from.Tie as tie
 
 abbrev Inv-loop : tie.InvT-loop
 Inv-loop numbers names from name n i₀ i = any (named name) (drop from (cardOf numbers names .trees)) ≡ any (named name) (drop i (cardOf numbers names .trees))

@@ -4,10 +4,10 @@ use lib.ListN.{drop}
 use Rattle.meaning.specs.Octets.{any}
 use Rattle.meaning.specs.Card.{isFor}
 use Rattle.memory.specs.Memory.{cardOf}
-use Rattle.rules.proofs.Laws.{any-hit, any-miss, any-none, route-there, route-for, routes-end}
+use Rattle.rowrules.proofs.Laws.{any-hit, any-miss, any-none, route-there, route-for, routes-end}
 use borrow.Author.Needs.{needs}
-use Rattle.rules.proofs.root_from.Statement.{statement}
-use Rattle.rules.proofs.root_from.Tie as tie
+use Rattle.rowrules.proofs.root_from.Statement.{statement}
+use Rattle.rowrules.proofs.root_from.Tie as tie
 
 abbrev Inv-loop : tie.InvT-loop
 Inv-loop numbers names from root n i₀ i = any (isFor root) (drop from (cardOf numbers names .routes)) ≡ any (isFor root) (drop i (cardOf numbers names .routes))

@@ -7,10 +7,10 @@ use Rattle.meaning.specs.Octets.{all}
 use Rattle.meaning.specs.Card.{treeAt}
 use Rattle.meaning.specs.Save.{isBranchLabel}
 use Rattle.memory.specs.Memory.{cardOf}
-use Rattle.rules.proofs.Laws.{all-hit, all-miss, all-none, branch-there, branches-end}
+use Rattle.rowrules.proofs.Laws.{all-hit, all-miss, all-none, branch-there, branches-end}
 use borrow.Author.Needs.{needs}
-use Rattle.rules.proofs.branches_good.Statement.{statement}
-use Rattle.rules.proofs.branches_good.Tie as tie
+use Rattle.rowrules.proofs.branches_good.Statement.{statement}
+use Rattle.rowrules.proofs.branches_good.Tie as tie
 
 abbrev Inv-loop : tie.InvT-loop
 Inv-loop numbers i k₀ k = (k ≤ 16) × ((os : List ℕ) → all isBranchLabel (treeAt i (cardOf numbers os) .branches) ≡ all isBranchLabel (drop k (treeAt i (cardOf numbers os) .branches)))

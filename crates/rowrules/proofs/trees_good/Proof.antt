@@ -5,10 +5,10 @@ use lib.ListN.{drop}
 use Rattle.meaning.specs.Octets.{all}
 use Rattle.meaning.specs.Save.{isTree}
 use Rattle.memory.specs.Memory.{cardOf}
-use Rattle.rules.proofs.Laws.{all-hit, all-miss, all-none, tree-there, trees-end}
+use Rattle.rowrules.proofs.Laws.{all-hit, all-miss, all-none, tree-there, trees-end}
 use borrow.Author.Needs.{needs}
-use Rattle.rules.proofs.trees_good.Statement.{statement}
-use Rattle.rules.proofs.trees_good.Tie as tie
+use Rattle.rowrules.proofs.trees_good.Statement.{statement}
+use Rattle.rowrules.proofs.trees_good.Tie as tie
 
 abbrev Inv-loop : tie.InvT-loop
 Inv-loop numbers names n i₀ i = (i ≤ n) × (all isTree (cardOf numbers names .trees) ≡ all isTree (drop i (cardOf numbers names .trees)))

@@ -1,10 +1,10 @@
 use mathlib.Core.Path.{sym, ap, _∙_}
 use Rattle.meaning.specs.Save.{isName}
 use Rattle.memory.proofs.Laws.{branches-length}
-use Rattle.rules.proofs.Laws.{tree-parts, and-then, and-not}
+use Rattle.rowrules.proofs.Laws.{tree-parts, and-then, and-not}
 use borrow.Author.Needs.{needs}
-use Rattle.rules.proofs.is_tree.Statement.{statement}
-use Rattle.rules.proofs.is_tree.Tie as tie
+use Rattle.rowrules.proofs.is_tree.Statement.{statement}
+use Rattle.rowrules.proofs.is_tree.Tie as tie
 
 tree-name-requires : tie.Need-tree-name-requires
 tree-name-requires c κs = search needs
