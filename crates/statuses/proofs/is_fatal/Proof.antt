@@ -1,8 +1,8 @@
 -- `notice::is_fatal` meets its contract: by its tests. Assumes nothing.
 use borrow.Author.Tests.{eq-eqb, ne-eqb}
 use Rattle.meaning.specs.Notice.{isFatal}
-use Rattle.notice.proofs.is_fatal.Statement.{statement}
-use Rattle.notice.proofs.is_fatal.Tie as tie
+use Rattle.statuses.proofs.is_fatal.Statement.{statement}
+use Rattle.statuses.proofs.is_fatal.Tie as tie
 
 returns : tie.Need-returns
 unfolding isFatal

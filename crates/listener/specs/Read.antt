@@ -7,8 +7,8 @@ use lib.Dec.{eqb}
 use Rattle.meaning.specs.Octets.{pick}
 use Rattle.meaning.specs.Notice.{statusOf, copiedId, copiedType, noticeDue, noticeRecord, Notice, noticeIn, noticeRefusal}
 use Rattle.meaning.specs.NoticeLaws.{Octets, read-back, not-refused}
-use Rattle.notice.specs.declared.Read.{Read}
-use Rattle.notice.specs.declared.Read.the-variants.{Refused, Says}
+use Rattle.listener.specs.declared.Read.{Read}
+use Rattle.listener.specs.declared.Read.the-variants.{Refused, Says}
 
 abbrev pub says : Notice → Read
 says n = Says (n .neighbour) (n .id) (n .status) (n .refusedId) (n .refusedType)

@@ -1,9 +1,9 @@
 -- `notice::status_code` meets its contract: the E bit by what `is_fatal` answers. Assumes nothing.
 use mathlib.Core.Path.{sym, _∙_}
-use Rattle.notice.proofs.Laws.{code-fatal, code-mild}
+use Rattle.statuses.proofs.Laws.{code-fatal, code-mild}
 use borrow.Author.Needs.{needs}
-use Rattle.notice.proofs.status_code.Statement.{statement}
-use Rattle.notice.proofs.status_code.Tie as tie
+use Rattle.statuses.proofs.status_code.Statement.{statement}
+use Rattle.statuses.proofs.status_code.Tie as tie
 
 is-fatal-requires : tie.Need-is-fatal-requires
 is-fatal-requires c κs = search needs

@@ -1,9 +1,9 @@
 -- `notice::read_notice` meets its contract: refused by either test, or read by both. Assumes nothing.
 use mathlib.Core.Path.{sym, _∙_}
-use Rattle.notice.proofs.Laws.{reads-refused, reads-untold, reads-says}
+use Rattle.listener.proofs.Laws.{reads-refused, reads-untold, reads-says}
 use borrow.Author.Needs.{needs}
-use Rattle.notice.proofs.read_notice.Statement.{statement}
-use Rattle.notice.proofs.read_notice.Tie as tie
+use Rattle.listener.proofs.read_notice.Statement.{statement}
+use Rattle.listener.proofs.read_notice.Tie as tie
 
 is-framed-requires : tie.Need-is-framed-requires
 is-framed-requires c κs = search needs

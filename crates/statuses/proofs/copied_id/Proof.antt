@@ -1,8 +1,8 @@
 -- `notice::copied_id` meets its contract: by the length. Assumes nothing.
-use Rattle.notice.proofs.Laws.{id-none, id-there}
+use Rattle.statuses.proofs.Laws.{id-none, id-there}
 use borrow.Author.Needs.{needs}
-use Rattle.notice.proofs.copied_id.Statement.{statement}
-use Rattle.notice.proofs.copied_id.Tie as tie
+use Rattle.statuses.proofs.copied_id.Statement.{statement}
+use Rattle.statuses.proofs.copied_id.Tie as tie
 
 returns : tie.Need-returns
 returns c = id-none _ (c .if1 .taken)

@@ -1,8 +1,8 @@
 -- `notice::is_framed` meets its contract: each test that fails, and all that pass. Assumes nothing.
-use Rattle.notice.proofs.Laws.{frame-length, frame-mark, frame-far, frame-kind, frame-size, frame-field, frame-right}
+use Rattle.listener.proofs.Laws.{frame-length, frame-mark, frame-far, frame-kind, frame-size, frame-field, frame-right}
 use borrow.Author.Needs.{needs}
-use Rattle.notice.proofs.is_framed.Statement.{statement}
-use Rattle.notice.proofs.is_framed.Tie as tie
+use Rattle.listener.proofs.is_framed.Statement.{statement}
+use Rattle.listener.proofs.is_framed.Tie as tie
 
 returns : tie.Need-returns
 returns c = frame-length _ (c .if1 .taken)

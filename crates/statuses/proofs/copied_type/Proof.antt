@@ -1,9 +1,9 @@
 -- `notice::copied_type` meets its contract: by the length. Assumes nothing.
 use native.Mathlib.Omega.{arith}
-use Rattle.notice.proofs.Laws.{type-none, type-there}
+use Rattle.statuses.proofs.Laws.{type-none, type-there}
 use borrow.Author.Needs.{needs}
-use Rattle.notice.proofs.copied_type.Statement.{statement}
-use Rattle.notice.proofs.copied_type.Tie as tie
+use Rattle.statuses.proofs.copied_type.Statement.{statement}
+use Rattle.statuses.proofs.copied_type.Tie as tie
 
 returns : tie.Need-returns
 returns c = (type-none _ (c .if1 .taken), omega arith)

@@ -3,9 +3,9 @@ use mathlib.Core.Path.{refl}
 use native.Mathlib.Omega.{arith}
 use Rattle.meaning.specs.Octets.{_when_else_}
 use Rattle.meaning.specs.Notice.{statusOf}
-use Rattle.notice.proofs.Laws.{status-at, status-pair, status-none}
-use Rattle.notice.proofs.status_of.Statement.{statement}
-use Rattle.notice.proofs.status_of.Tie as tie
+use Rattle.statuses.proofs.Laws.{status-at, status-pair, status-none}
+use Rattle.statuses.proofs.status_of.Statement.{statement}
+use Rattle.statuses.proofs.status_of.Tie as tie
 
 returns : tie.Need-returns
 unfolding statusOf _when_else_

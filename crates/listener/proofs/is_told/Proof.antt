@@ -1,9 +1,9 @@
 -- `notice::is_told` meets its contract: by its tests. Assumes nothing.
 use mathlib.Core.Path.{sym, _∙_}
-use Rattle.notice.proofs.Laws.{told-unknown, told-bits, told-type, told-other}
+use Rattle.listener.proofs.Laws.{told-unknown, told-bits, told-type, told-other}
 use borrow.Author.Needs.{needs}
-use Rattle.notice.proofs.is_told.Statement.{statement}
-use Rattle.notice.proofs.is_told.Tie as tie
+use Rattle.listener.proofs.is_told.Statement.{statement}
+use Rattle.listener.proofs.is_told.Tie as tie
 
 four-at-requires : tie.Need-four-at-requires
 four-at-requires c κs = search needs

@@ -1,9 +1,9 @@
 -- `notice::is_status` meets its contract: by the eight numbers. Assumes nothing.
 use mathlib.Core.Logic.{inl, inr}
 use native.Mathlib.Omega.{arith}
-use Rattle.notice.proofs.Laws.{known-low, known-high, not-known}
-use Rattle.notice.proofs.is_status.Statement.{statement}
-use Rattle.notice.proofs.is_status.Tie as tie
+use Rattle.statuses.proofs.Laws.{known-low, known-high, not-known}
+use Rattle.statuses.proofs.is_status.Statement.{statement}
+use Rattle.statuses.proofs.is_status.Tie as tie
 
 returns : tie.Need-returns
 returns c = not-known _ (λ e. omega arith) (λ e. omega arith) (λ e. omega arith) (λ e. omega arith) (λ e. omega arith) (λ e. omega arith) (λ e. omega arith) (λ e. omega arith)
