@@ -45,7 +45,7 @@ fn join_new(
     ensures { λ r. ⌜ Does (finish (length (now (out .entry))) (cardOf (now (numbers .entry)) (now (names .entry))) (joinOf (cardOf (now (numbers .entry)) (now (names .entry))) (now (name .entry))))
         (now (answer .exit)) r (now (out .entry)) (now (out .exit)) (cardOf (now (numbers .exit)) (now (names .exit))) ⌝ }
 {
-    let u = moves::upstream_of(numbers, names, name);
+    let u = holders::upstream_of(numbers, names, name);
     let refusal = trees::new_refusal(numbers, u, writer::record_size(name), out.len());
     if refusal != 0 {
         *answer = refusal;
@@ -93,7 +93,7 @@ fn leave_standing(
     let empty = !table::any_branch(numbers, i, 16, 0, 16);
     let u = trees::leaf_holder(numbers, names, i, false);
     if !table::is_leaf(numbers, i) {
-        *answer = if moves::labels_short(numbers, i, u) {
+        *answer = if holders::labels_short(numbers, i, u) {
             12
         } else {
             14

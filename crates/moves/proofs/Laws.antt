@@ -7,14 +7,14 @@ use mathlib.Core.List.{List, [], _∷_, _++_, append-assoc}
 use lib.ListN.{getD, length, length-set, length-append}
 use lib.Seq.{getD-set-same}
 use lib.Dec.{eqb}
-use Rattle.meaning.specs.Octets.{pick, place, two, four}
+use Rattle.meaning.specs.Octets.{pick, two, four}
 use Rattle.meaning.specs.Lists.{append-nil, by-test, picked}
 use Rattle.meaning.specs.Wire.{tlv, octetsOf, Sent, recordOf, nextId, records, idsAfter}
 use Rattle.meaning.specs.Card.{Tree, Card, Use, noRoute, withTrees, withLabels, withLabel, bare, treeAt, isEmpty, heldFor}
 use Rattle.meaning.specs.Events.{Moved, still, followedBy, setUse, setLabel, giveUp, give, letGo, takeUp, moveLabel, relabel, needMove}
 use Rattle.octets.specs.Part.{mid}
 use Rattle.octets.proofs.Laws.{mid-mid, mid-none}
-use Rattle.moves.specs.Move.{Wrote, moveSize, relabelSize}
+use Rattle.holders.specs.Move.{Wrote, moveSize, relabelSize}
 
 -- ---- records one after the other
 

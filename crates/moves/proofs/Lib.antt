@@ -1,4 +1,3 @@
 pub mod Laws
 pub mod Trees
 pub mod Steps
-pub mod Held

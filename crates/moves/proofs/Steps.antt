@@ -2,22 +2,22 @@
 use Prim.Native.Nat.{ℕ, _+_, _*_, _-_, _≤_, _<_}
 use native.Mathlib.Omega.{arith}
 use mathlib.Core.Path.{_≡_, refl, sym, ap, _∙_}
-use mathlib.Core.Bool.{false}
 use mathlib.Core.List.{List}
 use lib.ListN.{getD, length}
-use borrow.Author.Tests.{eq-eqb, ne-eqb, le-leb, lt-ltb, le-ltb}
+use borrow.Author.Tests.{eq-eqb, ne-eqb, le-leb}
 use Rattle.meaning.specs.Octets.{place}
 use Rattle.meaning.specs.Lists.{place-count}
 use Rattle.meaning.specs.Wire.{recordOf, nextId, records, idsAfter}
-use Rattle.meaning.specs.Card.{Tree, Card, free, mapped, treeAt, isFree, useOf, heldFor, freeLabels, lowestFree}
-use Rattle.meaning.specs.Events.{still, tell, setUse, setLabel, ended, giveUp, give, letGo, takeUp, moveLabel, relabel, needMove, need, labelsShort, upstream}
+use Rattle.meaning.specs.Card.{Card, free, mapped, treeAt, isFree, useOf, heldFor, freeLabels, lowestFree}
+use Rattle.meaning.specs.Events.{still, tell, setUse, setLabel, ended, giveUp, give, letGo, takeUp, moveLabel, relabel, needMove}
 use Rattle.octets.specs.Part.{mid}
 use Rattle.memory.specs.Memory.{cardOf, baseIn, treeCount}
 use Rattle.memory.proofs.Memory.{trees-length, labels-length}
 use Rattle.memory.proofs.Laws.{label-some, label-carried}
-use Rattle.moves.specs.Move.{Wrote, moveSize, relabelSize}
+use Rattle.holders.specs.Move.{Wrote, moveSize}
 use Rattle.moves.proofs.Laws.{wrote-nothing, wrote-one, then-length, let-go-size, let-go-stays, take-up-size, move-size}
 use Rattle.moves.proofs.Trees.{give-up-free, give-free}
+use Rattle.holders.proofs.Sizes.{need-none, need-one}
 
 -- ---- the number of trees, after one change
 
@@ -92,14 +92,6 @@ gave i u p b id at next ns ns' os os' name s s' eb some ep en ei es e₁ =
 
 -- ---- u is a neighbour, or none
 
-pub need-none : (u : ℕ) → u ≡ 17 → needMove u ≡ 0
-unfolding needMove
-need-none u e = rw (eq-eqb u 17 e) refl
-
-pub need-one : (u : ℕ) → (u ≡ 17 → ⊥) → needMove u ≡ 1
-unfolding needMove
-need-one u ne = rw (ne-eqb u 17 ne) refl
-
 module _ (i u : ℕ) (c : Card) where
   pub take-up-none : u ≡ 17 → takeUp i u c ≡ still c
   unfolding takeUp
@@ -140,58 +132,3 @@ module _ (i u : ℕ) (ns ns₁ os : List ℕ) (id at : ℕ) (s s₁ : List ℕ) 
 
   pub let-go-many : Wrote (letGo i (cardOf ns os)) id at s s₁ (cardOf ns₁ os) at₁ id₁ → treeCount ns₁ ≡ treeCount ns
   let-go-many w = as-many ns ns₁ os os (ap (λ (c : Card). length (c .trees)) (w .leaves) ∙ let-go-stays i (cardOf ns os) (rw trees-length h) .many)
-
--- ---- sizes
-
-module _ (t : Tree) (u size : ℕ) (e : size ≡ 24 + length (t .name)) where
-  pub size-none : t .label ≡ 0 → u ≡ 17 → 0 ≡ moveSize t u
-  unfolding moveSize
-  size-none l k = rw (eq-eqb (t .label) 0 l, need-none u k) (omega arith)
-
-  pub size-taken : t .label ≡ 0 → (u ≡ 17 → ⊥) → size ≡ moveSize t u
-  unfolding moveSize
-  size-taken l k = rw (eq-eqb (t .label) 0 l, need-one u k) (omega arith)
-
-  pub size-given : (t .label ≡ 0 → ⊥) → u ≡ 17 → size ≡ moveSize t u
-  unfolding moveSize
-  size-given l k = rw (ne-eqb (t .label) 0 l, need-none u k) (omega arith)
-
-  pub size-both : (t .label ≡ 0 → ⊥) → (u ≡ 17 → ⊥) → 2 * size ≡ moveSize t u
-  unfolding moveSize
-  size-both l k = rw (ne-eqb (t .label) 0 l, need-one u k) (omega arith)
-
-module _ (c : Card) (t : Tree) (u : ℕ) where
-  pub resize-none : heldFor c t ≡ u → 0 ≡ relabelSize c t u
-  unfolding relabelSize
-  resize-none e = rw (eq-eqb (heldFor c t) u e) refl
-
-  pub resize-some : (heldFor c t ≡ u → ⊥) → relabelSize c t u ≡ moveSize t u
-  unfolding relabelSize
-  resize-some ne = rw (ne-eqb (heldFor c t) u ne) refl
-
-  pub need-same : heldFor c t ≡ u → need c t u ≡ 0
-  unfolding need
-  need-same e = rw (eq-eqb (heldFor c t) u e) refl
-
-  pub need-other : (heldFor c t ≡ u → ⊥) → need c t u ≡ needMove u
-  unfolding need
-  need-other ne = rw (ne-eqb (heldFor c t) u ne) refl
-
--- ---- labels short
-
-pub short-none : (c : Card) (n : ℕ) → n ≡ 0 → false ≡ labelsShort c n
-unfolding labelsShort
-short-none c n e = rw (le-ltb (freeLabels c) n (omega arith)) refl
-
--- ---- upstream
-
-abbrev pub Upstream : ℕ → ℕ → Type 0
-Upstream r via = (r ≡ upstream via) × (r ≤ 17) × (r ≡ 16 → ⊥)
-
-pub upstream-some : (via : ℕ) → via < 16 → Upstream via via
-unfolding upstream
-upstream-some via h = (rw (lt-ltb via 16 h) refl, omega arith, λ e. omega arith)
-
-pub upstream-none : (via : ℕ) → 16 ≤ via → Upstream 17 via
-unfolding upstream
-upstream-none via h = (rw (le-ltb via 16 h) refl, omega arith, λ e. omega arith)

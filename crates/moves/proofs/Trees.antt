@@ -4,7 +4,7 @@ use native.Mathlib.Nat.{add-zero, add-suc, suc-add, zero-add, le-refl}
 use native.Mathlib.Numerals.{add-one}
 use native.Mathlib.Omega.{arith}
 use mathlib.Core.Path.{_≡_, refl, sym, ap, ap₂, _∙_}
-use mathlib.Core.List.{List, [], _∷_, _++_, append-assoc}
+use mathlib.Core.List.{List, [], _++_, append-assoc}
 use lib.ListN.{getD, length}
 use lib.Seq.{getD-set-other}
 use lib.Dec.{eqb}
@@ -13,7 +13,7 @@ use Rattle.meaning.specs.Lists.{append-nil, by-test, picked, count-set, count-s
 use Rattle.meaning.specs.Wire.{Sent, records}
 use Rattle.meaning.specs.Card.{Tree, Card, Use, free, mapped, awaiting, withTrees, withLabels, bare, treeAt, isFree, useOf, freeLabels, lowestFree, noRoute}
 use Rattle.meaning.specs.Events.{Moved, still, followedBy, setUse, setLabel, ended, giveUp, give, letGo, takeUp, moveLabel, holder, ofRoot, moveOne, moveFrom, sumFrom}
-use Rattle.moves.specs.Move.{sizeOne}
+use Rattle.holders.specs.Move.{sizeOne}
 use Rattle.moves.proofs.Laws.{move-stays, move-size}
 
 -- ---- free labels

@@ -11,7 +11,7 @@ use Rattle.meaning.specs.Card.{Tree, Card, treeAt, freeLabels}
 use Rattle.meaning.specs.Events.{still, moveLabel, needMove, holder, ofRoot, moveOne, moveFrom, moveAll, needOne, sumFrom, needAll}
 use Rattle.memory.specs.Memory.{cardOf, treeCount}
 use Rattle.memory.proofs.Memory.{trees-length}
-use Rattle.moves.specs.Move.{Wrote, moveSize, sizeOne, sizeAll}
+use Rattle.holders.specs.Move.{Wrote, moveSize, sizeOne, sizeAll}
 use Rattle.moves.proofs.Laws.{wrote-nothing, wrote-then}
 use Rattle.moves.proofs.Trees.{one-many, one-size, first-more, first-none, first-later, sum-more, sum-none, sum-le}
 use Rattle.moves.proofs.Steps.{as-many}

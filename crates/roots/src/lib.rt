@@ -7,7 +7,7 @@ ghost use Rattle.meaning.specs.Wire.{records};
 ghost use Rattle.meaning.specs.Card.{Card, treeAt, freeLabels};
 ghost use Rattle.meaning.specs.Events.{needOne, needAll, ofRoot, moveOne, moveAll};
 ghost use Rattle.memory.specs.Memory.{cardOf, treeCount};
-ghost use Rattle.moves.specs.Move.{Wrote, sizeOne, sizeAll};
+ghost use Rattle.holders.specs.Move.{Wrote, sizeOne, sizeAll};
 use moves::Written;
 
 fn is_of_root(names: &[u8], i: usize, root: &[u8]) -> bool
@@ -23,7 +23,7 @@ fn need_one(numbers: &[u64], names: &[u8], i: usize, root: &[u8], u: u64) -> usi
     ensures { λ r. ⌜ (r ≡ needOne (now (root .entry)) u (treeAt i (cardOf (now (numbers .entry)) (now (names .entry))))) × (r ≤ 1) ⌝ }
 {
     if is_of_root(names, i, root) {
-        if moves::holder(numbers, i, u) == 17 {
+        if holders::holder(numbers, i, u) == 17 {
             0
         } else {
             1
@@ -38,7 +38,7 @@ fn size_one(numbers: &[u64], names: &[u8], i: usize, root: &[u8], u: u64) -> usi
     ensures { λ r. ⌜ (r ≡ sizeOne (now (root .entry)) u (treeAt i (cardOf (now (numbers .entry)) (now (names .entry))))) × (r ≤ 156) ⌝ }
 {
     if is_of_root(names, i, root) {
-        moves::move_size(numbers, names, i, moves::holder(numbers, i, u))
+        holders::move_size(numbers, names, i, holders::holder(numbers, i, u))
     } else {
         0
     }
@@ -92,7 +92,7 @@ fn move_one(
 {
     let ours = is_of_root(names, i, root);
     if ours {
-        let h = moves::holder(numbers, i, u);
+        let h = holders::holder(numbers, i, u);
         return moves::move_label(numbers, names, i, h, out, at, id);
     }
     Written { at, id }

@@ -17,7 +17,7 @@ use Rattle.meaning.specs.Calls.{Does}
 use Rattle.octets.proofs.Laws.{mid-none}
 use Rattle.memory.specs.Memory.{cardOf, routeCount}
 use Rattle.memory.proofs.Memory.{routes-length}
-use Rattle.moves.specs.Move.{Wrote, sizeOne, sizeAll}
+use Rattle.holders.specs.Move.{Wrote, sizeOne, sizeAll}
 use Rattle.moves.proofs.Laws.{then-length, records-append}
 use Rattle.moves.proofs.Trees.{one-other, one-many, one-size}
 use Rattle.trees.specs.End.{Ended}

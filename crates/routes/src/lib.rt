@@ -9,7 +9,7 @@ ghost use Rattle.meaning.specs.Card.{noRoute, routeOf, routePlace, freeLabels, 
 ghost use Rattle.meaning.specs.Events.{finish, routesFull, routesWith, labelsShort, needAll, upstream};
 ghost use Rattle.meaning.specs.Calls.{Does};
 ghost use Rattle.memory.specs.Memory.{cardOf};
-ghost use Rattle.moves.specs.Move.{sizeAll};
+ghost use Rattle.holders.specs.Move.{sizeAll};
 ghost use Rattle.trees.specs.End.{Ended};
 ghost use Rattle.routes.specs.Order.{movedTo, routeOrder};
 

@@ -130,8 +130,8 @@ fn holds_right(numbers: &[u64], names: &[u8], i: usize) -> bool
     requires { ⌜ (length (now numbers) ≡ 1448) × (length (now names) ≡ 18144) × (i < treeCount (now numbers)) × (i < 64) ⌝ }
     ensures { λ r. ⌜ r ≡ holdsRight (cardOf (now (numbers .entry)) (now (names .entry))) (treeAt i (cardOf (now (numbers .entry)) (now (names .entry)))) ⌝ }
 {
-    let u = moves::upstream_of(numbers, names, table::tree_name(names, i));
-    table::held_for(numbers, i) == moves::holder(numbers, i, u)
+    let u = holders::upstream_of(numbers, names, table::tree_name(names, i));
+    table::held_for(numbers, i) == holders::holder(numbers, i, u)
 }
 
 fn held_right(numbers: &[u64], names: &[u8]) -> bool

@@ -16,8 +16,8 @@ use Rattle.meaning.specs.Wire.{Sent, records, idsAfter, rootIn}
 use Rattle.meaning.specs.Card.{Tree, Card, free, noRoute, withNext, withTrees, withBranch, withLeaf, named, bare, treePlace, treeOf, treeAt, isBranch, notHeld, leadsOn, useOf, routeOf}
 use Rattle.meaning.specs.Events.{refused, taken, refuse, accept, roomShort, finish, Moved, followedBy, relabel, upstream, holder, upstreamOf, entered, swept, enter}
 use Rattle.meaning.specs.Calls.{over, Does}
-use Rattle.moves.proofs.Held.{holder-range, with-none}
-use Rattle.moves.specs.Move.{Wrote}
+use Rattle.holders.proofs.Held.{holder-range, with-none}
+use Rattle.holders.specs.Move.{Wrote}
 use Rattle.moves.proofs.Laws.{wrote-then}
 use Rattle.memory.specs.Memory.{cardOf, treeCount, baseIn}
 use Rattle.memory.proofs.Memory.{trees-length, base-range}

@@ -15,7 +15,7 @@ use Rattle.meaning.specs.Card.{Tree, Card, withTrees, withBranch, bare, treePla
 use Rattle.meaning.specs.Events.{taken, unless, finish, relabel, needMove, need, labelsShort, upstreamOf, entered, swept, treesFull, treeRefusal, enter, become}
 use Rattle.meaning.specs.Calls.{Does}
 use Rattle.octets.proofs.Tab.{put-in}
-use Rattle.moves.specs.Move.{moveSize, relabelSize}
+use Rattle.holders.specs.Move.{moveSize, relabelSize}
 use Rattle.moves.proofs.Laws.{records-append, relabel-stays, alike-empty, relabel-size}
 use Rattle.memory.specs.Memory.{cardOf, treeCount}
 use Rattle.trees.specs.End.{Ended, thenCut}

@@ -9,7 +9,7 @@ ghost use Rattle.meaning.specs.Wire.{records};
 ghost use Rattle.meaning.specs.Card.{treeAt, withBranch, withLeaf, bare, freeLabels};
 ghost use Rattle.meaning.specs.Events.{relabel, takeUp, needMove, need, labelsShort, upstreamOf};
 ghost use Rattle.memory.specs.Memory.{cardOf, treeCount};
-ghost use Rattle.moves.specs.Move.{relabelSize};
+ghost use Rattle.holders.specs.Move.{relabelSize};
 ghost use Rattle.trees.specs.End.{Ended, thenCut};
 
 // ---- for whom it is to hold a label
@@ -19,8 +19,8 @@ pub fn branch_holder(numbers: &[u64], names: &[u8], i: usize, n: usize, x: u64) 
     requires { ⌜ (length (now numbers) ≡ 1448) × (length (now names) ≡ 18144) × (i < treeCount (now numbers)) × (i < 64) ⌝ }
     ensures { λ r. ⌜ (r ≡ upstreamOf (cardOf (now (numbers .entry)) (now (names .entry))) (withBranch n x (treeAt i (cardOf (now (numbers .entry)) (now (names .entry)))))) × (r ≤ 17) × (r ≡ 16 → ⊥) ⌝ }
 {
-    let u = moves::upstream_of(numbers, names, table::tree_name(names, i));
-    moves::holder_then(numbers, i, n, x, table::is_leaf(numbers, i), u)
+    let u = holders::upstream_of(numbers, names, table::tree_name(names, i));
+    holders::holder_then(numbers, i, n, x, table::is_leaf(numbers, i), u)
 }
 
 // The same, once its leaf mark is `leaf`.
@@ -28,8 +28,8 @@ pub fn leaf_holder(numbers: &[u64], names: &[u8], i: usize, leaf: bool) -> u64
     requires { ⌜ (length (now numbers) ≡ 1448) × (length (now names) ≡ 18144) × (i < treeCount (now numbers)) × (i < 64) ⌝ }
     ensures { λ r. ⌜ (r ≡ upstreamOf (cardOf (now (numbers .entry)) (now (names .entry))) (withLeaf leaf (treeAt i (cardOf (now (numbers .entry)) (now (names .entry)))))) × (r ≤ 17) × (r ≡ 16 → ⊥) ⌝ }
 {
-    let u = moves::upstream_of(numbers, names, table::tree_name(names, i));
-    moves::holder_then(numbers, i, 16, 0, leaf, u)
+    let u = holders::upstream_of(numbers, names, table::tree_name(names, i));
+    holders::holder_then(numbers, i, 16, 0, leaf, u)
 }
 
 // The neighbour that a new tree holds a label for, whose only branch is that of neighbour n; 17 for none.
@@ -37,7 +37,7 @@ pub fn new_holder(numbers: &[u64], names: &[u8], name: &[u8], n: usize) -> u64
     requires { ⌜ (length (now numbers) ≡ 1448) × (length (now names) ≡ 18144) × (n < 16) ⌝ }
     ensures { λ r. ⌜ ((l : ℕ) → 0 < l → r ≡ upstreamOf (cardOf (now (numbers .entry)) (now (names .entry))) (withBranch n l (bare (now (name .entry))))) × (r ≤ 17) × (r ≡ 16 → ⊥) ⌝ }
 {
-    let u = moves::upstream_of(numbers, names, name);
+    let u = holders::upstream_of(numbers, names, name);
     if u == n as u64 {
         return 17;
     }
@@ -59,10 +59,10 @@ pub fn standing_refusal(
     ensures { λ r. ⌜ r ≡ 12 when labelsShort (cardOf (now (numbers .entry)) (now (names .entry))) (need (cardOf (now (numbers .entry)) (now (names .entry))) (treeAt i (cardOf (now (numbers .entry)) (now (names .entry)))) u)
         else 16 when ltb room (first + relabelSize (cardOf (now (numbers .entry)) (now (names .entry))) (treeAt i (cardOf (now (numbers .entry)) (now (names .entry)))) u) else 0 ⌝ }
 {
-    if moves::labels_short(numbers, i, u) {
+    if holders::labels_short(numbers, i, u) {
         return 12;
     }
-    if room < first + moves::relabel_size(numbers, names, i, u) {
+    if room < first + holders::relabel_size(numbers, names, i, u) {
         return 16;
     }
     0

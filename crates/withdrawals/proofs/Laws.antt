@@ -17,7 +17,7 @@ use Rattle.meaning.specs.Events.{taken, unless, finish, Moved, followedBy, tell
 use Rattle.meaning.specs.Calls.{Does}
 use Rattle.octets.specs.Part.{mid}
 use Rattle.octets.proofs.Laws.{mid-none, mid-length}
-use Rattle.moves.specs.Move.{Wrote}
+use Rattle.holders.specs.Move.{Wrote}
 use Rattle.moves.proofs.Laws.{record-size, records-one, wrote-one}
 use Rattle.trees.specs.End.{Ended, thenCut}
 use Rattle.trees.proofs.Laws.{found-tree, does-refused, does-short, does-taken, ended-then, does-ended}

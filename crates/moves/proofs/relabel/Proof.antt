@@ -3,7 +3,8 @@ use mathlib.Core.Path.{_≡_, sym, _∙_}
 use Rattle.meaning.specs.Card.{Card, treeAt, heldFor}
 use Rattle.memory.specs.Memory.{cardOf}
 use Rattle.moves.proofs.Laws.{wrote-nothing}
-use Rattle.moves.proofs.Steps.{relabel-none, relabel-some, need-other, resize-some}
+use Rattle.holders.proofs.Sizes.{need-other, resize-some}
+use Rattle.moves.proofs.Steps.{relabel-none, relabel-some}
 use borrow.Author.Needs.{needs}
 use Rattle.moves.proofs.relabel.Statement.{statement}
 use Rattle.moves.proofs.relabel.Tie as tie

@@ -1,7 +1,8 @@
 use native.Mathlib.Omega.{arith}
 use Rattle.meaning.specs.Card.{Card}
 use Rattle.memory.specs.Memory.{cardOf}
-use Rattle.moves.proofs.Steps.{take-nothing, take-up-some, take-up-room, need-one}
+use Rattle.holders.proofs.Sizes.{need-one}
+use Rattle.moves.proofs.Steps.{take-nothing, take-up-some, take-up-room}
 use borrow.Author.Needs.{needs}
 use Rattle.moves.proofs.take_up.Statement.{statement}
 use Rattle.moves.proofs.take_up.Tie as tie

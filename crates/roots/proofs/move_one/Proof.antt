@@ -3,7 +3,7 @@ use mathlib.Core.Path.{sym, _∙_}
 use Rattle.meaning.specs.Card.{Card, treeAt}
 use Rattle.memory.specs.Memory.{cardOf}
 use Rattle.memory.proofs.Memory.{trees-length}
-use Rattle.moves.proofs.Held.{holder-range}
+use Rattle.holders.proofs.Held.{holder-range}
 use Rattle.roots.proofs.Laws.{need-of, one-fills, one-of, one-nothing}
 use borrow.Author.Needs.{needs}
 use Rattle.roots.proofs.move_one.Statement.{statement}

@@ -1,7 +1,7 @@
 use native.Mathlib.Omega.{arith}
 use mathlib.Core.Path.{sym, ap, _∙_}
 use Rattle.meaning.specs.Events.{needMove}
-use Rattle.moves.proofs.Steps.{need-none, need-one}
+use Rattle.holders.proofs.Sizes.{need-none, need-one}
 use Rattle.roots.proofs.Laws.{need-of, need-not}
 use borrow.Author.Needs.{needs}
 use Rattle.roots.proofs.need_one.Statement.{statement}

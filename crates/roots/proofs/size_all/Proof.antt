@@ -3,7 +3,7 @@ use native.Mathlib.Omega.{arith}
 use mathlib.Core.Path.{_≡_, sym}
 use Rattle.meaning.specs.Events.{sumFrom}
 use Rattle.memory.specs.Memory.{cardOf}
-use Rattle.moves.specs.Move.{sizeOne, sizeAll}
+use Rattle.holders.specs.Move.{sizeOne, sizeAll}
 use Rattle.moves.proofs.Trees.{sum-none}
 use Rattle.roots.proofs.Laws.{sum-next, sum-done}
 use borrow.Author.Needs.{needs}

@@ -1,6 +1,6 @@
 use native.Mathlib.Omega.{arith}
 use mathlib.Core.Path.{sym, ap, _∙_}
-use Rattle.moves.specs.Move.{moveSize}
+use Rattle.holders.specs.Move.{moveSize}
 use Rattle.roots.proofs.Laws.{size-of, size-not}
 use borrow.Author.Needs.{needs}
 use Rattle.roots.proofs.size_one.Statement.{statement}

@@ -4,7 +4,7 @@ use mathlib.Core.Bool.{true, false}
 use borrow.Author.Tests.{lt-ltb, le-ltb}
 use Rattle.memory.specs.Memory.{cardOf}
 use Rattle.meaning.specs.Events.{labelsShort, needAll, upstream}
-use Rattle.moves.specs.Move.{sizeAll}
+use Rattle.holders.specs.Move.{sizeAll}
 use Rattle.trees.proofs.Laws.{when-1, when-2, when-3, when-0}
 use Rattle.routes.proofs.Laws.{full-is, labels-short, room-short, room-enough}
 use borrow.Author.Needs.{needs}

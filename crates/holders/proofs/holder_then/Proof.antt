@@ -1,8 +1,8 @@
 use mathlib.Core.Path.{sym, _∙_}
 use borrow.Author.Needs.{needs}
-use Rattle.moves.proofs.Held.{held-leaf, held-branch, held-none}
-use Rattle.moves.proofs.holder_then.Statement.{statement}
-use Rattle.moves.proofs.holder_then.Tie as tie
+use Rattle.holders.proofs.Held.{held-leaf, held-branch, held-none}
+use Rattle.holders.proofs.holder_then.Statement.{statement}
+use Rattle.holders.proofs.holder_then.Tie as tie
 
 returns : tie.Need-returns
 returns c = λ os. held-leaf _ _ _ _ _ (c .if1 .taken)

@@ -1,9 +1,9 @@
 use native.Mathlib.Omega.{arith}
 use mathlib.Core.Path.{sym, _∙_}
-use Rattle.moves.proofs.Steps.{resize-none, resize-some}
+use Rattle.holders.proofs.Sizes.{resize-none, resize-some}
 use borrow.Author.Needs.{needs}
-use Rattle.moves.proofs.relabel_size.Statement.{statement}
-use Rattle.moves.proofs.relabel_size.Tie as tie
+use Rattle.holders.proofs.relabel_size.Statement.{statement}
+use Rattle.holders.proofs.relabel_size.Tie as tie
 
 held-for-requires : tie.Need-held-for-requires
 held-for-requires c κs = search needs

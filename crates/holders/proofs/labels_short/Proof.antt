@@ -1,9 +1,9 @@
 use mathlib.Core.Path.{sym, ap, _∙_}
 use Rattle.meaning.specs.Events.{labelsShort}
-use Rattle.moves.proofs.Steps.{short-none, need-same, need-other, need-none, need-one}
+use Rattle.holders.proofs.Sizes.{short-none, need-same, need-other, need-none, need-one}
 use borrow.Author.Needs.{needs}
-use Rattle.moves.proofs.labels_short.Statement.{statement}
-use Rattle.moves.proofs.labels_short.Tie as tie
+use Rattle.holders.proofs.labels_short.Statement.{statement}
+use Rattle.holders.proofs.labels_short.Tie as tie
 
 held-for-requires : tie.Need-held-for-requires
 held-for-requires c κs = search needs

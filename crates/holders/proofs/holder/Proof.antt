@@ -1,13 +1,13 @@
-use mathlib.Core.Path.{sym, ap, _∙_}
+use mathlib.Core.Path.{ap, _∙_}
 use mathlib.Core.Bool.{Bool}
 use borrow.Author.Needs.{needs}
-use Rattle.meaning.specs.Card.{Tree, withBranch, withLeaf, treeAt}
+use Rattle.meaning.specs.Card.{withBranch, withLeaf, treeAt}
 use Rattle.meaning.specs.Events.{holder}
 use Rattle.memory.specs.Memory.{cardOf}
 use Rattle.memory.proofs.Laws.{branches-length}
-use Rattle.moves.proofs.Held.{with-none, with-own}
-use Rattle.moves.proofs.holder.Statement.{statement}
-use Rattle.moves.proofs.holder.Tie as tie
+use Rattle.holders.proofs.Held.{with-none, with-own}
+use Rattle.holders.proofs.holder.Statement.{statement}
+use Rattle.holders.proofs.holder.Tie as tie
 
 is-leaf-requires : tie.Need-is-leaf-requires
 is-leaf-requires c κs = search needs

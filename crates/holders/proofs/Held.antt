@@ -1,12 +1,12 @@
 -- For whom a tree holds a label: by its leaf, by its branches. Assumes nothing.
 use Prim.Native.Nat.{ℕ, _≤_}
 use native.Mathlib.Omega.{arith}
-use mathlib.Core.Path.{_≡_, refl, sym, ap, _∙_}
-use mathlib.Core.Bool.{Bool, true, false, _||_}
+use mathlib.Core.Path.{_≡_, refl, ap}
+use mathlib.Core.Bool.{Bool, true, false}
 use mathlib.Core.List.{List}
 use lib.ListN.{length, set}
 use lib.Seq.{set-out}
-use Rattle.meaning.specs.Octets.{pick, any}
+use Rattle.meaning.specs.Octets.{any}
 use Rattle.meaning.specs.Lists.{by-test, picked}
 use Rattle.meaning.specs.Card.{Tree, noRoute, isBranch, notHeld, leadsOn, withBranch, withLeaf}
 use Rattle.meaning.specs.Events.{holder}

@@ -3,10 +3,10 @@ use mathlib.Core.Path.{ap, _∙_}
 use mathlib.Core.List.{List}
 use Rattle.meaning.specs.Card.{routeOf}
 use Rattle.memory.specs.Memory.{cardOf}
-use Rattle.moves.proofs.Steps.{upstream-some, upstream-none}
+use Rattle.holders.proofs.Sizes.{upstream-some, upstream-none}
 use borrow.Author.Needs.{needs}
-use Rattle.moves.proofs.upstream_of.Statement.{statement}
-use Rattle.moves.proofs.upstream_of.Tie as tie
+use Rattle.holders.proofs.upstream_of.Statement.{statement}
+use Rattle.holders.proofs.upstream_of.Tie as tie
 
 root-of-requires : tie.Need-root-of-requires
 root-of-requires c κs = search needs

@@ -2,10 +2,10 @@ use Prim.Native.Nat.{ℕ, _+_}
 use native.Mathlib.Omega.{arith}
 use mathlib.Core.Path.{sym, ap, _∙_}
 use lib.ListN.{length}
-use Rattle.moves.proofs.Steps.{size-none, size-taken, size-given, size-both}
+use Rattle.holders.proofs.Sizes.{size-none, size-taken, size-given, size-both}
 use borrow.Author.Needs.{needs}
-use Rattle.moves.proofs.move_size.Statement.{statement}
-use Rattle.moves.proofs.move_size.Tie as tie
+use Rattle.holders.proofs.move_size.Statement.{statement}
+use Rattle.holders.proofs.move_size.Tie as tie
 
 tree-name-requires : tie.Need-tree-name-requires
 tree-name-requires c κs = search needs
