@@ -2,6 +2,8 @@ use native.Mathlib.Omega.{arith}
 use mathlib.Core.Path.{refl, sym}
 use lib.Seq.{length-take-le}
 use Rattle.bench.proofs.Laws.{keeps-line, keeps-long}
+use Rattle.replies.proofs.Laws.{says-only}
+use Rattle.replies.specs.Reply.{only, replyTo}
 use Rattle.words.specs.Words.{ascii}
 use borrow.Author.Needs.{needs}
 use Rattle.bench.proofs.reply.Statement.{statement}
@@ -18,7 +20,7 @@ same-length c = search needs
 
 returns : tie.Need-returns
 returns c = (
-  c .before .before .answer .ensures .short,
+  c .before .before .answer .ensures .says .short,
   λ o p e. rw (sym (keeps-line (c .before .before .before .before .before .before .before .before .before .before .args .line .now) (c .before .before .before .before .before .before .before .before .before .before .args .state .kept) o (c .before .before .before .before .before .before .before .if1 .taken) p)) (c .before .before .answer .ensures),
 )
 
@@ -32,10 +34,10 @@ same-length-2 : tie.Need-same-length-2
 same-length-2 c = search needs
 
 returns-2 : tie.Need-returns-2
-unfolding ascii
+unfolding replyTo only ascii
 returns-2 c = (
   omega arith,
-  λ o p e. rw (keeps-long (c .before .before .before .before .before .before .before .before .args .line .now) (c .before .before .before .before .before .before .before .before .args .state .kept) o (c .before .before .before .before .before .if1 .left) p e) (record { short = omega arith; line = c .before .before .put-count .ensures .0 .text; next = refl }),
+  λ o p e. rw (keeps-long (c .before .before .before .before .before .before .before .before .args .line .now) (c .before .before .before .before .before .before .before .before .args .state .kept) o (c .before .before .before .before .before .if1 .left) p e) (record { says = says-only _ _ _ _ _ (omega arith) (c .before .before .put-count .ensures .0); next = refl }),
 )
 
 pub reply-spec : {M : Type 1} → statement M
