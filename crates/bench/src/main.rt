@@ -7,7 +7,7 @@ ghost use Rattle.memory.specs.Memory.{cardOf};
 ghost use Rattle.verbs.specs.Line.{orderOf};
 ghost use Rattle.replies.specs.Reply.{replyTo, Answers};
 ghost use Rattle.bench.specs.Kept.{Keeps};
-use replies::Answered;
+use answers::Answered;
 
 // How many lines are done, how much of the next is kept, the room, and whether there is more to read.
 struct State {
@@ -45,7 +45,7 @@ fn reply(
 {
     let kept = state.kept;
     if kept <= line.len() {
-        return replies::answer(numbers, names, &line[..kept], number, state.room, text);
+        return answers::answer(numbers, names, &line[..kept], number, state.room, text);
     }
     Answered {
         length: lines::put_count(text, b"?", number),

@@ -1,20 +1,19 @@
-// What an order is answered with: the card's call is made, and the line that tells of it is written to the front of a lent text.
+// Orders that write records: the card's call is made, and the line that tells of it is written to the front of a lent text.
 ghost use mathlib.Core.Path.{_≡_};
 ghost use mathlib.Core.List.{List};
 ghost use Prim.Native.Nat.{ℕ, _≤_, min};
 ghost use lib.ListN.{length, take};
-ghost use Rattle.meaning.specs.Card.{Card};
 ghost use Rattle.memory.specs.Memory.{cardOf};
 ghost use Rattle.words.specs.Words.{octetsOf};
-ghost use Rattle.verbs.specs.Line.{Said, orderOf};
+ghost use Rattle.verbs.specs.Line.{Said};
 ghost use Rattle.orders.specs.Tells.{meant, InLine};
-ghost use Rattle.replies.specs.Reply.{replyTo, Says, Answers, WritesRecords};
+ghost use Rattle.replies.specs.Reply.{replyTo, Says, WritesRecords};
 use orders::Order;
 
 // ---- what the calls are lent
 
 // The octets that an order brings: 4096 at most.
-fn input() -> [u8; 4096]
+pub fn input() -> [u8; 4096]
     ensures { λ r. ⌜ 4096 ≡ length r ⌝ }
 {
     [0; 4096]
@@ -26,15 +25,8 @@ fn output() -> [u8; 9984]
     [0; 9984]
 }
 
-// The longest save: 32 routes, 64 trees and 256 labels behind the head.
-fn longest_save() -> [u8; 23343]
-    ensures { λ r. ⌜ 23343 ≡ length r ⌝ }
-{
-    [0; 23343]
-}
-
 // The octets of output that an event or a save is lent: as many as the room says, or all.
-fn lent(out: &mut [u8], room: u32) -> &mut [u8]
+pub fn lent(out: &mut [u8], room: u32) -> &mut [u8]
     ensures { λ r. ⌜ (now r ≡ take room (now (out .entry))) × (length (now r) ≡ min room (length (now (out .entry)))) ⌝ }
 {
     let n = room as usize;
@@ -178,60 +170,8 @@ fn on_notice(
     lines::put_event(text, b"notice", answer, record)
 }
 
-// Where a label leads.
-fn on_label(numbers: &[u64; 1448], label: u32, text: &mut [u8]) -> usize
-    requires { ⌜ 47104 ≤ length (now text) ⌝ }
-    ensures { λ r. ⌜ ((number room : ℕ) (os : List ℕ) → Says (replyTo number room (cardOf (now (numbers .entry)) os) (Said.label label))
-        r (now (text .exit)) (cardOf (now (numbers .entry)) os)) ⌝ }
-{
-    let mut branches = [0u64; 16];
-    let leaf = card::lookup_label_core(numbers, label, &mut branches);
-    lines::put_feed(text, b"label", leaf, &branches)
-}
-
-// Where a name leads.
-fn on_tree(numbers: &[u64; 1448], names: &[u8; 18144], hex: &[u8], text: &mut [u8]) -> usize
-    requires { ⌜ (length (now hex) ≤ 8192) × (47104 ≤ length (now text)) ⌝ }
-    ensures { λ r. ⌜ ((number room : ℕ) → Says (replyTo number room (cardOf (now (numbers .entry)) (now (names .entry))) (Said.tree (octetsOf (now (hex .entry)))))
-        r (now (text .exit)) (cardOf (now (numbers .entry)) (now (names .entry)))) ⌝ }
-{
-    let mut element = input();
-    let n = words::decode_hex(hex, &mut element);
-    let mut branches = [0u64; 16];
-    let leaf = card::lookup_name_core(numbers, names, &element[..n], &mut branches);
-    lines::put_feed(text, b"tree", leaf, &branches)
-}
-
-// The table as octets, for a card swap.
-fn on_save(numbers: &[u64; 1448], names: &[u8; 18144], room: u32, text: &mut [u8]) -> usize
-    requires { ⌜ 47104 ≤ length (now text) ⌝ }
-    ensures { λ r. ⌜ ((number : ℕ) → Says (replyTo number room (cardOf (now (numbers .entry)) (now (names .entry))) Said.save)
-        r (now (text .exit)) (cardOf (now (numbers .entry)) (now (names .entry)))) ⌝ }
-{
-    let mut out = longest_save();
-    let mut answer: u32 = 0;
-    let octets = saver::save(numbers, names, lent(&mut out, room), &mut answer);
-    lines::put_event(text, b"save", answer, octets)
-}
-
-fn on_restore(
-    numbers: &mut [u64; 1448],
-    names: &mut [u8; 18144],
-    hex: &[u8],
-    text: &mut [u8],
-) -> usize
-    requires { ⌜ (length (now hex) ≤ 46686) × (47104 ≤ length (now text)) ⌝ }
-    ensures { λ r. ⌜ ((number room : ℕ) → Says (replyTo number room (cardOf (now (numbers .entry)) (now (names .entry))) (Said.restore (octetsOf (now (hex .entry)))))
-        r (now (text .exit)) (cardOf (now (numbers .exit)) (now (names .exit)))) ⌝ }
-{
-    let mut octets = longest_save();
-    let n = words::decode_hex(hex, &mut octets);
-    let answer = restorer::restore(numbers, names, &octets[..n]);
-    lines::put_count(text, b"restore", answer as u64)
-}
-
 // An order that writes records: no other comes here.
-fn on_event(
+pub fn on_event(
     numbers: &mut [u64; 1448],
     names: &mut [u8; 18144],
     line: &[u8],
@@ -261,67 +201,5 @@ fn on_event(
             end,
         } => on_notice(numbers, neighbour, number, &line[start..end], room, text),
         _ => 0,
-    }
-}
-
-// Does what is ordered.
-fn obey(
-    numbers: &mut [u64; 1448],
-    names: &mut [u8; 18144],
-    line: &[u8],
-    order: Order,
-    number: u64,
-    room: u32,
-    text: &mut [u8],
-) -> usize
-    requires { ⌜ InLine (now line) order × (47104 ≤ length (now text)) ⌝ }
-    ensures { λ r. ⌜ Says (replyTo number room (cardOf (now (numbers .entry)) (now (names .entry))) (meant (now (line .entry)) order))
-        r (now (text .exit)) (cardOf (now (numbers .exit)) (now (names .exit))) ⌝ }
-{
-    match order {
-        Order::Blank => 0,
-        Order::Bad => lines::put_count(text, b"?", number),
-        Order::Start(base) => lines::put_count(text, b"start", card::start(numbers, base) as u64),
-        Order::Room(n) => lines::put_count(text, b"room", n as u64),
-        Order::Label(label) => on_label(numbers, label, text),
-        Order::Tree { start, end } => on_tree(numbers, names, &line[start..end], text),
-        Order::Free => lines::put_count(text, b"free", card::free_labels(numbers) as u64),
-        Order::Save => on_save(numbers, names, room, text),
-        Order::Restore { start, end } => on_restore(numbers, names, &line[start..end], text),
-        _ => on_event(numbers, names, line, order, room, text),
-    }
-}
-
-// What a line is answered with: a text's length, and the room from here on.
-pub struct Answered {
-    pub length: usize,
-    pub room: u32,
-}
-
-fn next_room(room: u32, order: Order) -> u32
-    ensures { λ r. ⌜ ((number : ℕ) (c : Card) (l : List ℕ) → r ≡ replyTo number room c (meant l order) .room) ⌝ }
-{
-    match order {
-        Order::Room(n) => n,
-        _ => room,
-    }
-}
-
-pub fn answer(
-    numbers: &mut [u64; 1448],
-    names: &mut [u8; 18144],
-    line: &[u8],
-    number: u64,
-    room: u32,
-    text: &mut [u8],
-) -> Answered
-    requires { ⌜ 47104 ≤ length (now text) ⌝ }
-    ensures { λ r. ⌜ Answers (replyTo number room (cardOf (now (numbers .entry)) (now (names .entry))) (orderOf (now (line .entry))))
-        (r .length) (now (text .exit)) (cardOf (now (numbers .exit)) (now (names .exit))) (r .room) ⌝ }
-{
-    let order = orders::read_order(line);
-    Answered {
-        length: obey(numbers, names, line, order, number, room, text),
-        room: next_room(room, order),
     }
 }

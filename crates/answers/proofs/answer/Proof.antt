@@ -1,7 +1,7 @@
 use mathlib.Core.Path.{sym}
 use borrow.Author.Needs.{needs}
-use Rattle.replies.proofs.answer.Statement.{statement}
-use Rattle.replies.proofs.answer.Tie as tie
+use Rattle.answers.proofs.answer.Statement.{statement}
+use Rattle.answers.proofs.answer.Tie as tie
 
 read-order-requires : tie.Need-read-order-requires
 read-order-requires c κs = search needs

@@ -1,14 +1,14 @@
 use Rattle.memory.specs.Memory.{cardOf}
 use native.Mathlib.Omega.{arith}
 use Rattle.replies.proofs.Laws.{save-fits, part-fits, says-told}
 use Rattle.replies.specs.Reply.{replyTo}
 use Rattle.meaning.specs.Save.{save}
 use mathlib.Core.Path.{refl}
 use mathlib.Core.List.{[]}
 use Rattle.words.specs.Words.{ascii}
 use borrow.Author.Needs.{needs}
-use Rattle.replies.proofs.on_save.Statement.{statement}
-use Rattle.replies.proofs.on_save.Tie as tie
+use Rattle.answers.proofs.on_save.Statement.{statement}
+use Rattle.answers.proofs.on_save.Tie as tie
 
 longest-save-requires : tie.Need-longest-save-requires
 longest-save-requires c κs = search needs

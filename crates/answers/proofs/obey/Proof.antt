@@ -1,15 +1,15 @@
 use native.Mathlib.Omega.{arith}
 use mathlib.Core.Path.{refl, ap, _∙_}
 use mathlib.Core.List.{[]}
 use Rattle.replies.proofs.Laws.{lies, short, save-short, written, says-only, says-counted}
 use Rattle.replies.specs.Reply.{only, counted, replyTo}
 use Rattle.meaning.specs.Events.{start}
 use Rattle.lines.specs.Text.{countLine}
 use Rattle.words.specs.Words.{ascii}
 use Rattle.orders.specs.Tells.{meant}
 use borrow.Author.Needs.{needs}
-use Rattle.replies.proofs.obey.Statement.{statement}
-use Rattle.replies.proofs.obey.Tie as tie
+use Rattle.answers.proofs.obey.Statement.{statement}
+use Rattle.answers.proofs.obey.Tie as tie
 
 enum-told : tie.Need-enum-told
 enum-told c = search needs

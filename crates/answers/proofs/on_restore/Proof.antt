@@ -4,13 +4,13 @@ use Rattle.meaning.specs.Events.{Out}
 use mathlib.Core.Path.{ap, _∙_}
 use Rattle.memory.specs.Memory.{cardOf}
 use native.Mathlib.Omega.{arith}
 use Rattle.replies.proofs.Laws.{decoded, says-counted}
 use Rattle.replies.specs.Reply.{replyTo}
 use Rattle.meaning.specs.Save.{restore}
 use Rattle.words.specs.Words.{ascii}
 use borrow.Author.Needs.{needs}
-use Rattle.replies.proofs.on_restore.Statement.{statement}
-use Rattle.replies.proofs.on_restore.Tie as tie
+use Rattle.answers.proofs.on_restore.Statement.{statement}
+use Rattle.answers.proofs.on_restore.Tie as tie
 
 longest-save-requires : tie.Need-longest-save-requires
 longest-save-requires c κs = search needs

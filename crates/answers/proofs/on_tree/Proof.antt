@@ -1,12 +1,12 @@
 use Rattle.memory.specs.Memory.{cardOf}
 use mathlib.Core.Path.{ap, _∙_}
 use Rattle.replies.proofs.Laws.{decoded, says-fed}
 use Rattle.replies.specs.Reply.{replyTo}
 use Rattle.meaning.specs.Card.{lookupName}
 use Rattle.words.specs.Words.{ascii}
 use borrow.Author.Needs.{needs}
-use Rattle.replies.proofs.on_tree.Statement.{statement}
-use Rattle.replies.proofs.on_tree.Tie as tie
+use Rattle.answers.proofs.on_tree.Statement.{statement}
+use Rattle.answers.proofs.on_tree.Tie as tie
 
 input-requires : tie.Need-input-requires
 input-requires c κs = search needs

@@ -1,10 +1,10 @@
 use Rattle.memory.specs.Memory.{cardOf}
 use Rattle.replies.proofs.Laws.{says-fed}
 use Rattle.replies.specs.Reply.{replyTo}
 use Rattle.words.specs.Words.{ascii}
 use borrow.Author.Needs.{needs}
-use Rattle.replies.proofs.on_label.Statement.{statement}
-use Rattle.replies.proofs.on_label.Tie as tie
+use Rattle.answers.proofs.on_label.Statement.{statement}
+use Rattle.answers.proofs.on_label.Tie as tie
 
 lookup-label-core-requires : tie.Need-lookup-label-core-requires
 lookup-label-core-requires c κs = search needs

@@ -1,9 +1,9 @@
 use Rattle.replies.proofs.Laws.{room-stays}
 use Rattle.replies.specs.Reply.{only, replyTo}
 use Rattle.orders.specs.Tells.{meant}
 use borrow.Author.Needs.{needs}
-use Rattle.replies.proofs.next_room.Statement.{statement}
-use Rattle.replies.proofs.next_room.Tie as tie
+use Rattle.answers.proofs.next_room.Statement.{statement}
+use Rattle.answers.proofs.next_room.Tie as tie
 
 enum-known-order : tie.Need-enum-known-order
 enum-known-order c = search needs
