@@ -7,6 +7,7 @@ ghost use Rattle.memory.specs.Memory.{cardOf};
 ghost use Rattle.verbs.specs.Line.{orderOf};
 ghost use Rattle.replies.specs.Reply.{replyTo, Answers};
 ghost use Rattle.bench.specs.Kept.{Keeps};
+ghost use Rattle.bench.specs.Input.{Stand, ended, after, afterAll, Stands};
 use answers::Answered;
 
 // How many lines are done, how much of the next is kept, the room, and whether there is more to read.
@@ -61,6 +62,8 @@ fn end_line(
     state: State,
 ) -> State
     requires { ⌜ 47104 ≤ length (now text) ⌝ }
+    ensures { λ r. ⌜ ((s : Stand) → Stands s (state .number) (state .room) (cardOf (now (numbers .entry)) (now (names .entry))) (now (line .entry)) (state .kept)
+        → Stands (ended s) (r .number) (r .room) (cardOf (now (numbers .exit)) (now (names .exit))) (now (line .entry)) (r .kept)) ⌝ }
 {
     let number = std::num::wrapping_add_u64(state.number, 1);
     let done = reply(numbers, names, line, text, number, state);
@@ -83,6 +86,8 @@ fn take_octet(
     state: State,
 ) -> State
     requires { ⌜ 47104 ≤ length (now text) ⌝ }
+    ensures { λ r. ⌜ ((s : Stand) → Stands s (state .number) (state .room) (cardOf (now (numbers .entry)) (now (names .entry))) (now (line .entry)) (state .kept)
+        → Stands (after s c) (r .number) (r .room) (cardOf (now (numbers .exit)) (now (names .exit))) (now (line .exit)) (r .kept)) ⌝ }
 {
     if c == b'\n' {
         return end_line(numbers, names, line, text, state);
@@ -104,6 +109,8 @@ fn take_chunk(
     from: State,
 ) -> State
     requires { ⌜ 47104 ≤ length (now text) ⌝ }
+    ensures { λ r. ⌜ ((s : Stand) → Stands s (from .number) (from .room) (cardOf (now (numbers .entry)) (now (names .entry))) (now (line .entry)) (from .kept)
+        → Stands (afterAll s (now (chunk .entry))) (r .number) (r .room) (cardOf (now (numbers .exit)) (now (names .exit))) (now (line .exit)) (r .kept)) ⌝ }
 {
     let mut state = from;
     let mut i = 0;

@@ -1,8 +1,7 @@
 -- Laws by which what is written is the reply. Assumes nothing.
-use Prim.Native.Nat.{ℕ, _-_, _≤_, min}
+use Prim.Native.Nat.{ℕ, _-_, _≤_}
 use native.Mathlib.Omega.{arith}
 use mathlib.Core.Path.{_≡_, refl, sym, ap, _∙_}
-use mathlib.Core.Bool.{true, false}
 use mathlib.Core.List.{List, [], _∷_}
 use lib.ListN.{length, take, drop, length-drop}
 use lib.Seq.{length-take-le, take-at}
@@ -16,12 +15,12 @@ use Rattle.meaning.specs.Events.{Out, Outcome, refused, taken, refuse, accept, 
 use Rattle.meaning.specs.Notice.{noticeDue, noticeRecord, notice}
 use Rattle.meaning.specs.Save.{saved, save}
 use Rattle.meaning.specs.Calls.{Hands}
-use Rattle.words.specs.Words.{octetsOf, Puts}
+use Rattle.words.specs.Words.{Puts}
 use Rattle.orders.specs.Tells.{meant, Lies, SaveLies, InLine}
 use Rattle.orders.specs.declared.Order.{Order}
 use Rattle.orders.proofs.Order.{the-type}
 use Rattle.lines.specs.Text.{countLine, eventLine, feedLine}
-use Rattle.replies.specs.Reply.{Reply, only, counted, told, replyTo, Says, WritesRecords}
+use Rattle.replies.specs.Reply.{only, counted, told, replyTo, Says, WritesRecords}
 
 -- ---- octets that are no longer than the room
 
@@ -89,9 +88,6 @@ says-fed word text c room r h k e = says-only _ text c room r k (e ∙ ap (feedL
 
 pub lies : (l : List ℕ) (r o : Order) → InLine l r → r ≡ o → InLine l o
 lies l r o h e = rw e at h
-
-pub writes : (r o : Order) → WritesRecords r → r ≡ o → WritesRecords o
-writes r o h e = rw e at h
 
 pub not-written : (o : Order) → OneOf (0 ∷ 1 ∷ 2 ∷ 3 ∷ 8 ∷ 9 ∷ 10 ∷ 12 ∷ 13 ∷ []) (tagOf the-type o) → WritesRecords o → ⊥
 not-written Order.Blank h w = w

@@ -19,14 +19,15 @@ pub record Reply : Type 0 where
   pub card : Card
   pub room : ℕ
 
--- a text, while the card and the room stay
+-- a text, while the card stays
 unfoldable pub only : List ℕ → Card → ℕ → Reply
 only text c room = record { text = text; card = c; room = room }
 
--- what a call hands back: its answer, with its octets where it has any, and its card
+-- what a call hands back, behind a word: its answer; and its card
 unfoldable pub counted : List ℕ → Out → ℕ → Reply
 counted word o room = record { text = countLine word (o .answer); card = o .card; room = room }
 
+-- the same, with the octets that it wrote
 unfoldable pub told : List ℕ → Out → ℕ → Reply
 told word o room = record { text = eventLine word (o .answer) (o .octets); card = o .card; room = room }
 
@@ -37,7 +38,7 @@ eventRoom room = min room 9984
 abbrev pub saveRoom : ℕ → ℕ
 saveRoom room = min room 23343
 
--- THE REPLY to what a line says, where the line has this number, the room and the card are these
+-- THE REPLY to what a line says, by the number of the line, the room and the card. The room is another only after `room`.
 unfoldable pub replyTo : (number room : ℕ) → Card → Said → Reply
 replyTo number room c Said.nothing = only [] c room
 replyTo number room c Said.bad = only (countLine (ascii "?") number) c room
@@ -56,7 +57,7 @@ replyTo number room c (Said.restore octets) = counted (ascii "restore") (restore
 
 -- ---- what the functions state
 
--- r octets, which are no more than 47104, stand at the front of a text, and the card is this: they are the reply's
+-- the first r octets of a text, no more than 47104, are the text of the reply, and the card is its card
 pub record Says (reply : Reply) (r : ℕ) (text : List ℕ) (card : Card) : Type 0 where
   pub short : r ≤ 47104
   pub line : take r text ≡ reply .text
@@ -67,7 +68,7 @@ pub record Answers (reply : Reply) (r : ℕ) (text : List ℕ) (card : Card) (ro
   pub says : Says reply r text card
   pub next : room ≡ reply .room
 
--- the orders that write records
+-- the orders that write records, but for a save
 abbrev pub WritesRecords : Order → Type 0
 WritesRecords Order.Blank = ⊥
 WritesRecords Order.Bad = ⊥

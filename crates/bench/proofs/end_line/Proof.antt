@@ -1,6 +1,8 @@
 use native.Mathlib.Omega.{arith}
 use mathlib.Core.Path.{sym}
 use lib.Seq.{length-take-le}
+use Rattle.bench.proofs.Laws.{ended-stands}
+use Rattle.bench.specs.Input.{nextNumber}
 use borrow.Author.Needs.{needs}
 use Rattle.bench.proofs.end_line.Statement.{statement}
 use Rattle.bench.proofs.end_line.Tie as tie
@@ -24,7 +26,8 @@ same-length : tie.Need-same-length
 same-length c = search needs
 
 returns : tie.Need-returns
-returns c = search needs
+unfolding nextNumber
+returns c = λ s h. ended-stands s h (c .before .before .before .before .before .before .before .before .wrapping-add-u64 .ensures) (c .before .before .before .before .reply .ensures .1 (s .octets) (h .keeps) (h .long))
 
 pub end-line-spec : {M : Type 1} → statement M
 end-line-spec =

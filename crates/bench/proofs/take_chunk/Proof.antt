@@ -1,19 +1,24 @@
-use Prim.Native.Nat.{_-_, _≤_}
+use Prim.Native.Nat.{_-_, _≤_, _<_}
 use native.Mathlib.Omega.{arith}
-use mathlib.Core.Path.{_≡_, refl}
+use mathlib.Core.Path.{_≡_, refl, sym}
 use borrow.Author.Needs.{needs}
-use lib.ListN.{length}
+use lib.ListN.{length, take}
+use lib.Seq.{take-all}
+use Rattle.memory.specs.Memory.{cardOf}
+use Rattle.bench.specs.Input.{Stand, afterAll, Stands}
+use Rattle.bench.proofs.Laws.{after-none, after-next}
 use Rattle.bench.proofs.take_chunk.Statement.{statement}
 use Rattle.bench.proofs.take_chunk.Tie as tie
 
 abbrev Inv-loop : tie.InvT-loop
 Inv-loop numbers₀ names₀ line₀ text₀ chunk state₀ i₀ numbers names line text state i = (i ≤ length chunk) × (length line ≡ length line₀) × (length text ≡ length text₀)
+    × ((s : Stand) → Stands s (state₀ .number) (state₀ .room) (cardOf numbers₀ names₀) line₀ (state₀ .kept) → Stands (afterAll s (take i chunk)) (state .number) (state .room) (cardOf numbers names) line (state .kept))
 
 abbrev μ-loop : tie.MeasureT-loop
 μ-loop numbers₀ names₀ line₀ text₀ chunk state₀ i₀ numbers names line text state i = length chunk - i
 
 loop-holds : tie.Need-loop-holds Inv-loop μ-loop
-loop-holds c = (omega arith, refl, refl)
+loop-holds c = (omega arith, refl, refl, λ s h. rw (after-none s) h)
 
 shared-slice-read-take-octet : tie.Need-shared-slice-read-take-octet Inv-loop μ-loop
 shared-slice-read-take-octet c = search needs
@@ -28,7 +33,15 @@ loop-less : tie.Need-loop-less Inv-loop μ-loop
 loop-less c = search needs
 
 loop-again : tie.Need-loop-again Inv-loop μ-loop
-loop-again c = search needs
+loop-again c =
+    let chunk = c .before .before .before .before .before .before .before .before .before .before .before .before .before .before .before .args .chunk .now in
+    let i = c .before .before .before .before .before .before .before .before .before .before .before .loop .i in
+    let h : i < length chunk = omega arith in (
+      omega arith,
+      omega arith,
+      omega arith,
+      λ s k. rw (sym (after-next s chunk i h)) (c .before .before .before .before .take-octet .ensures _ (c .before .before .before .before .before .before .before .before .before .before .before .loop .inv .3 s k)),
+    )
 
 same-length : tie.Need-same-length Inv-loop μ-loop
 same-length c = c .before .loop .inv .1
@@ -37,7 +50,9 @@ same-length-2 : tie.Need-same-length-2 Inv-loop μ-loop
 same-length-2 c = c .before .loop .inv .2
 
 returns : tie.Need-returns Inv-loop μ-loop
-returns c = search needs
+returns c =
+    let whole = take-all (c .before .loop .i) (c .before .before .before .before .before .args .chunk .now) (c .loop-test .left) in
+    λ s h. rw whole at (c .before .loop .inv .3 s h)
 
 pub take-chunk-spec : {M : Type 1} → statement M
 take-chunk-spec =

@@ -1,7 +1,6 @@
 use native.Mathlib.Omega.{arith}
 use mathlib.Core.Path.{refl, sym, _∙_}
 use lib.Seq.{length-take-le, take-all}
-use borrow.Author.Needs.{needs}
 use Rattle.replies.proofs.lent.Statement.{statement}
 use Rattle.replies.proofs.lent.Tie as tie
 
