@@ -1,21 +1,26 @@
 // What a line is answered with: the order that it is, obeyed, and the line that tells of it, at the front of a lent text.
 ghost use mathlib.Core.Path.{_≡_};
 ghost use mathlib.Core.List.{List};
-ghost use Prim.Native.Nat.{ℕ, _≤_};
+ghost use Prim.Native.Nat.{ℕ, _≤_, _*_};
 ghost use lib.ListN.{length};
 ghost use Rattle.meaning.specs.Card.{Card};
+ghost use Rattle.meaning.specs.Save.{saveLimit};
+ghost use Rattle.lines.specs.Text.{textSpace};
 ghost use Rattle.memory.specs.Memory.{cardOf};
 ghost use Rattle.words.specs.Words.{octetsOf};
 ghost use Rattle.verbs.specs.Line.{Said, orderOf};
 ghost use Rattle.orders.specs.Tells.{meant, InLine};
 ghost use Rattle.replies.specs.Reply.{replyTo, Says, Answers};
+use meaning::SAVE_LIMIT;
+use memory::NUMBER_COUNT;
+use memory::OCTET_COUNT;
 use orders::Order;
 
 // ---- lookups
 
 // Where a label leads.
-fn on_label(numbers: &[u64; 1448], label: u32, text: &mut [u8]) -> usize
-    requires { ⌜ 47104 ≤ length (now text) ⌝ }
+fn on_label(numbers: &[u64; NUMBER_COUNT], label: u32, text: &mut [u8]) -> usize
+    requires { ⌜ textSpace ≤ length (now text) ⌝ }
     ensures { λ r. ⌜ ((number room : ℕ) (os : List ℕ) → Says (replyTo number room (cardOf (now (numbers .entry)) os) (Said.label label))
         r (now (text .exit)) (cardOf (now (numbers .entry)) os)) ⌝ }
 {
@@ -25,8 +30,13 @@ fn on_label(numbers: &[u64; 1448], label: u32, text: &mut [u8]) -> usize
 }
 
 // Where a name leads.
-fn on_tree(numbers: &[u64; 1448], names: &[u8; 18144], hex: &[u8], text: &mut [u8]) -> usize
-    requires { ⌜ (length (now hex) ≤ 8192) × (47104 ≤ length (now text)) ⌝ }
+fn on_tree(
+    numbers: &[u64; NUMBER_COUNT],
+    names: &[u8; OCTET_COUNT],
+    hex: &[u8],
+    text: &mut [u8],
+) -> usize
+    requires { ⌜ (length (now hex) ≤ 8192) × (textSpace ≤ length (now text)) ⌝ }
     ensures { λ r. ⌜ ((number room : ℕ) → Says (replyTo number room (cardOf (now (numbers .entry)) (now (names .entry))) (Said.tree (octetsOf (now (hex .entry)))))
         r (now (text .exit)) (cardOf (now (numbers .entry)) (now (names .entry)))) ⌝ }
 {
@@ -40,15 +50,20 @@ fn on_tree(numbers: &[u64; 1448], names: &[u8; 18144], hex: &[u8], text: &mut [u
 // ---- saves
 
 // The longest save: 32 routes, 64 trees and 256 labels behind the head.
-fn longest_save() -> [u8; 23343]
-    ensures { λ r. ⌜ 23343 ≡ length r ⌝ }
+fn longest_save() -> [u8; SAVE_LIMIT]
+    ensures { λ r. ⌜ saveLimit ≡ length r ⌝ }
 {
-    [0; 23343]
+    [0; SAVE_LIMIT]
 }
 
 // The table as octets, for a card swap.
-fn on_save(numbers: &[u64; 1448], names: &[u8; 18144], room: u32, text: &mut [u8]) -> usize
-    requires { ⌜ 47104 ≤ length (now text) ⌝ }
+fn on_save(
+    numbers: &[u64; NUMBER_COUNT],
+    names: &[u8; OCTET_COUNT],
+    room: u32,
+    text: &mut [u8],
+) -> usize
+    requires { ⌜ textSpace ≤ length (now text) ⌝ }
     ensures { λ r. ⌜ ((number : ℕ) → Says (replyTo number room (cardOf (now (numbers .entry)) (now (names .entry))) Said.save)
         r (now (text .exit)) (cardOf (now (numbers .entry)) (now (names .entry)))) ⌝ }
 {
@@ -59,12 +74,12 @@ fn on_save(numbers: &[u64; 1448], names: &[u8; 18144], room: u32, text: &mut [u8
 }
 
 fn on_restore(
-    numbers: &mut [u64; 1448],
-    names: &mut [u8; 18144],
+    numbers: &mut [u64; NUMBER_COUNT],
+    names: &mut [u8; OCTET_COUNT],
     hex: &[u8],
     text: &mut [u8],
 ) -> usize
-    requires { ⌜ (length (now hex) ≤ 46686) × (47104 ≤ length (now text)) ⌝ }
+    requires { ⌜ (length (now hex) ≤ 2 * saveLimit) × (textSpace ≤ length (now text)) ⌝ }
     ensures { λ r. ⌜ ((number room : ℕ) → Says (replyTo number room (cardOf (now (numbers .entry)) (now (names .entry))) (Said.restore (octetsOf (now (hex .entry)))))
         r (now (text .exit)) (cardOf (now (numbers .exit)) (now (names .exit)))) ⌝ }
 {
@@ -78,15 +93,15 @@ fn on_restore(
 
 // Does what is ordered.
 fn obey(
-    numbers: &mut [u64; 1448],
-    names: &mut [u8; 18144],
+    numbers: &mut [u64; NUMBER_COUNT],
+    names: &mut [u8; OCTET_COUNT],
     line: &[u8],
     order: Order,
     number: u64,
     room: u32,
     text: &mut [u8],
 ) -> usize
-    requires { ⌜ InLine (now line) order × (47104 ≤ length (now text)) ⌝ }
+    requires { ⌜ InLine (now line) order × (textSpace ≤ length (now text)) ⌝ }
     ensures { λ r. ⌜ Says (replyTo number room (cardOf (now (numbers .entry)) (now (names .entry))) (meant (now (line .entry)) order))
         r (now (text .exit)) (cardOf (now (numbers .exit)) (now (names .exit))) ⌝ }
 {
@@ -120,14 +135,14 @@ fn next_room(room: u32, order: Order) -> u32
 }
 
 pub fn answer(
-    numbers: &mut [u64; 1448],
-    names: &mut [u8; 18144],
+    numbers: &mut [u64; NUMBER_COUNT],
+    names: &mut [u8; OCTET_COUNT],
     line: &[u8],
     number: u64,
     room: u32,
     text: &mut [u8],
 ) -> Answered
-    requires { ⌜ 47104 ≤ length (now text) ⌝ }
+    requires { ⌜ textSpace ≤ length (now text) ⌝ }
     ensures { λ r. ⌜ Answers (replyTo number room (cardOf (now (numbers .entry)) (now (names .entry))) (orderOf (now (line .entry))))
         (r .length) (now (text .exit)) (cardOf (now (numbers .exit)) (now (names .exit))) (r .room) ⌝ }
 {

@@ -8,7 +8,15 @@ ghost use Rattle.verbs.specs.Line.{orderOf};
 ghost use Rattle.replies.specs.Reply.{replyTo, Answers};
 ghost use Rattle.bench.specs.Kept.{Keeps};
 ghost use Rattle.bench.specs.Input.{Stand, ended, after, afterAll, Stands};
+ghost use Rattle.lines.specs.Text.{textSpace};
 use answers::Answered;
+use lines::TEXT_SPACE;
+use meaning::SAVE_LIMIT;
+use memory::NUMBER_COUNT;
+use memory::OCTET_COUNT;
+
+// the room that is lent before an order says less: that of the longest save
+const WHOLE_ROOM: u32 = SAVE_LIMIT as u32;
 
 // How many lines are done, how much of the next is kept, the room, and whether there is more to read.
 struct State {
@@ -31,15 +39,15 @@ fn keep(line: &mut [u8], kept: usize, c: u8) -> usize
 
 // What the line that is kept is answered with. One too long to keep is a bad line.
 fn reply(
-    numbers: &mut [u64; 1448],
-    names: &mut [u8; 18144],
+    numbers: &mut [u64; NUMBER_COUNT],
+    names: &mut [u8; OCTET_COUNT],
     line: &[u8],
     text: &mut [u8],
     number: u64,
     state: State,
 ) -> Answered
-    requires { ⌜ 47104 ≤ length (now text) ⌝ }
-    ensures { λ r. ⌜ r .length ≤ 47104 ⌝ }
+    requires { ⌜ textSpace ≤ length (now text) ⌝ }
+    ensures { λ r. ⌜ r .length ≤ textSpace ⌝ }
     ensures { λ r. ⌜ ((o : List ℕ) → Keeps (now (line .entry)) (state .kept) o → length (now (line .entry)) ≡ 65536
         → Answers (replyTo number (state .room) (cardOf (now (numbers .entry)) (now (names .entry))) (orderOf o))
         (r .length) (now (text .exit)) (cardOf (now (numbers .exit)) (now (names .exit))) (r .room)) ⌝ }
@@ -55,13 +63,13 @@ fn reply(
 }
 
 fn end_line(
-    numbers: &mut [u64; 1448],
-    names: &mut [u8; 18144],
+    numbers: &mut [u64; NUMBER_COUNT],
+    names: &mut [u8; OCTET_COUNT],
     line: &[u8],
     text: &mut [u8],
     state: State,
 ) -> State
-    requires { ⌜ 47104 ≤ length (now text) ⌝ }
+    requires { ⌜ textSpace ≤ length (now text) ⌝ }
     ensures { λ r. ⌜ ((s : Stand) → Stands s (state .number) (state .room) (cardOf (now (numbers .entry)) (now (names .entry))) (now (line .entry)) (state .kept)
         → Stands (ended s) (r .number) (r .room) (cardOf (now (numbers .exit)) (now (names .exit))) (now (line .entry)) (r .kept)) ⌝ }
 {
@@ -78,14 +86,14 @@ fn end_line(
 }
 
 fn take_octet(
-    numbers: &mut [u64; 1448],
-    names: &mut [u8; 18144],
+    numbers: &mut [u64; NUMBER_COUNT],
+    names: &mut [u8; OCTET_COUNT],
     line: &mut [u8],
     text: &mut [u8],
     c: u8,
     state: State,
 ) -> State
-    requires { ⌜ 47104 ≤ length (now text) ⌝ }
+    requires { ⌜ textSpace ≤ length (now text) ⌝ }
     ensures { λ r. ⌜ ((s : Stand) → Stands s (state .number) (state .room) (cardOf (now (numbers .entry)) (now (names .entry))) (now (line .entry)) (state .kept)
         → Stands (after s c) (r .number) (r .room) (cardOf (now (numbers .exit)) (now (names .exit))) (now (line .exit)) (r .kept)) ⌝ }
 {
@@ -101,14 +109,14 @@ fn take_octet(
 }
 
 fn take_chunk(
-    numbers: &mut [u64; 1448],
-    names: &mut [u8; 18144],
+    numbers: &mut [u64; NUMBER_COUNT],
+    names: &mut [u8; OCTET_COUNT],
     line: &mut [u8],
     text: &mut [u8],
     chunk: &[u8],
     from: State,
 ) -> State
-    requires { ⌜ 47104 ≤ length (now text) ⌝ }
+    requires { ⌜ textSpace ≤ length (now text) ⌝ }
     ensures { λ r. ⌜ ((s : Stand) → Stands s (from .number) (from .room) (cardOf (now (numbers .entry)) (now (names .entry))) (now (line .entry)) (from .kept)
         → Stands (afterAll s (now (chunk .entry))) (r .number) (r .room) (cardOf (now (numbers .exit)) (now (names .exit))) (now (line .exit)) (r .kept)) ⌝ }
 {
@@ -123,10 +131,10 @@ fn take_chunk(
 
 // Reads once, and answers the lines that end in what came. At the end of the input, what is kept is a line too.
 fn step(
-    numbers: &mut [u64; 1448],
-    names: &mut [u8; 18144],
+    numbers: &mut [u64; NUMBER_COUNT],
+    names: &mut [u8; OCTET_COUNT],
     line: &mut [u8; 65536],
-    text: &mut [u8; 47104],
+    text: &mut [u8; TEXT_SPACE],
     state: State,
 ) -> State {
     let mut chunk = io::large_buffer();
@@ -149,15 +157,15 @@ fn step(
 // The room is at first that of the longest save: events have no more than their buffer of it.
 // A proved loop has to end, and nothing says that the input does: the loop counts its turns down, from a number that no run uses up.
 fn main() {
-    let mut numbers = [0u64; 1448];
-    let mut names = [0u8; 18144];
+    let mut numbers = [0u64; NUMBER_COUNT];
+    let mut names = [0u8; OCTET_COUNT];
     let mut line = [0u8; 65536];
-    let mut text = [0u8; 47104];
+    let mut text = [0u8; TEXT_SPACE];
     card::start(&mut numbers, 16);
     let mut state = State {
         number: 0,
         kept: 0,
-        room: 23343,
+        room: WHOLE_ROOM,
         more: true,
     };
     let mut turns = u64::MAX;

@@ -9,7 +9,7 @@ use lib.Dec.{eqb, leb}
 use borrow.Author.Tests.{eq-eqb, ne-eqb, eqb-true, le-leb, lt-leb, le-ltb, lt-ltb}
 use Rattle.meaning.specs.Octets.{_when_else_}
 use Rattle.meaning.specs.Lists.{positive, by-test}
-use Rattle.meaning.specs.Wire.{Message, mapping, withdraw, release, messageIn, messageRefusal, elementRefusal}
+use Rattle.meaning.specs.Wire.{Message, mapping, withdraw, release, messageIn, messageRefusal, elementRefusal, nameLimit}
 use Rattle.meaning.specs.RoundTrip.{heard, name-fits}
 use Rattle.meaning.specs.Card.{Card, fresh, withNext}
 use Rattle.meaning.specs.Events.{Outcome, refused, unless, refuse, accept, finish, onMapping, onWithdraw, onRelease, onMessage, noNeighbour, onOctets, onJoin, onLeave, notRoute, notRoot, onRoute, receive, join, leave, route, outcome, event, baseOutside, start}
@@ -95,7 +95,7 @@ module _ (c : Card) (n : ℕ) (s : List ℕ) where
   near h room = rw (le-ltb 15 n h) (unfold _when_else_ unless in refl)
 
 -- the name and the label of a message that is read
-pub read-fits : (s : List ℕ) (kind label : ℕ) (a : List ℕ) → messageRefusal s ≡ 0 → messageIn s ≡ record { kind = kind; name = a; label = label } → (16 ≤ label) × (length a ≤ 54)
+pub read-fits : (s : List ℕ) (kind label : ℕ) (a : List ℕ) → messageRefusal s ≡ 0 → messageIn s ≡ record { kind = kind; name = a; label = label } → (16 ≤ label) × (length a ≤ nameLimit)
 read-fits s kind label a e q =
     let g = heard 0 s (omega arith) e in
     let l : messageIn s .label ≡ label = ap (λ (m : Message). m .label) q in

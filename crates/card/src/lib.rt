@@ -5,18 +5,22 @@ ghost use mathlib.Core.List.{List};
 ghost use Prim.Native.Nat.{ℕ, _≤_, _<_};
 ghost use lib.ListN.{length};
 ghost use denote.Ref.{ptr};
+ghost use Rattle.meaning.specs.Wire.{nameLimit};
 ghost use Rattle.meaning.specs.Card.{freeLabels, lookupLabel, lookupName};
 ghost use Rattle.meaning.specs.Events.{start, event, finish, onMessage, receive, join, leave, route, notRoot};
 ghost use Rattle.meaning.specs.Calls.{Does, Hands};
+ghost use Rattle.memory.specs.Sizes.{Numbers, Names};
 ghost use Rattle.memory.specs.Memory.{cardOf};
 ghost use Rattle.card.specs.Calls.{onRead};
 ghost use Rattle.lookups.specs.Feed.{feedIn};
+use memory::NUMBER_COUNT;
+use memory::OCTET_COUNT;
 use reader::Read;
 
 // ---- start
 
 // A fresh card, whatever the memory held: 0, or 17 and a fresh card of base 16.
-pub fn start(numbers: &mut [u64; 1448], base: u32) -> u32
+pub fn start(numbers: &mut [u64; NUMBER_COUNT], base: u32) -> u32
     ensures { λ r. ⌜ (r ≡ start base .answer) × ((os : List ℕ) → cardOf (now (numbers .exit)) os ≡ start base .card) ⌝ }
 {
     if base < 16 {
@@ -43,7 +47,7 @@ fn on_message(
     out: &mut [u8],
     answer: &mut u32,
 ) -> usize
-    requires { ⌜ (length (now numbers) ≡ 1448) × (length (now names) ≡ 18144) × (n < 16) × (16 ≤ label) × (length (now name) ≤ 54) ⌝ }
+    requires { ⌜ Numbers (now numbers) × Names (now names) × (n < 16) × (16 ≤ label) × (length (now name) ≤ nameLimit) ⌝ }
     ensures { λ r. ⌜ Does (finish (length (now (out .entry))) (cardOf (now (numbers .entry)) (now (names .entry))) (onMessage (cardOf (now (numbers .entry)) (now (names .entry))) n (record { kind = kind; name = now (name .entry); label = label })))
         (now (answer .exit)) r (now (out .entry)) (now (out .exit)) (cardOf (now (numbers .exit)) (now (names .exit))) ⌝ }
 {
@@ -70,7 +74,7 @@ fn on_read(
     out: &mut [u8],
     answer: &mut u32,
 ) -> usize
-    requires { ⌜ (length (now numbers) ≡ 1448) × (length (now names) ≡ 18144) × (n < 16) ⌝ }
+    requires { ⌜ Numbers (now numbers) × Names (now names) × (n < 16) ⌝ }
     ensures { λ r. ⌜ Does (finish (length (now (out .entry))) (cardOf (now (numbers .entry)) (now (names .entry))) (onRead (cardOf (now (numbers .entry)) (now (names .entry))) n (now (message .entry))))
         (now (answer .exit)) r (now (out .entry)) (now (out .exit)) (cardOf (now (numbers .exit)) (now (names .exit))) ⌝ }
 {
@@ -98,8 +102,8 @@ fn on_read(
 }
 
 pub fn receive_core(
-    numbers: &mut [u64; 1448],
-    names: &mut [u8; 18144],
+    numbers: &mut [u64; NUMBER_COUNT],
+    names: &mut [u8; OCTET_COUNT],
     neighbour: u32,
     message: &[u8],
     out: &mut [u8],
@@ -116,8 +120,8 @@ pub fn receive_core(
 }
 
 pub fn receive<'a>(
-    numbers: &mut [u64; 1448],
-    names: &mut [u8; 18144],
+    numbers: &mut [u64; NUMBER_COUNT],
+    names: &mut [u8; OCTET_COUNT],
     neighbour: u32,
     message: &[u8],
     out: &'a mut [u8],
@@ -133,8 +137,8 @@ pub fn receive<'a>(
 // ---- local leaf orders, on the octets of one element
 
 pub fn join_core(
-    numbers: &mut [u64; 1448],
-    names: &mut [u8; 18144],
+    numbers: &mut [u64; NUMBER_COUNT],
+    names: &mut [u8; OCTET_COUNT],
     element: &[u8],
     out: &mut [u8],
     answer: &mut u32,
@@ -151,8 +155,8 @@ pub fn join_core(
 }
 
 pub fn join<'a>(
-    numbers: &mut [u64; 1448],
-    names: &mut [u8; 18144],
+    numbers: &mut [u64; NUMBER_COUNT],
+    names: &mut [u8; OCTET_COUNT],
     element: &[u8],
     out: &'a mut [u8],
     answer: &mut u32,
@@ -165,8 +169,8 @@ pub fn join<'a>(
 }
 
 pub fn leave_core(
-    numbers: &mut [u64; 1448],
-    names: &mut [u8; 18144],
+    numbers: &mut [u64; NUMBER_COUNT],
+    names: &mut [u8; OCTET_COUNT],
     element: &[u8],
     out: &mut [u8],
     answer: &mut u32,
@@ -183,8 +187,8 @@ pub fn leave_core(
 }
 
 pub fn leave<'a>(
-    numbers: &mut [u64; 1448],
-    names: &mut [u8; 18144],
+    numbers: &mut [u64; NUMBER_COUNT],
+    names: &mut [u8; OCTET_COUNT],
     element: &[u8],
     out: &'a mut [u8],
     answer: &mut u32,
@@ -209,8 +213,8 @@ fn not_root(root: &[u8]) -> bool
 }
 
 pub fn route_core(
-    numbers: &mut [u64; 1448],
-    names: &mut [u8; 18144],
+    numbers: &mut [u64; NUMBER_COUNT],
+    names: &mut [u8; OCTET_COUNT],
     root: &[u8],
     via: u32,
     out: &mut [u8],
@@ -231,8 +235,8 @@ pub fn route_core(
 }
 
 pub fn route<'a>(
-    numbers: &mut [u64; 1448],
-    names: &mut [u8; 18144],
+    numbers: &mut [u64; NUMBER_COUNT],
+    names: &mut [u8; OCTET_COUNT],
     root: &[u8],
     via: u32,
     out: &'a mut [u8],
@@ -253,13 +257,17 @@ pub struct Feed {
     pub branches: [u64; 16],
 }
 
-pub fn lookup_label_core(numbers: &[u64; 1448], label: u32, branches: &mut [u64; 16]) -> bool
+pub fn lookup_label_core(
+    numbers: &[u64; NUMBER_COUNT],
+    label: u32,
+    branches: &mut [u64; 16],
+) -> bool
     ensures { λ r. ⌜ ((os : List ℕ) → feedIn (now (branches .exit)) r ≡ lookupLabel label (cardOf (now (numbers .entry)) os)) ⌝ }
 {
     lookups::find_label(numbers, label as u64, branches)
 }
 
-pub fn lookup_label(numbers: &[u64; 1448], label: u32) -> Feed
+pub fn lookup_label(numbers: &[u64; NUMBER_COUNT], label: u32) -> Feed
     ensures { λ r. ⌜ ((os : List ℕ) → feedIn (r .branches) (r .leaf) ≡ lookupLabel label (cardOf (now (numbers .entry)) os)) ⌝ }
 {
     let mut branches = [0u64; 16];
@@ -268,8 +276,8 @@ pub fn lookup_label(numbers: &[u64; 1448], label: u32) -> Feed
 }
 
 pub fn lookup_name_core(
-    numbers: &[u64; 1448],
-    names: &[u8; 18144],
+    numbers: &[u64; NUMBER_COUNT],
+    names: &[u8; OCTET_COUNT],
     element: &[u8],
     branches: &mut [u64; 16],
 ) -> bool
@@ -278,7 +286,7 @@ pub fn lookup_name_core(
     lookups::find_name(numbers, names, element, branches)
 }
 
-pub fn lookup_name(numbers: &[u64; 1448], names: &[u8; 18144], element: &[u8]) -> Feed
+pub fn lookup_name(numbers: &[u64; NUMBER_COUNT], names: &[u8; OCTET_COUNT], element: &[u8]) -> Feed
     ensures { λ r. ⌜ feedIn (r .branches) (r .leaf) ≡ lookupName (now (element .entry)) (cardOf (now (numbers .entry)) (now (names .entry))) ⌝ }
 {
     let mut branches = [0u64; 16];
@@ -286,7 +294,7 @@ pub fn lookup_name(numbers: &[u64; 1448], names: &[u8; 18144], element: &[u8]) -
     Feed { leaf, branches }
 }
 
-pub fn free_labels(numbers: &[u64; 1448]) -> u32
+pub fn free_labels(numbers: &[u64; NUMBER_COUNT]) -> u32
     ensures { λ r. ⌜ ((os : List ℕ) → r ≡ freeLabels (cardOf (now (numbers .entry)) os)) ⌝ }
 {
     labels::free_labels(numbers) as u32

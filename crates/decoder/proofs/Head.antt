@@ -12,7 +12,7 @@ use Rattle.meaning.specs.Lists.{by-test, same-eq}
 use Rattle.meaning.specs.RoundTrip.{both}
 use Rattle.meaning.specs.Card.{Tree, Use, free, Card, withTrees, withLabel, named}
 use Rattle.meaning.specs.Events.{baseOutside}
-use Rattle.meaning.specs.Save.{marked, headSaved, treesRead, usesRead, labelled, allLabelled, onceEach, sameName, keepsRules, saved, tableIn, isSave}
+use Rattle.meaning.specs.Save.{marked, headSaved, treesRead, usesRead, labelled, allLabelled, onceEach, sameName, keepsRules, saved, tableIn, isSave, headSize, routeSize, treeSize}
 use Rattle.memory.proofs.Marks.{never}
 use Rattle.entries.specs.Stages.{treesBegin, rowsRead}
 use Rattle.entries.proofs.Rows.{routes-many, trees-many}
@@ -68,17 +68,17 @@ module _ (o : List ℕ) where
   saved-head : isSave o ≡ true → Head
   unfolding isSave tableIn rowsRead withTrees treesBegin
   saved-head e =
-      let us : List Use = usesRead (fourAt o 3) (twoAt o 13) (drop (getD o 12 0 * 118) (drop (15 + getD o 11 0 * 21) o)) (replicate 256 free) in
+      let us : List Use = usesRead (fourAt o 3) (twoAt o 13) (drop (getD o 12 0 * treeSize) (drop (headSize + getD o 11 0 * routeSize) o)) (replicate 256 free) in
       let again : saved (tableIn o) ≡ o = same-eq (saved (tableIn o)) o (both (keepsRules (tableIn o)) _ e .1) in
       let k = keeps-parts (tableIn o) (both (keepsRules (tableIn o)) _ e .0) in
       let b = base-inside (fourAt o 3) (k .0) in
       record {
         low = b .0;
         high = b .1;
-        routes = rw (routes-many (getD o 11 0) (drop 15 o)) at (k .1);
-        trees = rw (all-length (fourAt o 3) us (treesRead (getD o 12 0) (drop (15 + getD o 11 0 * 21) o)), trees-many (getD o 12 0) (drop (15 + getD o 11 0 * 21) o)) at (k .2);
+        routes = rw (routes-many (getD o 11 0) (drop headSize o)) at (k .1);
+        trees = rw (all-length (fourAt o 3) us (treesRead (getD o 12 0) (drop (headSize + getD o 11 0 * routeSize) o)), trees-many (getD o 12 0) (drop (headSize + getD o 11 0 * routeSize) o)) at (k .2);
         labels = rw again at (saved-labels (tableIn o));
-        names = sym (all-once (fourAt o 3) us (treesRead (getD o 12 0) (drop (15 + getD o 11 0 * 21) o))) ∙ k .3;
+        names = sym (all-once (fourAt o 3) us (treesRead (getD o 12 0) (drop (headSize + getD o 11 0 * routeSize) o))) ∙ k .3;
       }
 
   pub no-save : (Head → ⊥) → isSave o ≡ false

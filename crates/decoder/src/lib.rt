@@ -2,9 +2,10 @@
 ghost use mathlib.Core.Path.{_≡_};
 ghost use mathlib.Core.Bool.{true, false};
 ghost use Prim.Native.Nat.{_≤_};
-ghost use lib.ListN.{length, getD};
+ghost use lib.ListN.{getD};
 ghost use Rattle.meaning.specs.Octets.{fourAt};
 ghost use Rattle.meaning.specs.Save.{tableIn, isSave};
+ghost use Rattle.memory.specs.Sizes.{Numbers, Names};
 ghost use Rattle.memory.specs.Memory.{cardOf};
 
 // Whether the head may be that of a save: its base is in range, and its routes, trees and labels are not too many.
@@ -30,7 +31,7 @@ fn is_head(octets: &[u8]) -> bool
 
 // The table in the octets, into memory that held anything. False where the octets can be no save.
 pub fn decode(octets: &[u8], numbers: &mut [u64], names: &mut [u8]) -> bool
-    requires { ⌜ (length (now numbers) ≡ 1448) × (length (now names) ≡ 18144) ⌝ }
+    requires { ⌜ Numbers (now numbers) × Names (now names) ⌝ }
     ensures { λ r. ⌜ (r ≡ true → cardOf (now (numbers .exit)) (now (names .exit)) ≡ tableIn (now (octets .entry))) × (r ≡ false → isSave (now (octets .entry)) ≡ false) ⌝ }
 {
     if !is_head(octets) {

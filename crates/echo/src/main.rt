@@ -2,8 +2,16 @@
 ghost use mathlib.Core.Path.{_≡_};
 ghost use Prim.Native.Nat.{_+_, _≤_, _<_};
 ghost use lib.ListN.{length};
+ghost use Rattle.meaning.specs.Wire.{opaqueLimit, rootLimit, nameLimit};
 use libc::STDOUT_FILENO;
+use meaning::NAME_LIMIT;
+use meaning::OPAQUE_LIMIT;
+use meaning::RECORD_LIMIT;
 use reader::Read;
+
+const LONGEST: u8 = OPAQUE_LIMIT as u8;
+// the longest record, and two octets behind it
+const ROOM: usize = RECORD_LIMIT + 2;
 
 // What a record says beside its name.
 struct Sent {
@@ -27,7 +35,7 @@ fn fill(s: &mut [u8], first: u8)
 
 // A P2MP element. No two octets of its root and opaque value are the same.
 fn put_element(e: &mut [u8], family: u8, root: u8, opaque: u8)
-    requires { ⌜ (length (now e) ≡ 6 + root + opaque) × (root ≤ 16) × (opaque ≤ 32) ⌝ }
+    requires { ⌜ (length (now e) ≡ 6 + root + opaque) × (root ≤ rootLimit) × (opaque ≤ opaqueLimit) ⌝ }
     ensures { λ _. ⌜ length (now (e .exit)) ≡ 6 + root + opaque ⌝ }
 {
     fill(e, 64);
@@ -130,9 +138,9 @@ fn is_right(out: &[u8], sent: Sent, name: &[u8]) -> bool
 }
 
 fn is_kept(sent: Sent, name: &[u8]) -> bool
-    requires { ⌜ length (now name) ≤ 54 ⌝ }
+    requires { ⌜ length (now name) ≤ nameLimit ⌝ }
 {
-    let mut out = [0u8; 80];
+    let mut out = [0u8; ROOM];
     let next = writer::send(sent.id, &mut out, 0, sent.to, sent.kind, sent.label, name);
     if !is_next(sent.id, next) {
         return false;
@@ -141,9 +149,9 @@ fn is_kept(sent: Sent, name: &[u8]) -> bool
 }
 
 fn is_kept_at(family: u8, root: u8, opaque: u8) -> bool
-    requires { ⌜ (root ≤ 16) × (0 < opaque) × (opaque ≤ 32) ⌝ }
+    requires { ⌜ (root ≤ rootLimit) × (0 < opaque) × (opaque ≤ opaqueLimit) ⌝ }
 {
-    let mut name = [0u8; 54];
+    let mut name = [0u8; NAME_LIMIT];
     let n = 6 + root as usize + opaque as usize;
     put_element(&mut name[0..n], family, root, opaque);
     is_kept(nth(opaque as u64 - 1), &name[0..n])
@@ -151,12 +159,12 @@ fn is_kept_at(family: u8, root: u8, opaque: u8) -> bool
 
 // Of the opaque lengths 1 to 32, how many are read back.
 fn count(family: u8, root: u8) -> u64
-    requires { ⌜ root ≤ 16 ⌝ }
-    ensures { λ r. ⌜ r ≤ 32 ⌝ }
+    requires { ⌜ root ≤ rootLimit ⌝ }
+    ensures { λ r. ⌜ r ≤ opaqueLimit ⌝ }
 {
     let mut kept = 0;
     let mut opaque = 0;
-    while opaque < 32 {
+    while opaque < LONGEST {
         opaque += 1;
         if is_kept_at(family, root, opaque) {
             kept += 1;
@@ -166,7 +174,7 @@ fn count(family: u8, root: u8) -> u64
 }
 
 fn report(family: u8, root: u8)
-    requires { ⌜ root ≤ 16 ⌝ }
+    requires { ⌜ root ≤ rootLimit ⌝ }
 {
     io::print_decimal(STDOUT_FILENO, root as u64);
     io::write_all(STDOUT_FILENO, b"-octet root: ");

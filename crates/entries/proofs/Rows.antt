@@ -10,8 +10,9 @@ use lib.ListN.{length, drop, getD, set, length-append, length-set}
 use lib.Seq.{drop-drop, getD-drop, set-at, getD-at, set-set, set-getD, getD-set-same}
 use lib.Dec.{eqb}
 use Rattle.meaning.specs.Octets.{fourAt}
+use Rattle.meaning.specs.Wire.{rootLimit}
 use Rattle.meaning.specs.Card.{Route, Tree, Card, fresh, withNext, withRoutes, withTrees, withBranch, withLeaf, bare, treeAt}
-use Rattle.meaning.specs.Save.{spacedIn, nameIn, routeRead, treeRead, foursIn, routesRead, treesRead}
+use Rattle.meaning.specs.Save.{spacedIn, nameIn, routeRead, treeRead, foursIn, routesRead, treesRead, headSize, routeSize, leafPlace, branchPlace, treeSize}
 use Rattle.octets.proofs.Laws.{front, front-more, copy-done}
 use Rattle.memory.specs.Memory.{cardOf, treeCount, routeCount}
 use Rattle.memory.proofs.Memory.{trees-length, routes-length}
@@ -54,15 +55,15 @@ module _ {ℓ} {A : Type ℓ} (f : List ℕ → A) (w : ℕ) where
   pub reads-more : (i at : ℕ) (o : List ℕ) → reads (i + 1) (drop at o) ≡ reads i (drop at o) ++ (f (drop (at + i * w) o) ∷ [])
   reads-more i at o = ap (λ (k : ℕ). reads k (drop at o)) (add-one i) ∙ reads-next i (drop at o) ∙ ap (λ (l : List ℕ). reads i (drop at o) ++ (f l ∷ [])) (drop-drop (i * w) at o)
 
-routes-are : (n : ℕ) (o : List ℕ) → routesRead n o ≡ reads routeRead 21 n o
+routes-are : (n : ℕ) (o : List ℕ) → routesRead n o ≡ reads routeRead routeSize n o
 unfolding routesRead reads
 routes-are zero o = refl
-routes-are (suc n) o = ap (λ (l : List Route). routeRead o ∷ l) (routes-are n (drop 21 o))
+routes-are (suc n) o = ap (λ (l : List Route). routeRead o ∷ l) (routes-are n (drop routeSize o))
 
-trees-are : (n : ℕ) (o : List ℕ) → treesRead n o ≡ reads treeRead 118 n o
+trees-are : (n : ℕ) (o : List ℕ) → treesRead n o ≡ reads treeRead treeSize n o
 unfolding treesRead reads
 trees-are zero o = refl
-trees-are (suc n) o = ap (λ (l : List Tree). treeRead o ∷ l) (trees-are n (drop 118 o))
+trees-are (suc n) o = ap (λ (l : List Tree). treeRead o ∷ l) (trees-are n (drop treeSize o))
 
 abbrev firstFour : List ℕ → ℕ
 firstFour o = fourAt o 0
@@ -75,38 +76,38 @@ fours-are (suc n) o = ap (λ (l : List ℕ). fourAt o 0 ∷ l) (fours-are n (dro
 -- ---- routes
 
 pub routes-many : (n : ℕ) (o : List ℕ) → length (routesRead n o) ≡ n
-routes-many n o = ap length (routes-are n o) ∙ reads-length routeRead 21 n o
+routes-many n o = ap length (routes-are n o) ∙ reads-length routeRead routeSize n o
 
-pub route-read : (o root : List ℕ) (at via : ℕ) → root ≡ spacedIn 16 (drop (at + 4) o) → via ≡ getD o (at + 3) 0 → _≡_ {A = Route} (record { root = root; via = via }) (routeRead (drop at o))
+pub route-read : (o root : List ℕ) (at via : ℕ) → root ≡ spacedIn rootLimit (drop (at + 4) o) → via ≡ getD o (at + 3) 0 → _≡_ {A = Route} (record { root = root; via = via }) (routeRead (drop at o))
 unfolding routeRead
 route-read o root at via hr hv = rw (hr, hv, ← drop-drop 4 at o, ← getD-drop at o 3 0) refl
 
 module _ (c : Card) (o : List ℕ) where
-  pub routes-none : c .routes ≡ [] → c ≡ withRoutes (routesRead 0 (drop 15 o)) c
+  pub routes-none : c .routes ≡ [] → c ≡ withRoutes (routesRead 0 (drop headSize o)) c
   unfolding withRoutes routesRead
   routes-none e = ap (λ (rs : List Route). withRoutes rs c) e
 
-  pub routes-more : (i : ℕ) (ns os ns' os' : List ℕ) → cardOf ns os ≡ withRoutes (routesRead i (drop 15 o)) c
-      → cardOf ns' os' ≡ withRoutes (cardOf ns os .routes ++ (routeRead (drop (15 + i * 21) o) ∷ [])) (cardOf ns os)
-      → cardOf ns' os' ≡ withRoutes (routesRead (i + 1) (drop 15 o)) c
+  pub routes-more : (i : ℕ) (ns os ns' os' : List ℕ) → cardOf ns os ≡ withRoutes (routesRead i (drop headSize o)) c
+      → cardOf ns' os' ≡ withRoutes (cardOf ns os .routes ++ (routeRead (drop (headSize + i * routeSize) o) ∷ [])) (cardOf ns os)
+      → cardOf ns' os' ≡ withRoutes (routesRead (i + 1) (drop headSize o)) c
   unfolding withRoutes
-  routes-more i ns os ns' os' e h = rw (h, e, routes-are (i + 1) (drop 15 o), reads-more routeRead 21 i 15 o, ← routes-are i (drop 15 o)) refl
+  routes-more i ns os ns' os' e h = rw (h, e, routes-are (i + 1) (drop headSize o), reads-more routeRead routeSize i headSize o, ← routes-are i (drop headSize o)) refl
 
-  pub routes-room : (i : ℕ) (ns os : List ℕ) → cardOf ns os ≡ withRoutes (routesRead i (drop 15 o)) c → routeCount ns ≡ i
+  pub routes-room : (i : ℕ) (ns os : List ℕ) → cardOf ns os ≡ withRoutes (routesRead i (drop headSize o)) c → routeCount ns ≡ i
   unfolding withRoutes
-  routes-room i ns os e = sym (routes-length ns os) ∙ ap (λ (x : Card). length (x .routes)) e ∙ routes-many i (drop 15 o)
+  routes-room i ns os e = sym (routes-length ns os) ∙ ap (λ (x : Card). length (x .routes)) e ∙ routes-many i (drop headSize o)
 
 -- ---- trees
 
 pub trees-many : (n : ℕ) (o : List ℕ) → length (treesRead n o) ≡ n
-trees-many n o = ap length (trees-are n o) ∙ reads-length treeRead 118 n o
+trees-many n o = ap length (trees-are n o) ∙ reads-length treeRead treeSize n o
 
 -- none carries a label, and neither does what stands for an absent one
 pub trees-bare : (n j : ℕ) (o : List ℕ) → getD (treesRead n o) j (bare []) .label ≡ 0
 unfolding treesRead treeRead bare
 trees-bare zero j o = refl
 trees-bare (suc n) zero o = refl
-trees-bare (suc n) (suc j) o = trees-bare n j (drop 118 o)
+trees-bare (suc n) (suc j) o = trees-bare n j (drop treeSize o)
 
 -- one tree more, and one tree anew
 pub entered : (ns os ns' os' : List ℕ) (t : Tree) → cardOf ns' os' ≡ withTrees (cardOf ns os .trees ++ (t ∷ [])) (cardOf ns os) → treeCount ns' ≡ treeCount ns + 1
@@ -128,19 +129,19 @@ module _ (c : Card) (ts : List Tree) (t : Tree) (i : ℕ) (h : i ≡ length ts) 
   unfolding withTrees
   last-set u = rw (set-at ts t [] u i (sym h)) refl
 
-tree-read : (o : List ℕ) (at : ℕ) → withBranches (foursIn 16 (drop (at + 54) o)) (withLeaf (not (eqb (getD o (at + 53) 0) 0)) (bare (nameIn (drop (at + 3) o)))) ≡ treeRead (drop at o)
+tree-read : (o : List ℕ) (at : ℕ) → withBranches (foursIn 16 (drop (at + branchPlace) o)) (withLeaf (not (eqb (getD o (at + leafPlace) 0) 0)) (bare (nameIn (drop (at + 3) o)))) ≡ treeRead (drop at o)
 unfolding treeRead withBranches withLeaf bare
-tree-read o at = rw (← drop-drop 54 at o, ← drop-drop 3 at o, ← getD-drop at o 53 0) refl
+tree-read o at = rw (← drop-drop branchPlace at o, ← drop-drop 3 at o, ← getD-drop at o leafPlace 0) refl
 
 pub tree-made : (o : List ℕ) (c c₁ c₂ c₃ : Card) (at i : ℕ) (f : Bool) → i ≡ length (c .trees)
     → c₁ ≡ withTrees (c .trees ++ (bare (nameIn (drop (at + 3) o)) ∷ [])) c
-    → c₂ ≡ withTrees (set (c₁ .trees) i (withLeaf f (treeAt i c₁))) c₁ → f ≡ not (eqb (getD o (at + 53) 0) 0)
-    → c₃ ≡ withTrees (set (c₂ .trees) i (withBranches (foursIn 16 (drop (at + 54) o)) (treeAt i c₂))) c₂
+    → c₂ ≡ withTrees (set (c₁ .trees) i (withLeaf f (treeAt i c₁))) c₁ → f ≡ not (eqb (getD o (at + leafPlace) 0) 0)
+    → c₃ ≡ withTrees (set (c₂ .trees) i (withBranches (foursIn 16 (drop (at + branchPlace) o)) (treeAt i c₂))) c₂
     → c₃ ≡ withTrees (c .trees ++ (treeRead (drop at o) ∷ [])) c
 tree-made o c c₁ c₂ c₃ at i f h e₁ e₂ ef e₃ =
     let a : Tree = bare (nameIn (drop (at + 3) o)) in
     let k₂ : c₂ ≡ withTrees (c .trees ++ (withLeaf f a ∷ [])) c = rw (e₂, e₁, last-at c (c .trees) a i h) (last-set c (c .trees) a i h (withLeaf f a)) in
-    rw (e₃, k₂, last-at c (c .trees) (withLeaf f a) i h, last-set c (c .trees) (withLeaf f a) i h (withBranches (foursIn 16 (drop (at + 54) o)) (withLeaf f a)), ← tree-read o at, ← ef) refl
+    rw (e₃, k₂, last-at c (c .trees) (withLeaf f a) i h, last-set c (c .trees) (withLeaf f a) i h (withBranches (foursIn 16 (drop (at + branchPlace) o)) (withLeaf f a)), ← tree-read o at, ← ef) refl
 
 module _ (c : Card) (o : List ℕ) (at : ℕ) where
   pub trees-none : c .trees ≡ [] → c ≡ withTrees (treesRead 0 (drop at o)) c
@@ -148,10 +149,10 @@ module _ (c : Card) (o : List ℕ) (at : ℕ) where
   trees-none e = ap (λ (ts : List Tree). withTrees ts c) e
 
   pub trees-more : (i : ℕ) (ns os ns' os' : List ℕ) → cardOf ns os ≡ withTrees (treesRead i (drop at o)) c
-      → cardOf ns' os' ≡ withTrees (cardOf ns os .trees ++ (treeRead (drop (at + i * 118) o) ∷ [])) (cardOf ns os)
+      → cardOf ns' os' ≡ withTrees (cardOf ns os .trees ++ (treeRead (drop (at + i * treeSize) o) ∷ [])) (cardOf ns os)
       → cardOf ns' os' ≡ withTrees (treesRead (i + 1) (drop at o)) c
   unfolding withTrees
-  trees-more i ns os ns' os' e h = rw (h, e, trees-are (i + 1) (drop at o), reads-more treeRead 118 i at o, ← trees-are i (drop at o)) refl
+  trees-more i ns os ns' os' e h = rw (h, e, trees-are (i + 1) (drop at o), reads-more treeRead treeSize i at o, ← trees-are i (drop at o)) refl
 
   pub trees-room : (i : ℕ) (ns os : List ℕ) → cardOf ns os ≡ withTrees (treesRead i (drop at o)) c → treeCount ns ≡ i
   unfolding withTrees
@@ -197,7 +198,7 @@ module _ (ns₀ os o : List ℕ) (at i : ℕ) (h : i < treeCount ns₀) where
 
 module _ (o : List ℕ) where
   pub rows-whole : (b id routes trees : ℕ) (c₁ c₂ c₃ c₄ : Card) → b ≡ fourAt o 3 → id ≡ fourAt o 7 → routes ≡ getD o 11 0 → trees ≡ getD o 12 0
-      → c₁ ≡ fresh b → c₂ ≡ withNext id c₁ → c₃ ≡ withRoutes (routesRead routes (drop 15 o)) c₂ → c₄ ≡ withTrees (treesRead trees (drop (15 + routes * 21) o)) c₃ → c₄ ≡ rowsRead o
+      → c₁ ≡ fresh b → c₂ ≡ withNext id c₁ → c₃ ≡ withRoutes (routesRead routes (drop headSize o)) c₂ → c₄ ≡ withTrees (treesRead trees (drop (headSize + routes * routeSize) o)) c₃ → c₄ ≡ rowsRead o
   unfolding rowsRead headRead treesBegin
   rows-whole b id routes trees c₁ c₂ c₃ c₄ hb hi hr ht e₁ e₂ e₃ e₄ = rw (e₄, e₃, e₂, e₁, hb, hi, hr, ht) refl
 

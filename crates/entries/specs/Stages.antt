@@ -4,7 +4,7 @@ use mathlib.Core.List.{List}
 use lib.ListN.{drop, getD}
 use Rattle.meaning.specs.Octets.{fourAt}
 use Rattle.meaning.specs.Card.{Tree, Card, fresh, withNext, withRoutes, withTrees}
-use Rattle.meaning.specs.Save.{routesRead, treesRead}
+use Rattle.meaning.specs.Save.{routesRead, treesRead, headSize, routeSize}
 
 unfoldable pub withBranches : List ℕ → Tree → Tree
 withBranches bs t = record { name = t .name; branches = bs; leaf = t .leaf; label = t .label }
@@ -15,7 +15,7 @@ unfoldable pub headRead : List ℕ → Card
 headRead o = withNext (fourAt o 7) (fresh (fourAt o 3))
 
 unfoldable pub treesBegin : List ℕ → ℕ
-treesBegin o = 15 + getD o 11 0 * 21
+treesBegin o = headSize + getD o 11 0 * routeSize
 
 unfoldable pub rowsRead : List ℕ → Card
-rowsRead o = withTrees (treesRead (getD o 12 0) (drop (treesBegin o) o)) (withRoutes (routesRead (getD o 11 0) (drop 15 o)) (headRead o))
+rowsRead o = withTrees (treesRead (getD o 12 0) (drop (treesBegin o) o)) (withRoutes (routesRead (getD o 11 0) (drop headSize o)) (headRead o))

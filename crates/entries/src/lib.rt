@@ -2,17 +2,24 @@
 ghost use mathlib.Core.Path.{_≡_};
 ghost use mathlib.Core.List.{List, [], _∷_, _++_};
 ghost use Prim.Native.Nat.{ℕ, _≤_, _<_};
-ghost use lib.ListN.{length, drop, set, getD};
+ghost use lib.ListN.{drop, set, getD};
 ghost use Rattle.meaning.specs.Octets.{fourAt};
 ghost use Rattle.meaning.specs.Card.{withRoutes, withTrees, bare, treeAt};
-ghost use Rattle.meaning.specs.Save.{nameIn, routeRead, treeRead, foursIn, routesRead, treesRead};
+ghost use Rattle.meaning.specs.Save.{nameIn, routeRead, treeRead, foursIn, routesRead, treesRead, headSize};
+ghost use Rattle.memory.specs.Sizes.{Numbers, Names};
 ghost use Rattle.memory.specs.Memory.{cardOf, treeCount, routeCount};
 ghost use Rattle.entries.specs.Stages.{withBranches, rowsRead};
+use meaning::BRANCH_PLACE;
+use meaning::HEAD_SIZE;
+use meaning::LEAF_PLACE;
+use meaning::NAME_LIMIT;
+use meaning::ROUTE_SIZE;
+use meaning::TREE_SIZE;
 
 // ---- routes
 
 fn read_route(octets: &[u8], at: usize, numbers: &mut [u64], names: &mut [u8])
-    requires { ⌜ (length (now numbers) ≡ 1448) × (length (now names) ≡ 18144) × (routeCount (now numbers) < 32) × (at < 1000000000) ⌝ }
+    requires { ⌜ Numbers (now numbers) × Names (now names) × (routeCount (now numbers) < 32) × (at < 1000000000) ⌝ }
     ensures { λ _. ⌜ cardOf (now (numbers .exit)) (now (names .exit))
         ≡ withRoutes (cardOf (now (numbers .entry)) (now (names .entry)) .routes ++ (routeRead (drop at (now (octets .entry))) ∷ [])) (cardOf (now (numbers .entry)) (now (names .entry))) ⌝ }
 {
@@ -22,12 +29,12 @@ fn read_route(octets: &[u8], at: usize, numbers: &mut [u64], names: &mut [u8])
 }
 
 fn read_routes(octets: &[u8], n: usize, numbers: &mut [u64], names: &mut [u8])
-    requires { ⌜ (length (now numbers) ≡ 1448) × (length (now names) ≡ 18144) × (n ≤ 32) × (cardOf (now numbers) (now names) .routes ≡ []) ⌝ }
-    ensures { λ _. ⌜ cardOf (now (numbers .exit)) (now (names .exit)) ≡ withRoutes (routesRead n (drop 15 (now (octets .entry)))) (cardOf (now (numbers .entry)) (now (names .entry))) ⌝ }
+    requires { ⌜ Numbers (now numbers) × Names (now names) × (n ≤ 32) × (cardOf (now numbers) (now names) .routes ≡ []) ⌝ }
+    ensures { λ _. ⌜ cardOf (now (numbers .exit)) (now (names .exit)) ≡ withRoutes (routesRead n (drop headSize (now (octets .entry)))) (cardOf (now (numbers .entry)) (now (names .entry))) ⌝ }
 {
     let mut i = 0;
     while i < n {
-        read_route(octets, 15 + i * 21, numbers, names);
+        read_route(octets, HEAD_SIZE + i * ROUTE_SIZE, numbers, names);
         i += 1;
     }
 }
@@ -35,7 +42,7 @@ fn read_routes(octets: &[u8], n: usize, numbers: &mut [u64], names: &mut [u8])
 // ---- trees
 
 fn read_branches(octets: &[u8], at: usize, numbers: &mut [u64], i: usize)
-    requires { ⌜ (length (now numbers) ≡ 1448) × (i < treeCount (now numbers)) × (i < 64) × (at < 1073741824) ⌝ }
+    requires { ⌜ Numbers (now numbers) × (i < treeCount (now numbers)) × (i < 64) × (at < 1073741824) ⌝ }
     ensures { λ _. ⌜ ((os : List ℕ) → cardOf (now (numbers .exit)) os
         ≡ withTrees (set (cardOf (now (numbers .entry)) os .trees) i (withBranches (foursIn 16 (drop at (now (octets .entry)))) (treeAt i (cardOf (now (numbers .entry)) os)))) (cardOf (now (numbers .entry)) os)) ⌝ }
 {
@@ -48,34 +55,34 @@ fn read_branches(octets: &[u8], at: usize, numbers: &mut [u64], i: usize)
 }
 
 fn enter_name(octets: &[u8], at: usize, numbers: &mut [u64], names: &mut [u8])
-    requires { ⌜ (length (now numbers) ≡ 1448) × (length (now names) ≡ 18144) × (treeCount (now numbers) < 64) × (at < 1073741824) ⌝ }
+    requires { ⌜ Numbers (now numbers) × Names (now names) × (treeCount (now numbers) < 64) × (at < 1073741824) ⌝ }
     ensures { λ _. ⌜ cardOf (now (numbers .exit)) (now (names .exit))
         ≡ withTrees (cardOf (now (numbers .entry)) (now (names .entry)) .trees ++ (bare (nameIn (drop at (now (octets .entry)))) ∷ [])) (cardOf (now (numbers .entry)) (now (names .entry))) ⌝ }
 {
-    let mut name = [0u8; 54];
+    let mut name = [0u8; NAME_LIMIT];
     let n = fields::put_name(octets, at, &mut name);
     rows::enter_tree(numbers, names, &name[0..n]);
 }
 
 fn read_tree(octets: &[u8], at: usize, numbers: &mut [u64], names: &mut [u8])
-    requires { ⌜ (length (now numbers) ≡ 1448) × (length (now names) ≡ 18144) × (treeCount (now numbers) < 64) × (at < 1000000000) ⌝ }
+    requires { ⌜ Numbers (now numbers) × Names (now names) × (treeCount (now numbers) < 64) × (at < 1000000000) ⌝ }
     ensures { λ _. ⌜ cardOf (now (numbers .exit)) (now (names .exit))
         ≡ withTrees (cardOf (now (numbers .entry)) (now (names .entry)) .trees ++ (treeRead (drop at (now (octets .entry))) ∷ [])) (cardOf (now (numbers .entry)) (now (names .entry))) ⌝ }
 {
     let i = memory::tree_count(numbers);
     enter_name(octets, at + 3, numbers, names);
-    let leaf = octets::at(octets, at + 53) != 0;
+    let leaf = octets::at(octets, at + LEAF_PLACE) != 0;
     table::set_leaf(numbers, i, leaf);
-    read_branches(octets, at + 54, numbers, i);
+    read_branches(octets, at + BRANCH_PLACE, numbers, i);
 }
 
 fn read_trees(octets: &[u8], at: usize, n: usize, numbers: &mut [u64], names: &mut [u8])
-    requires { ⌜ (length (now numbers) ≡ 1448) × (length (now names) ≡ 18144) × (n ≤ 64) × (at < 65536) × (cardOf (now numbers) (now names) .trees ≡ []) ⌝ }
+    requires { ⌜ Numbers (now numbers) × Names (now names) × (n ≤ 64) × (at < 65536) × (cardOf (now numbers) (now names) .trees ≡ []) ⌝ }
     ensures { λ _. ⌜ cardOf (now (numbers .exit)) (now (names .exit)) ≡ withTrees (treesRead n (drop at (now (octets .entry)))) (cardOf (now (numbers .entry)) (now (names .entry))) ⌝ }
 {
     let mut i = 0;
     while i < n {
-        read_tree(octets, at + i * 118, numbers, names);
+        read_tree(octets, at + i * TREE_SIZE, numbers, names);
         i += 1;
     }
 }
@@ -84,7 +91,7 @@ fn read_trees(octets: &[u8], at: usize, n: usize, numbers: &mut [u64], names: &m
 
 // The head, the routes and the trees, into memory that held anything.
 pub fn read_rows(octets: &[u8], numbers: &mut [u64], names: &mut [u8])
-    requires { ⌜ (length (now numbers) ≡ 1448) × (length (now names) ≡ 18144) × (16 ≤ fourAt (now octets) 3) × (fourAt (now octets) 3 ≤ 1048320) × (getD (now octets) 11 0 ≤ 32) × (getD (now octets) 12 0 ≤ 64) ⌝ }
+    requires { ⌜ Numbers (now numbers) × Names (now names) × (16 ≤ fourAt (now octets) 3) × (fourAt (now octets) 3 ≤ 1048320) × (getD (now octets) 11 0 ≤ 32) × (getD (now octets) 12 0 ≤ 64) ⌝ }
     ensures { λ _. ⌜ cardOf (now (numbers .exit)) (now (names .exit)) ≡ rowsRead (now (octets .entry)) ⌝ }
 {
     rows::start_fresh(numbers, octets::four_at(octets, 3));
@@ -92,5 +99,11 @@ pub fn read_rows(octets: &[u8], numbers: &mut [u64], names: &mut [u8])
     let routes = octets::at(octets, 11) as usize;
     read_routes(octets, routes, numbers, names);
     let trees = octets::at(octets, 12) as usize;
-    read_trees(octets, 15 + routes * 21, trees, numbers, names);
+    read_trees(
+        octets,
+        HEAD_SIZE + routes * ROUTE_SIZE,
+        trees,
+        numbers,
+        names,
+    );
 }

@@ -10,8 +10,8 @@ use lib.Dec.{eqb, ltb}
 use borrow.Author.Tests.{ltb-true, ltb-false}
 use Rattle.meaning.specs.Octets.{pick, two, twoAt, fourAt}
 use Rattle.meaning.specs.Lists.{by-test, picked}
-use Rattle.meaning.specs.Wire.{element}
-use Rattle.meaning.specs.Save.{spacedIn, nameIn}
+use Rattle.meaning.specs.Wire.{element, rootLimit, nameLimit}
+use Rattle.meaning.specs.Save.{spacedIn, nameIn, savedOpaque}
 use Rattle.octets.specs.Part.{mid}
 use Rattle.octets.proofs.Laws.{mid-length}
 use Rattle.memory.specs.Memory.{upTo}
@@ -79,20 +79,20 @@ regroup : (us vs ws zs : List ℕ) → ((us ++ vs) ++ ws) ++ zs ≡ us ++ (vs ++
 regroup us vs ws zs = simp append-assoc
 
 -- the four parts of a name, each written behind the others
-module _ (xs us vs ws zs root opaque : List ℕ) (a b e : ℕ) (hl : length xs ≡ 54) (hr : length root ≤ 16) (ho : length opaque ≤ 32) (ha : a ≡ 4 + length root) (hb : b ≡ a + 2) (he : e ≡ b + length opaque) where
+module _ (xs us vs ws zs root opaque : List ℕ) (a b e : ℕ) (hl : length xs ≡ nameLimit) (hr : length root ≤ rootLimit) (ho : length opaque ≤ savedOpaque) (ha : a ≡ 4 + length root) (hb : b ≡ a + 2) (he : e ≡ b + length opaque) where
   pub name-put : us ≡ 6 ∷ (two (pick (eqb (length root) 4) 1 2) ++ (length root ∷ [])) → vs ≡ root → ws ≡ two (length opaque) → zs ≡ opaque
       → take e (mid b (e - b) (mid a (b - a) (mid 4 (a - 4) (mid 0 4 xs us) vs) ws) zs) ≡ element (pick (eqb (length root) 4) 1 2) root opaque
   unfolding element two
   name-put hu hv hw hz =
       let p : take 4 (mid 0 4 xs us) ≡ us = take-mid 0 4 4 xs [] us refl (omega arith) (ap length hu) refl in
-      let lp : length (mid 0 4 xs us) ≡ 54 = mid-length 0 4 xs us (omega arith) (ap length hu) ∙ hl in
+      let lp : length (mid 0 4 xs us) ≡ nameLimit = mid-length 0 4 xs us (omega arith) (ap length hu) ∙ hl in
       let q : take a (mid 4 (a - 4) (mid 0 4 xs us) vs) ≡ us ++ vs = take-mid 4 (a - 4) a (mid 0 4 xs us) us vs p (omega arith) (ap length hv ∙ omega arith) (omega arith) in
-      let lq : length (mid 4 (a - 4) (mid 0 4 xs us) vs) ≡ 54 = mid-length 4 (a - 4) (mid 0 4 xs us) vs (omega arith) (ap length hv ∙ omega arith) ∙ lp in
+      let lq : length (mid 4 (a - 4) (mid 0 4 xs us) vs) ≡ nameLimit = mid-length 4 (a - 4) (mid 0 4 xs us) vs (omega arith) (ap length hv ∙ omega arith) ∙ lp in
       let r : take b (mid a (b - a) (mid 4 (a - 4) (mid 0 4 xs us) vs) ws) ≡ (us ++ vs) ++ ws = take-mid a (b - a) b (mid 4 (a - 4) (mid 0 4 xs us) vs) (us ++ vs) ws q (omega arith) (ap length hw ∙ omega arith) (omega arith) in
-      let lr : length (mid a (b - a) (mid 4 (a - 4) (mid 0 4 xs us) vs) ws) ≡ 54 = mid-length a (b - a) (mid 4 (a - 4) (mid 0 4 xs us) vs) ws (omega arith) (ap length hw ∙ omega arith) ∙ lq in
+      let lr : length (mid a (b - a) (mid 4 (a - 4) (mid 0 4 xs us) vs) ws) ≡ nameLimit = mid-length a (b - a) (mid 4 (a - 4) (mid 0 4 xs us) vs) ws (omega arith) (ap length hw ∙ omega arith) ∙ lq in
       take-mid b (e - b) e (mid a (b - a) (mid 4 (a - 4) (mid 0 4 xs us) vs) ws) ((us ++ vs) ++ ws) zs r (omega arith) (ap length hz ∙ omega arith) (omega arith)
       ∙ regroup us vs ws zs ∙ rw (hu, hv, hw, hz) refl
 
-pub name-in : (o root opaque : List ℕ) (at : ℕ) → root ≡ spacedIn 16 (drop at o) → opaque ≡ spacedIn 32 (drop (at + 17) o) → element (pick (eqb (length root) 4) 1 2) root opaque ≡ nameIn (drop at o)
+pub name-in : (o root opaque : List ℕ) (at : ℕ) → root ≡ spacedIn rootLimit (drop at o) → opaque ≡ spacedIn savedOpaque (drop (at + (1 + rootLimit)) o) → element (pick (eqb (length root) 4) 1 2) root opaque ≡ nameIn (drop at o)
 unfolding nameIn
-name-in o root opaque at hr ho = rw (hr, ho, ← drop-drop 17 at o) refl
+name-in o root opaque at hr ho = rw (hr, ho, ← drop-drop (1 + rootLimit) at o) refl

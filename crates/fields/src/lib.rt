@@ -4,9 +4,13 @@ ghost use mathlib.Core.List.{[], _∷_, _++_};
 ghost use Prim.Native.Nat.{_≤_, _<_};
 ghost use lib.ListN.{length, take, drop};
 ghost use Rattle.meaning.specs.Octets.{pick, two};
+ghost use Rattle.meaning.specs.Wire.{nameLimit};
 ghost use lib.Dec.{eqb};
-ghost use Rattle.meaning.specs.Save.{spacedIn, nameIn};
+ghost use Rattle.meaning.specs.Save.{spacedIn, nameIn, savedOpaque};
 ghost use Rattle.memory.specs.Memory.{upTo};
+use meaning::ROOT_LIMIT;
+use meaning::SAVED_OPAQUE;
+use meaning::SAVED_ROOT_SPACE;
 
 fn at_most(n: usize, k: usize) -> usize
     ensures { λ r. ⌜ (r ≡ upTo k n) × (r ≤ k) ⌝ }
@@ -44,7 +48,7 @@ fn put_head(out: &mut [u8], k: usize)
 }
 
 fn put_two(out: &mut [u8], n: usize)
-    requires { ⌜ (length (now out) ≡ 2) × (n ≤ 32) ⌝ }
+    requires { ⌜ (length (now out) ≡ 2) × (n ≤ savedOpaque) ⌝ }
     ensures { λ _. ⌜ now (out .exit) ≡ two n ⌝ }
 {
     let both = [0, n as u8];
@@ -53,11 +57,11 @@ fn put_two(out: &mut [u8], n: usize)
 
 // The name whose root and opaque value stand at a place, at the front of a buffer; its length.
 pub fn put_name(octets: &[u8], at: usize, out: &mut [u8]) -> usize
-    requires { ⌜ (length (now out) ≡ 54) × (at < 1073741824) ⌝ }
-    ensures { λ r. ⌜ (take r (now (out .exit)) ≡ nameIn (drop at (now (octets .entry)))) × (r ≤ 54) ⌝ }
+    requires { ⌜ (length (now out) ≡ nameLimit) × (at < 1073741824) ⌝ }
+    ensures { λ r. ⌜ (take r (now (out .exit)) ≡ nameIn (drop at (now (octets .entry)))) × (r ≤ nameLimit) ⌝ }
 {
-    let root = spaced(octets, at, 16);
-    let opaque = spaced(octets, at + 17, 32);
+    let root = spaced(octets, at, ROOT_LIMIT);
+    let opaque = spaced(octets, at + SAVED_ROOT_SPACE, SAVED_OPAQUE);
     let a = 4 + root.len();
     let b = a + 2;
     let e = b + opaque.len();

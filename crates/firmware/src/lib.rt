@@ -9,9 +9,11 @@ ghost use Rattle.meaning.specs.Events.{start, event, receive, join, leave, rout
 ghost use Rattle.meaning.specs.Calls.{Does};
 ghost use Rattle.memory.specs.Memory.{cardOf};
 ghost use Rattle.lookups.specs.Feed.{feedIn};
+use memory::NUMBER_COUNT;
+use memory::OCTET_COUNT;
 
 #[no_mangle]
-pub extern "C" fn card_start(numbers: &mut [u64; 1448], base: u32) -> u32
+pub extern "C" fn card_start(numbers: &mut [u64; NUMBER_COUNT], base: u32) -> u32
     ensures { λ r. ⌜ (r ≡ start base .answer) × ((os : List ℕ) → cardOf (now (numbers .exit)) os ≡ start base .card) ⌝ }
 {
     card::start(numbers, base)
@@ -21,8 +23,8 @@ pub extern "C" fn card_start(numbers: &mut [u64; 1448], base: u32) -> u32
 
 #[no_mangle]
 pub extern "C" fn card_receive(
-    numbers: &mut [u64; 1448],
-    names: &mut [u8; 18144],
+    numbers: &mut [u64; NUMBER_COUNT],
+    names: &mut [u8; OCTET_COUNT],
     neighbour: u32,
     message: &[u8],
     out: &mut [u8],
@@ -36,8 +38,8 @@ pub extern "C" fn card_receive(
 
 #[no_mangle]
 pub extern "C" fn card_join(
-    numbers: &mut [u64; 1448],
-    names: &mut [u8; 18144],
+    numbers: &mut [u64; NUMBER_COUNT],
+    names: &mut [u8; OCTET_COUNT],
     element: &[u8],
     out: &mut [u8],
     answer: &mut u32,
@@ -50,8 +52,8 @@ pub extern "C" fn card_join(
 
 #[no_mangle]
 pub extern "C" fn card_leave(
-    numbers: &mut [u64; 1448],
-    names: &mut [u8; 18144],
+    numbers: &mut [u64; NUMBER_COUNT],
+    names: &mut [u8; OCTET_COUNT],
     element: &[u8],
     out: &mut [u8],
     answer: &mut u32,
@@ -64,8 +66,8 @@ pub extern "C" fn card_leave(
 
 #[no_mangle]
 pub extern "C" fn card_route(
-    numbers: &mut [u64; 1448],
-    names: &mut [u8; 18144],
+    numbers: &mut [u64; NUMBER_COUNT],
+    names: &mut [u8; OCTET_COUNT],
     root: &[u8],
     via: u32,
     out: &mut [u8],
@@ -81,7 +83,7 @@ pub extern "C" fn card_route(
 
 #[no_mangle]
 pub extern "C" fn card_lookup_label(
-    numbers: &[u64; 1448],
+    numbers: &[u64; NUMBER_COUNT],
     label: u32,
     branches: &mut [u64; 16],
 ) -> bool
@@ -92,8 +94,8 @@ pub extern "C" fn card_lookup_label(
 
 #[no_mangle]
 pub extern "C" fn card_lookup_name(
-    numbers: &[u64; 1448],
-    names: &[u8; 18144],
+    numbers: &[u64; NUMBER_COUNT],
+    names: &[u8; OCTET_COUNT],
     element: &[u8],
     branches: &mut [u64; 16],
 ) -> bool
@@ -103,7 +105,7 @@ pub extern "C" fn card_lookup_name(
 }
 
 #[no_mangle]
-pub extern "C" fn card_free_labels(numbers: &[u64; 1448]) -> u32
+pub extern "C" fn card_free_labels(numbers: &[u64; NUMBER_COUNT]) -> u32
     ensures { λ r. ⌜ ((os : List ℕ) → r ≡ freeLabels (cardOf (now (numbers .entry)) os)) ⌝ }
 {
     card::free_labels(numbers)

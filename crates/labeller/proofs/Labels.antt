@@ -14,7 +14,7 @@ use Rattle.meaning.specs.Octets.{pick, place, any, same, twoAt, fourAt}
 use Rattle.meaning.specs.Lists.{by-test, place-finds, same-eq, same-no}
 use Rattle.meaning.specs.Card.{Tree, Use, free, mapped, awaiting, Card, fresh, withNext, withRoutes, withTrees, withLabels, withLabel, bare, treeAt, named}
 use Rattle.meaning.specs.Events.{setLabel}
-use Rattle.meaning.specs.Save.{nameIn, useRead, usesRead, isMappedFor, labelled, allLabelled, onceEach, sameName, tableIn}
+use Rattle.meaning.specs.Save.{nameIn, useRead, usesRead, isMappedFor, labelled, allLabelled, onceEach, sameName, tableIn, headSize, routeSize, treeSize, useSize}
 use Rattle.octets.specs.Part.{tab}
 use Rattle.memory.specs.Memory.{cardOf, baseIn, treeCount, isFreeAt, isMappedAt, labelIn, labelName}
 use Rattle.memory.proofs.Memory.{base-range, trees-length, labels-length}
@@ -31,18 +31,18 @@ module _ (b : ℕ) where
   pub uses-length : (n : ℕ) (o : List ℕ) (us : List Use) → length (usesRead b n o us) ≡ length us
   unfolding usesRead
   uses-length zero o us = refl
-  uses-length (suc n) o us = uses-length n (drop 59 o) _ ∙ length-set us _ _
+  uses-length (suc n) o us = uses-length n (drop useSize o) _ ∙ length-set us _ _
 
-  uses-next : (i : ℕ) (o : List ℕ) (us : List Use) → usesRead b (suc i) o us ≡ set (usesRead b i o us) (fourAt (drop (i * 59) o) 3 - b) (useRead (drop (i * 59) o))
+  uses-next : (i : ℕ) (o : List ℕ) (us : List Use) → usesRead b (suc i) o us ≡ set (usesRead b i o us) (fourAt (drop (i * useSize) o) 3 - b) (useRead (drop (i * useSize) o))
   unfolding usesRead
   uses-next zero o us = refl
   uses-next (suc i) o us =
-      let k : 59 + i * 59 ≡ suc i * 59 = omega (arith, suc-mul i 59) in
-      let e : drop (i * 59) (drop 59 o) ≡ drop (suc i * 59) o = drop-drop (i * 59) 59 o ∙ ap (λ (m : ℕ). drop m o) k in
-      uses-next i (drop 59 o) (set us (fourAt o 3 - b) (useRead o)) ∙ rw e refl
+      let k : useSize + i * useSize ≡ suc i * useSize = omega (arith, suc-mul i useSize) in
+      let e : drop (i * useSize) (drop useSize o) ≡ drop (suc i * useSize) o = drop-drop (i * useSize) useSize o ∙ ap (λ (m : ℕ). drop m o) k in
+      uses-next i (drop useSize o) (set us (fourAt o 3 - b) (useRead o)) ∙ rw e refl
 
-  pub uses-more : (i at : ℕ) (o : List ℕ) (us : List Use) → usesRead b (i + 1) (drop at o) us ≡ set (usesRead b i (drop at o) us) (fourAt (drop (at + i * 59) o) 3 - b) (useRead (drop (at + i * 59) o))
-  uses-more i at o us = ap (λ (k : ℕ). usesRead b k (drop at o) us) (add-one i) ∙ uses-next i (drop at o) us ∙ rw (drop-drop (i * 59) at o) refl
+  pub uses-more : (i at : ℕ) (o : List ℕ) (us : List Use) → usesRead b (i + 1) (drop at o) us ≡ set (usesRead b i (drop at o) us) (fourAt (drop (at + i * useSize) o) 3 - b) (useRead (drop (at + i * useSize) o))
+  uses-more i at o us = ap (λ (k : ℕ). usesRead b k (drop at o) us) (add-one i) ∙ uses-next i (drop at o) us ∙ rw (drop-drop (i * useSize) at o) refl
 
 use-read : (o : List ℕ) (at : ℕ) → pick (eqb (getD o (at + 7) 0) 1) (mapped (getD o (at + 8) 0 % 16) (nameIn (drop (at + 9) o))) (awaiting (getD o (at + 8) 0 % 16) (nameIn (drop (at + 9) o))) ≡ useRead (drop at o)
 unfolding useRead
@@ -84,7 +84,7 @@ module _ (c : Card) (o : List ℕ) (at : ℕ) where
   labels-none = refl
 
   pub labels-more : (i : ℕ) (d e : Card) → d ≡ withLabels (usesRead (c .base) i (drop at o) (c .labels)) c
-      → e ≡ withLabels (set (d .labels) (fourAt (drop (at + i * 59) o) 3 - d .base) (useRead (drop (at + i * 59) o))) d
+      → e ≡ withLabels (set (d .labels) (fourAt (drop (at + i * useSize) o) 3 - d .base) (useRead (drop (at + i * useSize) o))) d
       → e ≡ withLabels (usesRead (c .base) (i + 1) (drop at o) (c .labels)) c
   unfolding withLabels
   labels-more i d e hd he = rw (he, hd, uses-more (c .base) i at o (c .labels)) refl
@@ -294,7 +294,7 @@ module _ (o : List ℕ) where
   rows-unlabelled c e j lt = rw e (trees-bare (getD o 12 0) j (drop (treesBegin o) o))
 
   pub table-whole : (n routes trees : ℕ) (c d t : Card) → c ≡ rowsRead o
-      → d ≡ withLabels (usesRead (c .base) n (drop (15 + routes * 21 + trees * 118) o) (c .labels)) c → t ≡ withTrees (allLabelled (d .base) (d .labels) (d .trees)) d
+      → d ≡ withLabels (usesRead (c .base) n (drop (headSize + routes * routeSize + trees * treeSize) o) (c .labels)) c → t ≡ withTrees (allLabelled (d .base) (d .labels) (d .trees)) d
       → n ≡ twoAt o 13 → routes ≡ getD o 11 0 → trees ≡ getD o 12 0 → t ≡ tableIn o
   unfolding tableIn rowsRead headRead treesBegin withLabels withTrees withRoutes withNext fresh
-  table-whole n routes trees c d t ec ed et en er es = rw (et, ed, ec, en, er, es, ← drop-drop (getD o 12 0 * 118) (15 + getD o 11 0 * 21) o) refl
+  table-whole n routes trees c d t ec ed et en er es = rw (et, ed, ec, en, er, es, ← drop-drop (getD o 12 0 * treeSize) (headSize + getD o 11 0 * routeSize) o) refl

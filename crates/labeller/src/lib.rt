@@ -2,13 +2,19 @@
 ghost use mathlib.Core.Path.{_≡_};
 ghost use mathlib.Core.Bool.{true, false};
 ghost use Prim.Native.Nat.{_-_, _≤_, _<_};
-ghost use lib.ListN.{length, drop, set, getD};
+ghost use lib.ListN.{drop, set, getD};
 ghost use Rattle.meaning.specs.Octets.{place, fourAt};
 ghost use Rattle.meaning.specs.Card.{withTrees, withLabels, treeAt};
 ghost use Rattle.meaning.specs.Save.{useRead, usesRead, isMappedFor, labelled, allLabelled, sameName, onceEach, tableIn};
+ghost use Rattle.memory.specs.Sizes.{Numbers, Names};
 ghost use Rattle.memory.specs.Memory.{cardOf, treeCount, isMappedAt, labelIn};
 ghost use Rattle.entries.specs.Stages.{rowsRead};
 ghost use Rattle.labeller.specs.Labels.{Unlabelled, Ready};
+use meaning::HEAD_SIZE;
+use meaning::NAME_LIMIT;
+use meaning::ROUTE_SIZE;
+use meaning::TREE_SIZE;
+use meaning::USE_SIZE;
 
 // ---- labels in use
 
@@ -20,7 +26,7 @@ fn place_of(label: u64, base: u64) -> u64
 }
 
 fn read_use(octets: &[u8], at: usize, numbers: &mut [u64], names: &mut [u8])
-    requires { ⌜ (length (now numbers) ≡ 1448) × (length (now names) ≡ 18144) × (at < 1000000000) × Unlabelled (cardOf (now numbers) (now names)) ⌝ }
+    requires { ⌜ Numbers (now numbers) × Names (now names) × (at < 1000000000) × Unlabelled (cardOf (now numbers) (now names)) ⌝ }
     ensures { λ _. ⌜ cardOf (now (numbers .exit)) (now (names .exit))
         ≡ withLabels (set (cardOf (now (numbers .entry)) (now (names .entry)) .labels) (fourAt (drop at (now (octets .entry))) 3 - cardOf (now (numbers .entry)) (now (names .entry)) .base) (useRead (drop at (now (octets .entry))))) (cardOf (now (numbers .entry)) (now (names .entry))) ⌝ }
 {
@@ -28,7 +34,7 @@ fn read_use(octets: &[u8], at: usize, numbers: &mut [u64], names: &mut [u8])
     if 256 <= p {
         return;
     }
-    let mut name = [0u8; 54];
+    let mut name = [0u8; NAME_LIMIT];
     let n = fields::put_name(octets, at + 9, &mut name);
     let held = octets::at(octets, at + 7) == 1;
     let neighbour = octets::at(octets, at + 8) % 16;
@@ -36,13 +42,13 @@ fn read_use(octets: &[u8], at: usize, numbers: &mut [u64], names: &mut [u8])
 }
 
 fn read_uses(octets: &[u8], at: usize, n: usize, numbers: &mut [u64], names: &mut [u8])
-    requires { ⌜ (length (now numbers) ≡ 1448) × (length (now names) ≡ 18144) × (n < 65536) × (at < 65536) × Unlabelled (cardOf (now numbers) (now names)) ⌝ }
+    requires { ⌜ Numbers (now numbers) × Names (now names) × (n < 65536) × (at < 65536) × Unlabelled (cardOf (now numbers) (now names)) ⌝ }
     ensures { λ _. ⌜ cardOf (now (numbers .exit)) (now (names .exit))
         ≡ withLabels (usesRead (cardOf (now (numbers .entry)) (now (names .entry)) .base) n (drop at (now (octets .entry))) (cardOf (now (numbers .entry)) (now (names .entry)) .labels)) (cardOf (now (numbers .entry)) (now (names .entry))) ⌝ }
 {
     let mut i = 0;
     while i < n {
-        read_use(octets, at + i * 59, numbers, names);
+        read_use(octets, at + i * USE_SIZE, numbers, names);
         i += 1;
     }
 }
@@ -50,7 +56,7 @@ fn read_uses(octets: &[u8], at: usize, n: usize, numbers: &mut [u64], names: &mu
 // ---- the label that each tree carries
 
 fn is_mapped_for(numbers: &[u64], names: &[u8], p: usize, name: &[u8]) -> bool
-    requires { ⌜ (length (now numbers) ≡ 1448) × (length (now names) ≡ 18144) × (p < 256) ⌝ }
+    requires { ⌜ Numbers (now numbers) × Names (now names) × (p < 256) ⌝ }
     ensures { λ r. ⌜ (r ≡ isMappedFor (now (name .entry)) (labelIn (now (numbers .entry)) (now (names .entry)) p)) × (r ≡ true → isMappedAt (now (numbers .entry)) p ≡ true) ⌝ }
 {
     if labels::mapped_at(numbers, p) == 17 {
@@ -61,7 +67,7 @@ fn is_mapped_for(numbers: &[u64], names: &[u8], p: usize, name: &[u8]) -> bool
 
 // The place of the first label that is mapped for a name; 256 where none is.
 fn mapped_place(numbers: &[u64], names: &[u8], name: &[u8]) -> usize
-    requires { ⌜ (length (now numbers) ≡ 1448) × (length (now names) ≡ 18144) ⌝ }
+    requires { ⌜ Numbers (now numbers) × Names (now names) ⌝ }
     ensures { λ r. ⌜ (r ≡ place (isMappedFor (now (name .entry))) (cardOf (now (numbers .entry)) (now (names .entry)) .labels)) × (r ≤ 256) × (r < 256 → isMappedAt (now (numbers .entry)) r ≡ true) ⌝ }
 {
     let mut p = 0;
@@ -75,7 +81,7 @@ fn mapped_place(numbers: &[u64], names: &[u8], name: &[u8]) -> usize
 }
 
 fn label_tree(numbers: &mut [u64], names: &[u8], i: usize)
-    requires { ⌜ (length (now numbers) ≡ 1448) × (length (now names) ≡ 18144) × (i < treeCount (now numbers)) × (i < 64) × Ready i (cardOf (now numbers) (now names)) ⌝ }
+    requires { ⌜ Numbers (now numbers) × Names (now names) × (i < treeCount (now numbers)) × (i < 64) × Ready i (cardOf (now numbers) (now names)) ⌝ }
     ensures { λ _. ⌜ cardOf (now (numbers .exit)) (now (names .entry))
         ≡ withTrees (set (cardOf (now (numbers .entry)) (now (names .entry)) .trees) i (labelled (cardOf (now (numbers .entry)) (now (names .entry)) .base) (cardOf (now (numbers .entry)) (now (names .entry)) .labels) (treeAt i (cardOf (now (numbers .entry)) (now (names .entry)))))) (cardOf (now (numbers .entry)) (now (names .entry))) ⌝ }
 {
@@ -87,7 +93,7 @@ fn label_tree(numbers: &mut [u64], names: &[u8], i: usize)
 }
 
 fn label_trees(numbers: &mut [u64], names: &[u8])
-    requires { ⌜ (length (now numbers) ≡ 1448) × (length (now names) ≡ 18144) × Unlabelled (cardOf (now numbers) (now names)) × (onceEach sameName (cardOf (now numbers) (now names) .trees) ≡ true) ⌝ }
+    requires { ⌜ Numbers (now numbers) × Names (now names) × Unlabelled (cardOf (now numbers) (now names)) × (onceEach sameName (cardOf (now numbers) (now names) .trees) ≡ true) ⌝ }
     ensures { λ _. ⌜ cardOf (now (numbers .exit)) (now (names .entry))
         ≡ withTrees (allLabelled (cardOf (now (numbers .entry)) (now (names .entry)) .base) (cardOf (now (numbers .entry)) (now (names .entry)) .labels) (cardOf (now (numbers .entry)) (now (names .entry)) .trees)) (cardOf (now (numbers .entry)) (now (names .entry))) ⌝ }
 {
@@ -103,7 +109,7 @@ fn label_trees(numbers: &mut [u64], names: &[u8])
 
 // The labels, where no two trees have one name.
 pub fn read_labels(octets: &[u8], numbers: &mut [u64], names: &mut [u8])
-    requires { ⌜ (length (now numbers) ≡ 1448) × (length (now names) ≡ 18144) × (getD (now octets) 11 0 ≤ 32) × (getD (now octets) 12 0 ≤ 64)
+    requires { ⌜ Numbers (now numbers) × Names (now names) × (getD (now octets) 11 0 ≤ 32) × (getD (now octets) 12 0 ≤ 64)
         × (cardOf (now numbers) (now names) ≡ rowsRead (now octets)) × (onceEach sameName (cardOf (now numbers) (now names) .trees) ≡ true) ⌝ }
     ensures { λ _. ⌜ cardOf (now (numbers .exit)) (now (names .exit)) ≡ tableIn (now (octets .entry)) ⌝ }
 {
@@ -112,7 +118,7 @@ pub fn read_labels(octets: &[u8], numbers: &mut [u64], names: &mut [u8])
     let labels = octets::two_at(octets, 13) as usize;
     read_uses(
         octets,
-        15 + routes * 21 + trees * 118,
+        HEAD_SIZE + routes * ROUTE_SIZE + trees * TREE_SIZE,
         labels,
         numbers,
         names,

@@ -3,62 +3,70 @@ ghost use mathlib.Core.Path.{_≡_};
 ghost use mathlib.Core.Bool.{true, false};
 ghost use mathlib.Core.List.{List};
 ghost use Prim.Native.Nat.{ℕ, _+_, _-_, _≤_, _<_};
-ghost use lib.ListN.{length};
 ghost use Rattle.meaning.specs.Octets.{place};
 ghost use Rattle.meaning.specs.Card.{isFree, isAwaiting, mappedTo, useOf, freeLabels, free, awaiting};
 ghost use Rattle.meaning.specs.Events.{setUse, labelsShort};
+ghost use Rattle.memory.specs.Sizes.{Numbers, Names};
 ghost use Rattle.memory.specs.Memory.{cardOf, baseIn, labelName, isFreeAt, isMappedAt, labelIn, Relabelled};
+use meaning::NAME_LIMIT;
+use memory::FOURTH_WORD;
+use memory::LABEL_NAMES;
+use memory::MARK_COLUMN;
+use memory::NAME_SPACE;
+use memory::SECOND_WORD;
+use memory::THIRD_WORD;
+use memory::WORD_COLUMN;
 
 // Whether the label at place p of the block is free: read here, and nowhere else.
 pub fn is_free(numbers: &[u64], p: usize) -> bool
-    requires { ⌜ (length (now numbers) ≡ 1448) × (p < 256) ⌝ }
+    requires { ⌜ Numbers (now numbers) × (p < 256) ⌝ }
     ensures { λ r. ⌜ (r ≡ isFreeAt (now (numbers .entry)) p) × ((os : List ℕ) → r ≡ isFree (labelIn (now (numbers .entry)) os p)) ⌝ }
 {
-    (numbers[1444 + p / 64] >> (p % 64)) % 2 == 1
+    (numbers[WORD_COLUMN + p / 64] >> (p % 64)) % 2 == 1
 }
 
 // The label at place p of the block is free from now on: its bit is set.
 fn set_free(numbers: &mut [u64], p: usize)
-    requires { ⌜ (length (now numbers) ≡ 1448) × (p < 256) ⌝ }
+    requires { ⌜ Numbers (now numbers) × (p < 256) ⌝ }
     ensures { λ _. ⌜ Relabelled p (now (numbers .entry)) (now (numbers .exit)) × (isFreeAt (now (numbers .exit)) p ≡ true) ⌝ }
 {
-    let k = 1444 + p / 64;
+    let k = WORD_COLUMN + p / 64;
     numbers[k] = numbers[k] | 1 << (p % 64);
 }
 
 // It is free no more: its bit is cleared. What it is used for, its mark is to say.
 pub fn set_taken(numbers: &mut [u64], p: usize)
-    requires { ⌜ (length (now numbers) ≡ 1448) × (p < 256) ⌝ }
+    requires { ⌜ Numbers (now numbers) × (p < 256) ⌝ }
     ensures { λ _. ⌜ Relabelled p (now (numbers .entry)) (now (numbers .exit)) × (isFreeAt (now (numbers .exit)) p ≡ false) ⌝ }
 {
-    let k = 1444 + p / 64;
+    let k = WORD_COLUMN + p / 64;
     numbers[k] = numbers[k] & !(1 << (p % 64));
 }
 
 // The neighbour to which the label at place p of the block is mapped; 17 for none.
 pub fn mapped_at(numbers: &[u64], p: usize) -> u64
-    requires { ⌜ (length (now numbers) ≡ 1448) × (p < 256) ⌝ }
+    requires { ⌜ Numbers (now numbers) × (p < 256) ⌝ }
     ensures { λ r. ⌜ ((os : List ℕ) → r ≡ mappedTo (labelIn (now (numbers .entry)) os p)) × (r ≤ 17)
         × (r ≡ 17 → isMappedAt (now (numbers .entry)) p ≡ false) × ((r ≡ 17 → ⊥) → isMappedAt (now (numbers .entry)) p ≡ true) ⌝ }
 {
     if is_free(numbers, p) {
         return 17;
     }
-    let u = numbers[1188 + p] % 256;
+    let u = numbers[MARK_COLUMN + p] % 256;
     if u < 16 { u } else { 17 }
 }
 
 // The neighbour from which the label at place p of the block awaits release, where the label is neither free nor mapped.
 pub fn awaited_at(numbers: &[u64], p: usize) -> u64
-    requires { ⌜ (length (now numbers) ≡ 1448) × (p < 256) × (isFreeAt (now numbers) p ≡ false) × (isMappedAt (now numbers) p ≡ false) ⌝ }
+    requires { ⌜ Numbers (now numbers) × (p < 256) × (isFreeAt (now numbers) p ≡ false) × (isMappedAt (now numbers) p ≡ false) ⌝ }
     ensures { λ r. ⌜ ((os : List ℕ) → labelIn (now (numbers .entry)) os p ≡ awaiting r (labelName os p)) × (r < 256) ⌝ }
 {
-    numbers[1188 + p] % 256 - 16
+    numbers[MARK_COLUMN + p] % 256 - 16
 }
 
 // The neighbour to which a label is mapped; 17 for none.
 pub fn mapped_to(numbers: &[u64], label: u64) -> u64
-    requires { ⌜ length (now numbers) ≡ 1448 ⌝ }
+    requires { ⌜ Numbers (now numbers) ⌝ }
     ensures { λ r. ⌜ ((os : List ℕ) → r ≡ mappedTo (useOf label (cardOf (now (numbers .entry)) os))) × (r ≤ 17) ⌝ }
 {
     let b = memory::base(numbers);
@@ -72,15 +80,15 @@ pub fn mapped_to(numbers: &[u64], label: u64) -> u64
 }
 
 pub fn label_name(names: &[u8], p: usize) -> &[u8]
-    requires { ⌜ (length (now names) ≡ 18144) × (p < 256) ⌝ }
+    requires { ⌜ Names (now names) × (p < 256) ⌝ }
     ensures { λ r. ⌜ now r ≡ labelName (now (names .entry)) p ⌝ }
 {
-    memory::text(names, 54, 3520 + p * 55)
+    memory::text(names, NAME_LIMIT, LABEL_NAMES + p * NAME_SPACE)
 }
 
 // Whether a label awaits release from that neighbour for that name.
 pub fn is_awaited(numbers: &[u64], names: &[u8], neighbour: u64, name: &[u8], label: u64) -> bool
-    requires { ⌜ (length (now numbers) ≡ 1448) × (length (now names) ≡ 18144) × (neighbour < 16) ⌝ }
+    requires { ⌜ Numbers (now numbers) × Names (now names) × (neighbour < 16) ⌝ }
     ensures { λ r. ⌜ (r ≡ isAwaiting neighbour (now (name .entry)) (useOf label (cardOf (now (numbers .entry)) (now (names .entry)))))
         × (r ≡ true → (baseIn (now (numbers .entry)) ≤ label) × (label < baseIn (now (numbers .entry)) + 256) × (isMappedAt (now (numbers .entry)) (label - baseIn (now (numbers .entry))) ≡ false)) ⌝ }
 {
@@ -95,25 +103,25 @@ pub fn is_awaited(numbers: &[u64], names: &[u8], neighbour: u64, name: &[u8], la
     if is_free(numbers, p) {
         return false;
     }
-    if numbers[1188 + p] % 256 != 16 + neighbour {
+    if numbers[MARK_COLUMN + p] % 256 != 16 + neighbour {
         return false;
     }
     octets::equal(label_name(names, p), name)
 }
 
 pub fn free_labels(numbers: &[u64]) -> usize
-    requires { ⌜ length (now numbers) ≡ 1448 ⌝ }
+    requires { ⌜ Numbers (now numbers) ⌝ }
     ensures { λ r. ⌜ ((os : List ℕ) → r ≡ freeLabels (cardOf (now (numbers .entry)) os)) × (r ≤ 256) ⌝ }
 {
-    (u64::count_ones(numbers[1444])
-        + u64::count_ones(numbers[1445])
-        + u64::count_ones(numbers[1446])
-        + u64::count_ones(numbers[1447])) as usize
+    (u64::count_ones(numbers[WORD_COLUMN])
+        + u64::count_ones(numbers[SECOND_WORD])
+        + u64::count_ones(numbers[THIRD_WORD])
+        + u64::count_ones(numbers[FOURTH_WORD])) as usize
 }
 
 // 12: fewer free labels than are needed.
 pub fn labels_short(numbers: &[u64], needed: usize) -> bool
-    requires { ⌜ length (now numbers) ≡ 1448 ⌝ }
+    requires { ⌜ Numbers (now numbers) ⌝ }
     ensures { λ r. ⌜ ((os : List ℕ) → r ≡ labelsShort (cardOf (now (numbers .entry)) os) needed) ⌝ }
 {
     free_labels(numbers) < needed
@@ -121,12 +129,12 @@ pub fn labels_short(numbers: &[u64], needed: usize) -> bool
 
 // The place of the lowest free label; 256 where none is free.
 pub fn lowest_free(numbers: &[u64]) -> usize
-    requires { ⌜ length (now numbers) ≡ 1448 ⌝ }
+    requires { ⌜ Numbers (now numbers) ⌝ }
     ensures { λ r. ⌜ ((os : List ℕ) → r ≡ place isFree (cardOf (now (numbers .entry)) os .labels)) × (r ≤ 256) × (r < 256 → isFreeAt (now (numbers .entry)) r ≡ true) ⌝ }
 {
     let mut w = 0;
     while w < 4 {
-        let x = numbers[1444 + w];
+        let x = numbers[WORD_COLUMN + w];
         if x != 0 {
             return w * 64 + u64::trailing_zeros(x) as usize;
         }
@@ -137,7 +145,7 @@ pub fn lowest_free(numbers: &[u64]) -> usize
 
 // A label that is not mapped is free from now on.
 pub fn free_label(numbers: &mut [u64], label: u64)
-    requires { ⌜ (length (now numbers) ≡ 1448) × (baseIn (now numbers) ≤ label) × (label < baseIn (now numbers) + 256) × (isMappedAt (now numbers) (label - baseIn (now numbers)) ≡ false) ⌝ }
+    requires { ⌜ Numbers (now numbers) × (baseIn (now numbers) ≤ label) × (label < baseIn (now numbers) + 256) × (isMappedAt (now numbers) (label - baseIn (now numbers)) ≡ false) ⌝ }
     ensures { λ _. ⌜ ((os : List ℕ) → cardOf (now (numbers .exit)) os ≡ setUse label free (cardOf (now (numbers .entry)) os)) ⌝ }
 {
     let p = (label - memory::base(numbers)) as usize;

@@ -1,12 +1,17 @@
 -- The lines that the bench program writes. Assumes nothing.
-use Prim.Native.Nat.{ℕ, _+_}
+use Prim.Native.Nat.{ℕ, _+_, _*_}
 use mathlib.Core.Path.{_≡_}
 use mathlib.Core.Bool.{Bool}
 use mathlib.Core.List.{List, [], _∷_, _++_}
 use lib.ListN.{length, take}
 use Rattle.meaning.specs.Octets.{pick}
 use Rattle.meaning.specs.Card.{Branch, Feed}
+use Rattle.meaning.specs.Save.{saveLimit}
 use Rattle.words.specs.Words.{ascii, numeral, hexOf}
+
+-- the space of a line's text: the digits of the longest save, and what stands around them
+abbrev pub textSpace : ℕ
+textSpace = 2 * saveLimit + 418
 
 -- `WORD N`
 unfoldable pub countLine : List ℕ → ℕ → List ℕ

@@ -4,9 +4,14 @@ ghost use mathlib.Core.Path.{_≡_};
 ghost use mathlib.Core.List.{[], _∷_};
 ghost use lib.ListN.{length, take};
 ghost use Rattle.meaning.specs.Card.{branchesFrom};
+ghost use Rattle.meaning.specs.Save.{saveLimit};
 ghost use Rattle.words.specs.Words.{numeral, hexOf};
 ghost use Rattle.lookups.specs.Feed.{feedIn};
-ghost use Rattle.lines.specs.Text.{countLine, recordsText, eventLine, branchesText, leafText, feedLine, Adds};
+ghost use Rattle.lines.specs.Text.{countLine, recordsText, eventLine, branchesText, leafText, feedLine, Adds, textSpace};
+use meaning::SAVE_DIGITS;
+
+// The space of a line's text, as `textSpace` in specs/Text.antt.
+pub const TEXT_SPACE: usize = SAVE_DIGITS + 418;
 
 // ---- parts of a line
 
@@ -109,9 +114,9 @@ pub fn put_count(text: &mut [u8], word: &[u8], n: u64) -> usize
 
 // `WORD ANSWER`, and the records' octets where there are any. A save is the longest that is written so.
 pub fn put_event(text: &mut [u8], word: &[u8], answer: u32, records: &[u8]) -> usize
-    requires { ⌜ (length (now word) ≤ 8) × (length (now records) ≤ 23343) × (47104 ≤ length (now text)) ⌝ }
+    requires { ⌜ (length (now word) ≤ 8) × (length (now records) ≤ saveLimit) × (textSpace ≤ length (now text)) ⌝ }
     ensures { λ r. ⌜ take r (now (text .exit)) ≡ eventLine (now (word .entry)) answer (now (records .entry)) ⌝ }
-    ensures { λ r. ⌜ r ≤ 47104 ⌝ }
+    ensures { λ r. ⌜ r ≤ textSpace ⌝ }
 {
     let at = put(text, 0, word);
     let at = put(text, at, b" ");
@@ -122,9 +127,9 @@ pub fn put_event(text: &mut [u8], word: &[u8], answer: u32, records: &[u8]) -> u
 
 // `WORD`, the leaf mark and the branches, or that there is nothing.
 pub fn put_feed(text: &mut [u8], word: &[u8], leaf: bool, branches: &[u64; 16]) -> usize
-    requires { ⌜ (length (now word) ≤ 8) × (47104 ≤ length (now text)) ⌝ }
+    requires { ⌜ (length (now word) ≤ 8) × (textSpace ≤ length (now text)) ⌝ }
     ensures { λ r. ⌜ take r (now (text .exit)) ≡ feedLine (now (word .entry)) (feedIn (now (branches .entry)) leaf) ⌝ }
-    ensures { λ r. ⌜ r ≤ 47104 ⌝ }
+    ensures { λ r. ⌜ r ≤ textSpace ⌝ }
 {
     let start = put(text, 0, word);
     let at = put_leaf(text, start, leaf);

@@ -2,15 +2,15 @@
 ghost use mathlib.Core.Path.{_≡_};
 ghost use mathlib.Core.List.{List};
 ghost use Prim.Native.Nat.{ℕ, _<_};
-ghost use lib.ListN.{length};
 ghost use Rattle.meaning.specs.Card.{treeAt, feedOf, lookupLabel, lookupName, nothing};
+ghost use Rattle.memory.specs.Sizes.{Numbers, Names};
 ghost use Rattle.memory.specs.Memory.{cardOf, treeCount};
 ghost use Rattle.lookups.specs.Feed.{feedIn};
 
 // Where the tree at place i leads while u is its upstream, whose own branch is held. The one place is cleared where the row
 // was laid, and nothing is read again: a load behind a store to a part of what it loads would wait for that store.
 fn feed_at(numbers: &[u64], i: usize, u: u64, branches: &mut [u64; 16]) -> bool
-    requires { ⌜ (length (now numbers) ≡ 1448) × (i < treeCount (now numbers)) × (i < 64) ⌝ }
+    requires { ⌜ Numbers (now numbers) × (i < treeCount (now numbers)) × (i < 64) ⌝ }
     ensures { λ r. ⌜ ((os : List ℕ) → feedIn (now (branches .exit)) r ≡ feedOf u (treeAt i (cardOf (now (numbers .entry)) os))) ⌝ }
 {
     *branches = table::branches(numbers, i);
@@ -28,7 +28,7 @@ fn no_feed(branches: &mut [u64; 16]) -> bool
 }
 
 pub fn find_label(numbers: &[u64], label: u64, branches: &mut [u64; 16]) -> bool
-    requires { ⌜ length (now numbers) ≡ 1448 ⌝ }
+    requires { ⌜ Numbers (now numbers) ⌝ }
     ensures { λ r. ⌜ ((os : List ℕ) → feedIn (now (branches .exit)) r ≡ lookupLabel label (cardOf (now (numbers .entry)) os)) ⌝ }
 {
     let sender = labels::mapped_to(numbers, label);
@@ -43,7 +43,7 @@ pub fn find_label(numbers: &[u64], label: u64, branches: &mut [u64; 16]) -> bool
 }
 
 pub fn find_name(numbers: &[u64], names: &[u8], element: &[u8], branches: &mut [u64; 16]) -> bool
-    requires { ⌜ (length (now numbers) ≡ 1448) × (length (now names) ≡ 18144) ⌝ }
+    requires { ⌜ Numbers (now numbers) × Names (now names) ⌝ }
     ensures { λ r. ⌜ feedIn (now (branches .exit)) r ≡ lookupName (now (element .entry)) (cardOf (now (numbers .entry)) (now (names .entry))) ⌝ }
 {
     if reader::element_refusal(element) != 0 {

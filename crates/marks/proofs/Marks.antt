@@ -9,12 +9,14 @@ use lib.Seq.{getD-set-same, getD-set-other, getD-take, getD-drop, length-take-le
 use lib.Dec.{eqb}
 use borrow.Author.Tests.{eqb-true, eqb-false}
 use Rattle.meaning.specs.Octets.{pick}
+use Rattle.meaning.specs.Wire.{nameLimit}
 use Rattle.meaning.specs.Lists.{by-test, picked}
 use Rattle.meaning.specs.Card.{Use, mapped, awaiting, withTrees, withLabels, withLabel, treeAt}
 use Rattle.meaning.specs.Events.{setUse, setLabel}
 use Rattle.octets.specs.Part.{mid}
 use Rattle.octets.proofs.Tab.{tab-ext, tab-set}
-use Rattle.memory.specs.Memory.{nameLimit, treeName, labelName, baseIn, treeCount, isFreeAt, markAt, markUse, markPlace, isMappedAt, labelIn, carriesAt, ownPlace, ownLabel, treeIn, cardOf, Relabelled}
+use Rattle.memory.specs.Sizes.{nameSpace, ownColumn, markColumn, wordColumn, wordCount, rootOctets, labelNames, rootNames, Numbers, Names}
+use Rattle.memory.specs.Memory.{treeName, labelName, baseIn, treeCount, isFreeAt, markAt, markUse, markPlace, isMappedAt, labelIn, carriesAt, ownPlace, ownLabel, treeIn, cardOf, Relabelled}
 use Rattle.memory.proofs.Memory.{treeCount-le, base-same, free-same, own-same, tree-with, tree-same, label-same, agree-refl, agree-set, tree-at}
 use Rattle.memory.proofs.Marks.{mapped-at, mapped-use, unmapped-free, label-mapped, label-awaiting, carried-in, not-mapped, not-named, own-some, relabelled-again, remarked, remarked-free, own-beside}
 use Rattle.memory.proofs.Laws.{label-at}
@@ -26,10 +28,10 @@ use Rattle.rows.proofs.Rows.{but-rows, but-trees}
 -- ---- a label mapped
 
 -- where the slot of the tree's name was copied, the label remembers the name
-remembered : (ns os ms qs : List ℕ) (p i n : ℕ) → n < 16 → i < treeCount ns → isFreeAt ms p ≡ false → markUse (markAt ms p) ≡ n → Carries (i * 55) (3520 + p * 55) 55 os qs → labelIn ms qs p ≡ mapped n (treeAt i (cardOf ns os) .name)
+remembered : (ns os ms qs : List ℕ) (p i n : ℕ) → n < 16 → i < treeCount ns → isFreeAt ms p ≡ false → markUse (markAt ms p) ≡ n → Carries (i * nameSpace) (labelNames + p * nameSpace) nameSpace os qs → labelIn ms qs p ≡ mapped n (treeAt i (cardOf ns os) .name)
 unfolding labelName treeIn treeName
 remembered ns os ms qs p i n hn hi f e h =
-    rw (label-mapped ms p qs f (omega arith), e, text-carried nameLimit (i * 55) (3520 + p * 55) os qs h, tree-at ns os i hi) refl
+    rw (label-mapped ms p qs f (omega arith), e, text-carried nameLimit (i * nameSpace) (labelNames + p * nameSpace) os qs h, tree-at ns os i hi) refl
 
 both-set : (ns os : List ℕ) (p i l : ℕ) (u : Use) → withTrees (set (cardOf ns os .trees) i (withLabel l (treeAt i (cardOf ns os)))) (withLabels (set (cardOf ns os .labels) p u) (cardOf ns os)) ≡ setLabel i l (setUse (baseIn ns + p) u (cardOf ns os))
 unfolding setLabel setUse withTrees withLabels treeAt cardOf
@@ -37,9 +39,9 @@ both-set ns os p i l u =
     let back : baseIn ns + p - baseIn ns ≡ p = omega arith in
     rw back refl
 
-pub map-label : (ns fs os qs : List ℕ) (p i n : ℕ) → length ns ≡ 1448 → length os ≡ 18144 → p < 256 → i < treeCount ns → i < 64 → n < 16 → isFreeAt ns p ≡ true
-    → Relabelled p ns fs → isFreeAt fs p ≡ false → qs ≡ mid (3520 + p * 55) 55 os (take 55 (drop (i * 55) os))
-    → cardOf (set (set fs (1188 + p) (n + 256 * i)) (36 + i) p) qs ≡ setLabel i (baseIn ns + p) (setUse (baseIn ns + p) (mapped n (treeAt i (cardOf ns os) .name)) (cardOf ns os))
+pub map-label : (ns fs os qs : List ℕ) (p i n : ℕ) → Numbers ns → Names os → p < 256 → i < treeCount ns → i < 64 → n < 16 → isFreeAt ns p ≡ true
+    → Relabelled p ns fs → isFreeAt fs p ≡ false → qs ≡ mid (labelNames + p * nameSpace) nameSpace os (take nameSpace (drop (i * nameSpace) os))
+    → cardOf (set (set fs (markColumn + p) (n + 256 * i)) (ownColumn + i) p) qs ≡ setLabel i (baseIn ns + p) (setUse (baseIn ns + p) (mapped n (treeAt i (cardOf ns os) .name)) (cardOf ns os))
 map-label ns fs os qs p i n hl ho hp hi h64 hn hf hr ht hq =
     but-rows ns ms os qs (set (cardOf ns os .trees) i (withLabel (baseIn ns + p) (treeAt i (cardOf ns os)))) (set (cardOf ns os .labels) p (mapped n (treeAt i (cardOf ns os) .name)))
     (λ j x y. keep j (omega arith) (λ e. omega arith))
@@ -55,29 +57,29 @@ map-label ns fs os qs p i n hl ho hp hi h64 hn hf hr ht hq =
     v = n + 256 * i
 
     ks : List ℕ
-    ks = set fs (1188 + p) v
+    ks = set fs (markColumn + p) v
 
     ms : List ℕ
-    ms = set ks (36 + i) p
+    ms = set ks (ownColumn + i) p
 
     r : Relabelled p ns ks
     r = relabelled-again p ns fs ks hr (remarked fs p v hp)
 
     -- the own label of the tree at i is none of the labels' numbers
     marks : (q : ℕ) → markAt ms q ≡ markAt ks q
-    marks q = getD-set-other ks (36 + i) (1188 + q) p 0 (λ e. omega arith)
+    marks q = getD-set-other ks (ownColumn + i) (markColumn + q) p 0 (λ e. omega arith)
 
     frees : (q : ℕ) → q < 256 → isFreeAt ms q ≡ isFreeAt ks q
-    frees = free-same ks ms os os (agree-set 1444 4 ks (36 + i) p (λ x y. omega arith))
+    frees = free-same ks ms os os (agree-set wordColumn wordCount ks (ownColumn + i) p (λ x y. omega arith))
 
-    keep : (j : ℕ) → j < 1188 → (j ≡ 36 + i → ⊥) → getD ms j 0 ≡ getD ns j 0
-    keep j lt me = getD-set-other ks (36 + i) j p 0 me ∙ r .rest j lt
+    keep : (j : ℕ) → j < markColumn → (j ≡ ownColumn + i → ⊥) → getD ms j 0 ≡ getD ns j 0
+    keep j lt me = getD-set-other ks (ownColumn + i) j p 0 me ∙ r .rest j lt
 
     count : getD ms 3 0 ≡ getD ns 3 0
     count = keep 3 (omega arith) (λ e. omega arith)
 
     mark : markAt ks p ≡ v
-    mark = getD-set-same fs (1188 + p) v 0 (omega (arith, hr .long))
+    mark = getD-set-same fs (markColumn + p) v 0 (omega (arith, hr .long))
 
     now : markAt ms p ≡ v
     now = marks p ∙ mark
@@ -86,19 +88,19 @@ map-label ns fs os qs p i n hl ho hp hi h64 hn hf hr ht hq =
     taken = frees p hp ∙ remarked-free fs p v hp ∙ ht
 
     own : ownPlace ms i ≡ p
-    own = getD-set-same ks (36 + i) p 0 (omega (arith, r .long))
+    own = getD-set-same ks (ownColumn + i) p 0 (omega (arith, r .long))
 
     slot : List ℕ
-    slot = take 55 (drop (i * 55) os)
+    slot = take nameSpace (drop (i * nameSpace) os)
 
-    part : length slot ≡ 55
-    part = length-take-le 55 (drop (i * 55) os) (simp length-drop (omega arith))
+    part : length slot ≡ nameSpace
+    part = length-take-le nameSpace (drop (i * nameSpace) os) (simp length-drop (omega arith))
 
-    w : Written (3520 + p * 55) slot os qs
-    w = rw hq (written (3520 + p * 55) 55 os slot (omega arith) part)
+    w : Written (labelNames + p * nameSpace) slot os qs
+    w = rw hq (written (labelNames + p * nameSpace) nameSpace os slot (omega arith) part)
 
-    copied : Carries (i * 55) (3520 + p * 55) 55 os qs
-    copied j lt = w .here j (omega (arith, part)) ∙ getD-take 55 (drop (i * 55) os) j 0 lt ∙ getD-drop (i * 55) os j 0
+    copied : Carries (i * nameSpace) (labelNames + p * nameSpace) nameSpace os qs
+    copied j lt = w .here j (omega (arith, part)) ∙ getD-take nameSpace (drop (i * nameSpace) os) j 0 lt ∙ getD-drop (i * nameSpace) os j 0
 
     base : baseIn ms ≡ baseIn ns
     base = base-same ns ms os qs (λ j x y. keep j (omega arith) (λ e. omega arith))
@@ -121,9 +123,9 @@ map-label ns fs os qs p i n hl ho hp hi h64 hn hf hr ht hq =
     other : (j : ℕ) → (j ≡ i → ⊥) → j < treeCount ns → treeIn ms qs j ≡ treeIn ns os j
     other j ne lt =
         let j64 : j < 64 = omega (arith, treeCount-le ns) in
-        let o : ownPlace ms j ≡ ownPlace ns j = keep (36 + j) (omega arith) (λ e. ne (omega arith)) in
+        let o : ownPlace ms j ≡ ownPlace ns j = keep (ownColumn + j) (omega arith) (λ e. ne (omega arith)) in
         tree-same ns ms os qs j
-        (rw o (own-same ks ms os os j (ownPlace ns j) (agree-set 0 1 ks (36 + i) p (λ x y. omega arith)) (λ h. marks (ownPlace ns j)) (λ h. frees (ownPlace ns j) h) ∙ others j (ownPlace ns j) ne))
+        (rw o (own-same ks ms os os j (ownPlace ns j) (agree-set 0 1 ks (ownColumn + i) p (λ x y. omega arith)) (λ h. marks (ownPlace ns j)) (λ h. frees (ownPlace ns j) h) ∙ others j (ownPlace ns j) ne))
         (λ k x y. keep k (omega arith) (λ e. omega arith))
         (λ k x y. w .rest k (λ u v. omega arith))
 
@@ -136,7 +138,7 @@ not-own ns os p j lt ne e =
     (λ t. absurd (ne (label-at ns os j lt ∙ rw e (own-some ns j p t))))
     (λ t. t)
 
-module _ (ns ks os qs a : List ℕ) (p n v : ℕ) (m : Bool) (hp : p < 256) (hn : n < 16) (ha : length a ≤ 54) (w : Written (3520 + p * 55) (length a ∷ a) os qs)
+module _ (ns ks os qs a : List ℕ) (p n v : ℕ) (m : Bool) (hp : p < 256) (hn : n < 16) (ha : length a ≤ nameLimit) (w : Written (labelNames + p * nameSpace) (length a ∷ a) os qs)
     (taken : Relabelled p ns ks) (not-free : isFreeAt ks p ≡ false) where
   used : (ms : List ℕ) → isFreeAt ms p ≡ false → markUse (markAt ms p) ≡ pick m n (n + 16) → labelIn ms qs p ≡ pick m (mapped n a) (awaiting n a)
   unfolding labelName
@@ -144,14 +146,14 @@ module _ (ns ks os qs a : List ℕ) (p n v : ℕ) (m : Bool) (hp : p < 256) (hn 
       by-test m
       (λ t.
       let u : markUse (markAt ms p) ≡ n = e ∙ rw t refl in
-      rw (t, label-mapped ms p qs f (omega arith), u, text-put nameLimit (3520 + p * 55) a os qs ha w) refl)
+      rw (t, label-mapped ms p qs f (omega arith), u, text-put nameLimit (labelNames + p * nameSpace) a os qs ha w) refl)
       (λ t.
       let u : markUse (markAt ms p) ≡ n + 16 = e ∙ rw t refl in
       let back : markUse (markAt ms p) - 16 ≡ n = omega arith in
-      rw (t, label-awaiting ms p qs f (omega arith), back, text-put nameLimit (3520 + p * 55) a os qs ha w) refl)
+      rw (t, label-awaiting ms p qs f (omega arith), back, text-put nameLimit (labelNames + p * nameSpace) a os qs ha w) refl)
 
-  pub put-use : length ns ≡ 1448 → ((j : ℕ) → j < treeCount ns → treeAt j (cardOf ns os) .label ≡ baseIn ns + p → ⊥) → v ≡ pick m n (n + 16)
-      → cardOf (set ks (1188 + p) (v + 16384)) qs ≡ withLabels (set (cardOf ns os .labels) p (pick m (mapped n a) (awaiting n a))) (cardOf ns os)
+  pub put-use : Numbers ns → ((j : ℕ) → j < treeCount ns → treeAt j (cardOf ns os) .label ≡ baseIn ns + p → ⊥) → v ≡ pick m n (n + 16)
+      → cardOf (set ks (markColumn + p) (v + 16384)) qs ≡ withLabels (set (cardOf ns os .labels) p (pick m (mapped n a) (awaiting n a))) (cardOf ns os)
   put-use hl hc hv =
       but-rows ns ms os qs (cardOf ns os .trees) (set (cardOf ns os .labels) p (pick m (mapped n a) (awaiting n a)))
       (λ j x y. both-ways .rest j (omega arith))
@@ -164,7 +166,7 @@ module _ (ns ks os qs a : List ℕ) (p n v : ℕ) (m : Bool) (hp : p < 256) (hn 
       ∙ unfold cardOf withTrees withLabels in refl
     where
       ms : List ℕ
-      ms = set ks (1188 + p) (v + 16384)
+      ms = set ks (markColumn + p) (v + 16384)
 
       both-ways : Relabelled p ns ms
       both-ways = relabelled-again p ns ks ms taken (remarked ks p (v + 16384) hp)
@@ -176,7 +178,7 @@ module _ (ns ks os qs a : List ℕ) (p n v : ℕ) (m : Bool) (hp : p < 256) (hn 
       small = rw hv (picked (λ (k : ℕ). k < 256) m (λ _. omega arith) (λ _. omega arith))
 
       now : markAt ms p ≡ v + 16384
-      now = getD-set-same ks (1188 + p) (v + 16384) 0 (omega (arith, taken .long))
+      now = getD-set-same ks (markColumn + p) (v + 16384) 0 (omega (arith, taken .long))
 
       count : getD ms 3 0 ≡ getD ns 3 0
       count = both-ways .rest 3 (omega arith)
@@ -187,20 +189,20 @@ module _ (ns ks os qs a : List ℕ) (p n v : ℕ) (m : Bool) (hp : p < 256) (hn 
       tree : (j : ℕ) → j < treeCount ns → treeIn ms qs j ≡ treeIn ns os j
       tree j lt =
           let j64 : j < 64 = omega (arith, treeCount-le ns) in
-          let o : ownPlace ms j ≡ ownPlace ns j = both-ways .rest (36 + j) (omega arith) in
+          let o : ownPlace ms j ≡ ownPlace ns j = both-ways .rest (ownColumn + j) (omega arith) in
           tree-same ns ms os qs j
           (rw o (own-beside ns ms p j (ownPlace ns j) both-ways (λ e. (rw e (not-own ns os p j lt (hc j lt) e), rw e (not-named ms j p (λ z. omega (arith, nowhere)))))))
           (λ k x y. both-ways .rest k (omega arith))
           (λ k x y. w .rest k (λ u z. omega arith))
 
-pub attach : (ns os : List ℕ) (p i : ℕ) → length ns ≡ 1448 → p < 256 → i < treeCount ns → i < 64 → isMappedAt ns p ≡ true → ((j : ℕ) → j < treeCount ns → treeAt j (cardOf ns os) .label ≡ baseIn ns + p → ⊥)
-    → cardOf (set (set ns (1188 + p) (markUse (markAt ns p) + 256 * i)) (36 + i) p) os ≡ setLabel i (baseIn ns + p) (cardOf ns os)
+pub attach : (ns os : List ℕ) (p i : ℕ) → Numbers ns → p < 256 → i < treeCount ns → i < 64 → isMappedAt ns p ≡ true → ((j : ℕ) → j < treeCount ns → treeAt j (cardOf ns os) .label ≡ baseIn ns + p → ⊥)
+    → cardOf (set (set ns (markColumn + p) (markUse (markAt ns p) + 256 * i)) (ownColumn + i) p) os ≡ setLabel i (baseIn ns + p) (cardOf ns os)
 unfolding setLabel
 attach ns os p i hl hp hi h64 hm hc =
     but-trees ns ms os os (set (cardOf ns os .trees) i (withLabel (baseIn ns + p) (treeAt i (cardOf ns os))))
     (λ j x y. keep j (λ e. omega arith) (λ e. omega arith))
     (λ j x y. keep j (λ e. omega arith) (λ e. omega arith))
-    (agree-refl 17600 544 os)
+    (agree-refl rootNames rootOctets os)
     uses
     (unfold cardOf treeCount in rw count (tab-set (treeCount ns) (treeIn ns os) (treeIn ms os) i _ hi this other))
   where
@@ -208,13 +210,13 @@ attach ns os p i hl hp hi h64 hm hc =
     v = markUse (markAt ns p) + 256 * i
 
     ks : List ℕ
-    ks = set ns (1188 + p) v
+    ks = set ns (markColumn + p) v
 
     ms : List ℕ
-    ms = set ks (36 + i) p
+    ms = set ks (ownColumn + i) p
 
-    keep : (j : ℕ) → (j ≡ 1188 + p → ⊥) → (j ≡ 36 + i → ⊥) → getD ms j 0 ≡ getD ns j 0
-    keep j ne me = getD-set-other ks (36 + i) j p 0 me ∙ getD-set-other ns (1188 + p) j v 0 ne
+    keep : (j : ℕ) → (j ≡ markColumn + p → ⊥) → (j ≡ ownColumn + i → ⊥) → getD ms j 0 ≡ getD ns j 0
+    keep j ne me = getD-set-other ks (ownColumn + i) j p 0 me ∙ getD-set-other ns (markColumn + p) j v 0 ne
 
     count : getD ms 3 0 ≡ getD ns 3 0
     count = keep 3 (λ e. omega arith) (λ e. omega arith)
@@ -226,10 +228,10 @@ attach ns os p i hl hp hi h64 hm hc =
     then-place = omega arith
 
     now : markAt ms p ≡ v
-    now = getD-set-other ks (36 + i) (1188 + p) p 0 (λ e. omega arith) ∙ getD-set-same ns (1188 + p) v 0 (omega arith)
+    now = getD-set-other ks (ownColumn + i) (markColumn + p) p 0 (λ e. omega arith) ∙ getD-set-same ns (markColumn + p) v 0 (omega arith)
 
     own : ownPlace ms i ≡ p
-    own = getD-set-same ks (36 + i) p 0 (rw length-set (omega arith))
+    own = getD-set-same ks (ownColumn + i) p 0 (rw length-set (omega arith))
 
     frees : (q : ℕ) → q < 256 → isFreeAt ms q ≡ isFreeAt ns q
     frees q lt = free-same ns ms os os (λ j x y. keep j (λ e. omega arith) (λ e. omega arith)) q lt
@@ -238,7 +240,7 @@ attach ns os p i hl hp hi h64 hm hc =
     uses q lt =
         by-test (eqb q p)
         (λ t. let e : q ≡ p = eqb-true q p t in rw e (use-kept ns ms os p (ap markUse now ∙ then-use) (frees p hp)))
-        (λ t. label-same ns ms os os q (keep (1188 + q) (λ e. eqb-false q p t (omega arith)) (λ e. omega arith)) (frees q lt) (agree-refl (3520 + q * 55) 55 os))
+        (λ t. label-same ns ms os os q (keep (markColumn + q) (λ e. eqb-false q p t (omega arith)) (λ e. omega arith)) (frees q lt) (agree-refl (labelNames + q * nameSpace) nameSpace os))
 
     carried : ownLabel ms i (ownPlace ms i) ≡ baseIn ns + p
     carried =
@@ -252,15 +254,15 @@ attach ns os p i hl hp hi h64 hm hc =
         rw (tree-at ns os i hi)
         (tree-with ns ms os os i (baseIn ns + p) carried
         (λ j x y. keep j (λ e. omega arith) (λ e. omega arith))
-        (agree-refl (i * 55) 55 os))
+        (agree-refl (i * nameSpace) nameSpace os))
 
     other : (j : ℕ) → (j ≡ i → ⊥) → j < treeCount ns → treeIn ms os j ≡ treeIn ns os j
     other j ne lt =
         let j64 : j < 64 = omega (arith, treeCount-le ns) in
-        let o : ownPlace ms j ≡ ownPlace ns j = keep (36 + j) (λ e. omega arith) (λ e. ne (omega arith)) in
+        let o : ownPlace ms j ≡ ownPlace ns j = keep (ownColumn + j) (λ e. omega arith) (λ e. ne (omega arith)) in
         tree-same ns ms os os j
-        (rw o (own-same ks ms os os j (ownPlace ns j) (agree-set 0 1 ks (36 + i) p (λ x y. omega arith)) (λ h. getD-set-other ks (36 + i) (1188 + ownPlace ns j) p 0 (λ e. omega arith))
-        (λ h. free-same ks ms os os (agree-set 1444 4 ks (36 + i) p (λ x y. omega arith)) (ownPlace ns j) h)
-        ∙ own-beside ns ks p j (ownPlace ns j) (remarked ns p v hp) (λ e. (rw e (not-own ns os p j lt (hc j lt) e), rw e (not-named ks j p (λ z. ne (sym z ∙ ap markPlace (getD-set-same ns (1188 + p) v 0 (omega arith)) ∙ then-place)))))))
+        (rw o (own-same ks ms os os j (ownPlace ns j) (agree-set 0 1 ks (ownColumn + i) p (λ x y. omega arith)) (λ h. getD-set-other ks (ownColumn + i) (markColumn + ownPlace ns j) p 0 (λ e. omega arith))
+        (λ h. free-same ks ms os os (agree-set wordColumn wordCount ks (ownColumn + i) p (λ x y. omega arith)) (ownPlace ns j) h)
+        ∙ own-beside ns ks p j (ownPlace ns j) (remarked ns p v hp) (λ e. (rw e (not-own ns os p j lt (hc j lt) e), rw e (not-named ks j p (λ z. ne (sym z ∙ ap markPlace (getD-set-same ns (markColumn + p) v 0 (omega arith)) ∙ then-place)))))))
         (λ k x y. keep k (λ e. omega arith) (λ e. omega arith))
-        (agree-refl (j * 55) 55 os)
+        (agree-refl (j * nameSpace) nameSpace os)

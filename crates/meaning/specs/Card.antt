@@ -1,13 +1,13 @@
 -- The card's table: routes, trees, labels, and what can be asked of it.
 -- Places do for absence: a search gives the list's length where it finds nothing, and reading there gives "no route", an empty tree, a free label.
 -- Assumes nothing: every definition means something on any table.
-use Prim.Native.Nat.{ℕ, suc, _+_, _-_}
+use Prim.Native.Nat.{ℕ, suc, _+_, _*_, _-_}
 use mathlib.Core.Bool.{Bool, true, false, not, _&&_, _||_}
 use mathlib.Core.List.{List, [], _∷_}
 use lib.ListN.{getD, length, set, replicate}
 use lib.Dec.{eqb, leb, ltb}
 use Rattle.meaning.specs.Octets.{pick, place, count, any, same}
-use Rattle.meaning.specs.Wire.{rootIn, elementRefusal}
+use Rattle.meaning.specs.Wire.{rootIn, elementRefusal, recordLimit}
 
 -- ---- sizes
 
@@ -19,6 +19,13 @@ routeLimit = 32
 
 abbrev pub labelCount : ℕ
 labelCount = 256
+
+abbrev pub neighbourCount : ℕ
+neighbourCount = 16
+
+-- the most octets that one call sends: two messages for each tree
+abbrev pub sentLimit : ℕ
+sentLimit = treeLimit * 2 * recordLimit
 
 -- ---- what the table holds
 

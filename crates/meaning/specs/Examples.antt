@@ -7,7 +7,7 @@ use lib.ListN.{replicate}
 use lib.Dec.{eqb}
 use Rattle.meaning.specs.Octets.{pick, same}
 use Rattle.meaning.specs.Wire.{rootIn, element, mapping, withdraw, release, octetsOf, recordOf}
-use Rattle.meaning.specs.Card.{Card, freeLabels, Branch, Feed, lookupLabel}
+use Rattle.meaning.specs.Card.{Card, freeLabels, Branch, Feed, lookupLabel, sentLimit}
 use Rattle.meaning.specs.Events.{Out, tell, Event, receive, route, event, start}
 use Rattle.meaning.specs.Computing.{computing}
 
@@ -15,7 +15,7 @@ use Rattle.meaning.specs.Computing.{computing}
 
 -- the room that is enough for any event
 abbrev pub enough : ℕ
-enough = 9984
+enough = sentLimit
 
 -- An event with so much room: the answer, the octets written, and of the card after it the number of free labels and what the lookup of one label gives.
 pub record Row : Type 0 where

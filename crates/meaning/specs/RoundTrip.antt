@@ -12,7 +12,7 @@ use lib.Seq.{drop-cons, drop-drop, take-append-seam, drop-append-seam}
 use lib.Dec.{eqb, leb}
 use borrow.Author.Tests.{eqb-true, ltb-true, leb-true, eq-eqb, ne-eqb, le-leb, not-false}
 use Rattle.meaning.specs.Octets.{any, two, four, twoAt, fourAt, _when_else_}
-use Rattle.meaning.specs.Wire.{addressLength, familyIn, rootLength, opaqueLength, rootIn, opaqueIn, isElement, opaqueLimit, isOpaque, elementRefusal, element, framed, after, tlvs, tlv, Message, isKind, isSized, isLabel, isOrdered, isOverrun, messageIn, octetsOf, messageRefusal, fecOf, labelOf, bodyOf, found, Sent, recordOf, records, nextId, recordsF}
+use Rattle.meaning.specs.Wire.{addressLength, familyIn, rootLength, opaqueLength, rootIn, opaqueIn, isElement, opaqueLimit, isOpaque, elementRefusal, element, framed, after, tlvs, tlv, Message, isKind, isSized, isLabel, isOrdered, isOverrun, messageIn, octetsOf, messageRefusal, fecOf, labelOf, bodyOf, found, Sent, recordOf, records, nextId, recordsF, nameLimit}
 use Rattle.meaning.specs.WireLaws.{tlvs-end, tlvs-step, element-0}
 use Rattle.meaning.specs.Lists.{by-test, no-when}
 
@@ -153,7 +153,7 @@ unfolding fourAt twoAt four
 four-back l h = omega arith
 
 module _ (id : ℕ) (m : Message) (g : Sayable m) where
-  name-length : length (m .name) ≤ 54
+  name-length : length (m .name) ≤ nameLimit
   name-length = let w = whole (m .name) (g .name) in omega (arith, w .fills, w .family .1, w .fits, w .opaque)
 
   body-back : tlvs (drop 8 (octetsOf id m)) ≡ framed (record { typeField = 0x0100; value = m .name } ∷ record { typeField = 0x0200; value = four (m .label) } ∷ [])
@@ -279,5 +279,5 @@ heard n s near e =
     record { near = near; name = element-0 (fecOf s .value) (not-false _ (p6 .0)) (not-false _ (p7 .0)); low = l .0; high = l .1 }
 
 -- a name that 6 and 7 pass has at most 22 octets besides its opaque value
-pub name-fits : (e : List ℕ) → elementRefusal e ≡ 0 → length e ≤ 22 + opaqueLimit
+pub name-fits : (e : List ℕ) → elementRefusal e ≡ 0 → length e ≤ nameLimit
 name-fits e ok = let w = whole e ok in omega (arith, w .fills, w .family, w .fits, w .opaque)

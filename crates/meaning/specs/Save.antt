@@ -9,9 +9,42 @@ use mathlib.Core.List.{List, [], _∷_, _++_}
 use lib.ListN.{take, drop, getD, length, set, replicate}
 use lib.Dec.{eqb, leb, ltb}
 use Rattle.meaning.specs.Octets.{pick, place, count, any, same, two, four, twoAt, fourAt, _when_else_, all}
-use Rattle.meaning.specs.Wire.{rootIn, opaqueIn, elementRefusal, element, opaqueLimit}
-use Rattle.meaning.specs.Card.{Route, Tree, Use, free, mapped, awaiting, Card, withLabel, treeLimit, routeLimit, labelCount, isFor, named, isEmpty, isFree, heldFor, useOf, treeOf, freeLabels}
+use Rattle.meaning.specs.Wire.{rootIn, opaqueIn, elementRefusal, element, rootLimit}
+use Rattle.meaning.specs.Card.{Route, Tree, Use, free, mapped, awaiting, Card, withLabel, treeLimit, routeLimit, labelCount, isFor, named, isEmpty, isFree, heldFor, useOf, treeOf, freeLabels, neighbourCount}
 use Rattle.meaning.specs.Events.{Out, roomShort, refuse, baseOutside, notRoot, upstreamOf}
+
+-- ---- sizes
+
+-- the space that an opaque value has in a save
+abbrev pub savedOpaque : ℕ
+savedOpaque = 32
+
+abbrev pub headSize : ℕ
+headSize = 15
+
+-- a name: the root and the opaque value, each with its length before it
+abbrev pub nameSize : ℕ
+nameSize = 1 + rootLimit + (1 + savedOpaque)
+
+abbrev pub routeSize : ℕ
+routeSize = 4 + (1 + rootLimit)
+
+-- in a tree's record the leaf mark stands behind the name, and the branches behind the mark
+abbrev pub leafPlace : ℕ
+leafPlace = 3 + nameSize
+
+abbrev pub branchPlace : ℕ
+branchPlace = leafPlace + 1
+
+abbrev pub treeSize : ℕ
+treeSize = branchPlace + 4 * neighbourCount
+
+abbrev pub useSize : ℕ
+useSize = 9 + nameSize
+
+-- the longest save of a table that keeps the rules
+abbrev pub saveLimit : ℕ
+saveLimit = headSize + routeLimit * routeSize + treeLimit * treeSize + labelCount * useSize
 
 -- ---- writing
 
@@ -23,9 +56,9 @@ padded n o = o ++ replicate (n - length o) 0
 unfoldable pub spaced : ℕ → List ℕ → List ℕ
 spaced n o = length (take n o) ∷ padded n (take n o)
 
--- a tree's name, of 50 octets: the root in a space of 16, and the opaque value in a space of 32
+-- a tree's name, of 50 octets: the root and the opaque value, each in its space
 unfoldable pub nameSaved : List ℕ → List ℕ
-nameSaved a = spaced 16 (rootIn a) ++ spaced opaqueLimit (opaqueIn a)
+nameSaved a = spaced rootLimit (rootIn a) ++ spaced savedOpaque (opaqueIn a)
 
 unfoldable pub marked : ℕ → List ℕ → List ℕ
 marked kind fields = 0x4C ∷ 0x53 ∷ kind ∷ fields
@@ -36,7 +69,7 @@ headSaved c = marked 1 (four (c .base) ++ (four (c .next) ++ (length (c .routes)
 
 -- 21 octets: the route's number, and the root in a space of 16
 unfoldable pub routeSaved : Route → List ℕ
-routeSaved r = marked 2 (r .via % 256 ∷ spaced 16 (r .root))
+routeSaved r = marked 2 (r .via % 256 ∷ spaced rootLimit (r .root))
 
 unfoldable pub foursOf : List ℕ → List ℕ
 foursOf [] = []
@@ -80,11 +113,11 @@ spacedIn n o = take (getD o 0 0) (take n (drop 1 o))
 
 unfoldable pub nameIn : List ℕ → List ℕ
 nameIn o =
-    let root = spacedIn 16 o in
-    element (pick (eqb (length root) 4) 1 2) root (spacedIn opaqueLimit (drop 17 o))
+    let root = spacedIn rootLimit o in
+    element (pick (eqb (length root) 4) 1 2) root (spacedIn savedOpaque (drop (1 + rootLimit) o))
 
 unfoldable pub routeRead : List ℕ → Route
-routeRead o = record { root = spacedIn 16 (drop 4 o); via = getD o 3 0 }
+routeRead o = record { root = spacedIn rootLimit (drop 4 o); via = getD o 3 0 }
 
 unfoldable pub foursIn : ℕ → List ℕ → List ℕ
 foursIn zero o = []
@@ -92,7 +125,7 @@ foursIn (suc n) o = fourAt o 0 ∷ foursIn n (drop 4 o)
 
 -- without its own label, which the labels give it
 unfoldable pub treeRead : List ℕ → Tree
-treeRead o = record { name = nameIn (drop 3 o); branches = foursIn 16 (drop 54 o); leaf = not (eqb (getD o 53 0) 0); label = 0 }
+treeRead o = record { name = nameIn (drop 3 o); branches = foursIn neighbourCount (drop branchPlace o); leaf = not (eqb (getD o leafPlace 0) 0); label = 0 }
 
 -- (a neighbour's number is read modulo 16, so that whatever is read has a place in the card's memory; what is not as it was written is refused below)
 unfoldable pub useRead : List ℕ → Use
@@ -103,16 +136,16 @@ useRead o =
 
 unfoldable pub routesRead : ℕ → List ℕ → List Route
 routesRead zero o = []
-routesRead (suc n) o = routeRead o ∷ routesRead n (drop 21 o)
+routesRead (suc n) o = routeRead o ∷ routesRead n (drop routeSize o)
 
 unfoldable pub treesRead : ℕ → List ℕ → List Tree
 treesRead zero o = []
-treesRead (suc n) o = treeRead o ∷ treesRead n (drop 118 o)
+treesRead (suc n) o = treeRead o ∷ treesRead n (drop treeSize o)
 
 -- the uses of a block from base on, where n label records follow one another
 unfoldable pub usesRead : ℕ → ℕ → List ℕ → List Use → List Use
 usesRead base zero o us = us
-usesRead base (suc n) o us = usesRead base n (drop 59 o) (set us (fourAt o 3 - base) (useRead o))
+usesRead base (suc n) o us = usesRead base n (drop useSize o) (set us (fourAt o 3 - base) (useRead o))
 
 -- a tree carries the label that is mapped for its name
 unfoldable pub isMappedFor : List ℕ → Use → Bool
@@ -135,9 +168,9 @@ tableIn o =
     let base = fourAt o 3 in
     let routes = getD o 11 0 in
     let trees = getD o 12 0 in
-    let afterRoutes = drop (15 + routes * 21) o in
-    let us = usesRead base (twoAt o 13) (drop (trees * 118) afterRoutes) (replicate labelCount free) in
-    record { base = base; next = fourAt o 7; routes = routesRead routes (drop 15 o); trees = allLabelled base us (treesRead trees afterRoutes); labels = us }
+    let afterRoutes = drop (headSize + routes * routeSize) o in
+    let us = usesRead base (twoAt o 13) (drop (trees * treeSize) afterRoutes) (replicate labelCount free) in
+    record { base = base; next = fourAt o 7; routes = routesRead routes (drop headSize o); trees = allLabelled base us (treesRead trees afterRoutes); labels = us }
 
 -- ---- the rules in force
 

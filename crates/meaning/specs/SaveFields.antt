@@ -12,12 +12,12 @@ use lib.Dec.{eqb, leb}
 use borrow.Author.Tests.{eqb-true, leb-true}
 use Rattle.meaning.specs.Octets.{pick, four, fourAt, twoAt, all}
 use Rattle.meaning.specs.Lists.{by-test, positive}
-use Rattle.meaning.specs.Wire.{addressLength, familyIn, rootLength, rootIn, opaqueIn, elementRefusal, element, opaqueLimit}
+use Rattle.meaning.specs.Wire.{addressLength, familyIn, rootLength, rootIn, opaqueIn, elementRefusal, element, rootLimit}
 use Rattle.meaning.specs.Card.{Route, Tree, mapped, awaiting, withLabel}
 use Rattle.meaning.specs.WireLaws.{element-family}
 use Rattle.meaning.specs.RoundTrip.{both, Whole, whole, root-size, element-parts}
 use Rattle.meaning.specs.NoticeLaws.{four-back}
-use Rattle.meaning.specs.Save.{isBranchLabel, padded, spaced, nameSaved, marked, routeSaved, foursOf, treeSaved, spacedIn, nameIn, routeRead, foursIn, treeRead, useRead}
+use Rattle.meaning.specs.Save.{isBranchLabel, padded, spaced, nameSaved, marked, routeSaved, foursOf, treeSaved, spacedIn, nameIn, routeRead, foursIn, treeRead, useRead, savedOpaque, nameSize, routeSize, treeSize, useSize}
 
 pub all-cons {ℓ} : {A : Type ℓ} (t : A → Bool) (x : A) (xs : List A) → all t (x ∷ xs) ≡ true → (t x ≡ true) × (all t xs ≡ true)
 unfolding all
@@ -46,9 +46,9 @@ module _ (n : ℕ) (o : List ℕ) (fits : length o ≤ n) where
 
 -- ---- a name
 
-pub name-length : (a : List ℕ) → length (nameSaved a) ≡ 50
+pub name-length : (a : List ℕ) → length (nameSaved a) ≡ nameSize
 unfolding nameSaved
-name-length a = length-append (spaced 16 (rootIn a)) (spaced opaqueLimit (opaqueIn a)) ∙ rw (spaced-length 16 (rootIn a), spaced-length opaqueLimit (opaqueIn a)) refl
+name-length a = length-append (spaced rootLimit (rootIn a)) (spaced savedOpaque (opaqueIn a)) ∙ rw (spaced-length rootLimit (rootIn a), spaced-length savedOpaque (opaqueIn a)) refl
 
 -- a known family by the length of its roots
 family-back : (f : ℕ) → 0 < addressLength f → pick (eqb (addressLength f) 4) 1 2 ≡ f
@@ -67,7 +67,7 @@ module _ (a : List ℕ) (ok : elementRefusal a ≡ 0) where
   some-root : 0 < rootLength a
   some-root = positive (rootLength a) (λ z. let six = element-family a z in omega arith)
 
-  pub root-fits : length (rootIn a) ≤ 16
+  pub root-fits : length (rootIn a) ≤ rootLimit
   root-fits = rw root-long (whole a ok .family .1)
 
   pub name-back : (rest : List ℕ) → nameIn (nameSaved a ++ rest) ≡ a
@@ -75,19 +75,19 @@ module _ (a : List ℕ) (ok : elementRefusal a ≡ 0) where
   name-back rest =
       let w : Whole a = whole a ok in
       rw append-assoc
-      (rw (spaced-back 16 (rootIn a) root-fits (spaced opaqueLimit (opaqueIn a) ++ rest), drop-at (spaced 16 (rootIn a)) (spaced opaqueLimit (opaqueIn a) ++ rest) 17 (spaced-length 16 (rootIn a)), spaced-back opaqueLimit (opaqueIn a) (w .fits) rest)
+      (rw (spaced-back rootLimit (rootIn a) root-fits (spaced savedOpaque (opaqueIn a) ++ rest), drop-at (spaced rootLimit (rootIn a)) (spaced savedOpaque (opaqueIn a) ++ rest) (1 + rootLimit) (spaced-length rootLimit (rootIn a)), spaced-back savedOpaque (opaqueIn a) (w .fits) rest)
       (ap (λ (f : ℕ). element f (rootIn a) (opaqueIn a)) (rw root-long (unfold rootLength in family-back (familyIn a) (unfold rootLength in some-root))) ∙ sym (element-parts a ok)))
 
 -- ---- a route: 21 octets
 
-pub route-length : (r : Route) → length (routeSaved r) ≡ 21
+pub route-length : (r : Route) → length (routeSaved r) ≡ routeSize
 unfolding routeSaved marked
-route-length r = omega (arith, spaced-length 16 (r .root))
+route-length r = omega (arith, spaced-length rootLimit (r .root))
 
 -- (via is written modulo 256, so that a card which keeps no rule is written in octets too)
-pub route-back : (r : Route) → length (r .root) ≤ 16 → r .via < 256 → (rest : List ℕ) → routeRead (routeSaved r ++ rest) ≡ r
+pub route-back : (r : Route) → length (r .root) ≤ rootLimit → r .via < 256 → (rest : List ℕ) → routeRead (routeSaved r ++ rest) ≡ r
 unfolding routeRead routeSaved marked
-route-back r fits low rest = let same-via : r .via % 256 ≡ r .via = omega arith in λ i. record { root = spaced-back 16 (r .root) fits rest i; via = same-via i }
+route-back r fits low rest = let same-via : r .via % 256 ≡ r .via = omega arith in λ i. record { root = spaced-back rootLimit (r .root) fits rest i; via = same-via i }
 
 -- ---- branches: four octets each
 
@@ -111,7 +111,7 @@ fours-back (b ∷ bs) rest h = let p = all-cons isBranchLabel b bs h in ap₂ _�
 -- ---- a tree: 118 octets
 
 module _ (t : Tree) (sixteen : length (t .branches) ≡ 16) where
-  pub tree-length : length (treeSaved t) ≡ 118
+  pub tree-length : length (treeSaved t) ≡ treeSize
   unfolding treeSaved marked
   tree-length = simp length-append (omega (arith, name-length (t .name), fours-length (t .branches)))
 
@@ -121,11 +121,11 @@ module _ (t : Tree) (sixteen : length (t .branches) ≡ 16) where
   tree-back ok rest h =
       let name : List ℕ = nameSaved (t .name) in
       let more : List ℕ = pick (t .leaf) 1 0 ∷ (foursOf (t .branches) ++ rest) in
-      let long : length name ≡ 50 = name-length (t .name) in
+      let long : length name ≡ nameSize = name-length (t .name) in
       let its-name : nameIn (name ++ more) ≡ t .name = name-back (t .name) ok more in
-      let its-leaf : getD (name ++ more) 50 0 ≡ pick (t .leaf) 1 0 = getD-at name (pick (t .leaf) 1 0) (foursOf (t .branches) ++ rest) 0 50 long in
-      let after : drop 51 (name ++ more) ≡ foursOf (t .branches) ++ rest = sym (drop-drop 1 50 (name ++ more)) ∙ ap (drop 1) (drop-at name more 50 long) in
-      let its-branches : foursIn 16 (drop 51 (name ++ more)) ≡ t .branches = ap (foursIn 16) after ∙ subst (λ (n : ℕ). foursIn n (foursOf (t .branches) ++ rest) ≡ t .branches) sixteen (fours-back (t .branches) rest h) in
+      let its-leaf : getD (name ++ more) nameSize 0 ≡ pick (t .leaf) 1 0 = getD-at name (pick (t .leaf) 1 0) (foursOf (t .branches) ++ rest) 0 nameSize long in
+      let after : drop (nameSize + 1) (name ++ more) ≡ foursOf (t .branches) ++ rest = sym (drop-drop 1 nameSize (name ++ more)) ∙ ap (drop 1) (drop-at name more nameSize long) in
+      let its-branches : foursIn 16 (drop (nameSize + 1) (name ++ more)) ≡ t .branches = ap (foursIn 16) after ∙ subst (λ (n : ℕ). foursIn n (foursOf (t .branches) ++ rest) ≡ t .branches) sixteen (fours-back (t .branches) rest h) in
       rw append-assoc (λ i. record { name = its-name i; branches = its-branches i; leaf = (ap (λ (n : ℕ). not (eqb n 0)) its-leaf ∙ leaf-back (t .leaf)) i; label = 0 })
     where
       leaf-back : (b : Bool) → not (eqb (pick b 1 0) 0) ≡ b
@@ -139,7 +139,7 @@ unfoldable pub useRecord : ℕ → ℕ → ℕ → List ℕ → List ℕ
 useRecord l state n a = marked 4 (four l ++ (state ∷ n ∷ nameSaved a))
 
 module _ (l state n : ℕ) (a : List ℕ) where
-  pub use-length : length (useRecord l state n a) ≡ 59
+  pub use-length : length (useRecord l state n a) ≡ useSize
   unfolding useRecord marked four
   use-length = omega (arith, name-length a)
 
@@ -148,8 +148,8 @@ module _ (l state n : ℕ) (a : List ℕ) where
     unfolding useRecord marked four fourAt twoAt
     use-label h = four-back l h
 
-    pub use-after : drop 59 (useRecord l state n a ++ rest) ≡ rest
-    use-after = drop-at (useRecord l state n a) rest 59 use-length
+    pub use-after : drop useSize (useRecord l state n a ++ rest) ≡ rest
+    use-after = drop-at (useRecord l state n a) rest useSize use-length
 
     pub use-back : elementRefusal a ≡ 0 → n < 16 → useRead (useRecord l state n a ++ rest) ≡ pick (eqb state 1) (mapped n a) (awaiting n a)
     unfolding useRead useRecord marked four

@@ -16,7 +16,7 @@ use Rattle.meaning.specs.Card.{Tree, Use, free, mapped, awaiting, Card, 
 use Rattle.meaning.specs.Events.{refuse, roomShort}
 use Rattle.meaning.specs.RoundTrip.{both, two-back}
 use Rattle.meaning.specs.NoticeLaws.{four-back}
-use Rattle.meaning.specs.Save.{marked, headSaved, routesSaved, treesSaved, usesSaved, saved, save, routesRead, treesRead, usesRead, isMappedFor, allLabelled, tableIn, isCarried, isTree, carriesOwn, keepsRules, isSave, restore}
+use Rattle.meaning.specs.Save.{marked, headSaved, routesSaved, treesSaved, usesSaved, saved, save, routesRead, treesRead, usesRead, isMappedFor, allLabelled, tableIn, isCarried, isTree, carriesOwn, keepsRules, isSave, restore, headSize, routeSize, treeSize, useSize, saveLimit}
 use Rattle.meaning.specs.SaveRules.{all-at, Rules, rules}
 use Rattle.meaning.specs.SaveLists.{either, tree-ok, routes-length, routes-back, trees-length, trees-back, labelFor, labels-back, inUse, used-free, uses-length, uses-back}
 
@@ -40,7 +40,7 @@ module _ (c : Card) (many : length (c .labels) ≡ labelCount) where
   used-count = let n = used-free (c .labels) in omega arith
 
   -- for any table of 256 labels, whose trees have sixteen branches
-  pub length-is : ((i : ℕ) → i < length (c .trees) → length (treeAt i c .branches) ≡ 16) → length (saved c) ≡ 15 + 21 * length (c .routes) + 118 * length (c .trees) + 59 * (labelCount - freeLabels c)
+  pub length-is : ((i : ℕ) → i < length (c .trees) → length (treeAt i c .branches) ≡ 16) → length (saved c) ≡ headSize + routeSize * length (c .routes) + treeSize * length (c .trees) + useSize * (labelCount - freeLabels c)
   unfolding saved headSaved marked four two treeAt
   length-is sixteen = simp length-append (omega (arith, routes-length (c .routes), trees-length (c .trees) sixteen, uses-length (c .base) (c .labels), used-count))
 
@@ -101,22 +101,22 @@ module _ (c : Card) (R : Rules c) where
   unfolding saved headSaved marked four two twoAt
   head-labels = two-back (labelCount - freeLabels c) (omega arith) ∙ used-count c (R .many)
 
-  after-head : drop 15 (saved c) ≡ routesSaved (c .routes) ++ (treesSaved (c .trees) ++ usesSaved (c .base) (c .labels))
+  after-head : drop headSize (saved c) ≡ routesSaved (c .routes) ++ (treesSaved (c .trees) ++ usesSaved (c .base) (c .labels))
   unfolding saved headSaved marked four two
   after-head = refl
 
-  after-routes : drop (15 + length (c .routes) * 21) (saved c) ≡ treesSaved (c .trees) ++ usesSaved (c .base) (c .labels)
+  after-routes : drop (headSize + length (c .routes) * routeSize) (saved c) ≡ treesSaved (c .trees) ++ usesSaved (c .base) (c .labels)
   after-routes =
-      sym (drop-drop (length (c .routes) * 21) 15 (saved c))
-      ∙ ap (drop (length (c .routes) * 21)) after-head
-      ∙ drop-at (routesSaved (c .routes)) (treesSaved (c .trees) ++ usesSaved (c .base) (c .labels)) (length (c .routes) * 21) (routes-length (c .routes))
+      sym (drop-drop (length (c .routes) * routeSize) headSize (saved c))
+      ∙ ap (drop (length (c .routes) * routeSize)) after-head
+      ∙ drop-at (routesSaved (c .routes)) (treesSaved (c .trees) ++ usesSaved (c .base) (c .labels)) (length (c .routes) * routeSize) (routes-length (c .routes))
 
-  after-trees : drop (length (c .trees) * 118) (treesSaved (c .trees) ++ usesSaved (c .base) (c .labels)) ≡ usesSaved (c .base) (c .labels)
-  after-trees = drop-at (treesSaved (c .trees)) (usesSaved (c .base) (c .labels)) (length (c .trees) * 118) (trees-length (c .trees) (unfold treeAt in sixteen-each))
+  after-trees : drop (length (c .trees) * treeSize) (treesSaved (c .trees) ++ usesSaved (c .base) (c .labels)) ≡ usesSaved (c .base) (c .labels)
+  after-trees = drop-at (treesSaved (c .trees)) (usesSaved (c .base) (c .labels)) (length (c .trees) * treeSize) (trees-length (c .trees) (unfold treeAt in sixteen-each))
 
   -- ---- the three lists
 
-  its-routes : routesRead (length (c .routes)) (drop 15 (saved c)) ≡ c .routes
+  its-routes : routesRead (length (c .routes)) (drop headSize (saved c)) ≡ c .routes
   its-routes = rw after-head (routes-back (c .routes) (treesSaved (c .trees) ++ usesSaved (c .base) (c .labels)) (R .routes))
 
   its-labels : usesRead (c .base) (count inUse (c .labels)) (usesSaved (c .base) (c .labels)) (replicate labelCount free) ≡ c .labels
@@ -140,10 +140,10 @@ module _ (c : Card) (R : Rules c) where
 pub read-back : (c : Card) → keepsRules c ≡ true → tableIn (saved c) ≡ c
 read-back c h = table-back c (rules c h)
 
-pub saved-length : (c : Card) → keepsRules c ≡ true → length (saved c) ≡ 15 + 21 * length (c .routes) + 118 * length (c .trees) + 59 * (labelCount - freeLabels c)
+pub saved-length : (c : Card) → keepsRules c ≡ true → length (saved c) ≡ headSize + routeSize * length (c .routes) + treeSize * length (c .trees) + useSize * (labelCount - freeLabels c)
 saved-length c h = let R = rules c h in length-is c (R .many) (sixteen-each c R)
 
-pub saved-short : (c : Card) → keepsRules c ≡ true → length (saved c) ≤ 23343
+pub saved-short : (c : Card) → keepsRules c ≡ true → length (saved c) ≤ saveLimit
 saved-short c h = let R = rules c h in omega (arith, saved-length c h, R .few-routes, R .few-trees)
 
 -- A save with too little room is refused 16; otherwise it is written whole.

@@ -12,11 +12,11 @@ use lib.Dec.{eqb, leb, ltb}
 use borrow.Author.Tests.{eqb-true, leb-true, ltb-true, not-true, not-false}
 use Rattle.meaning.specs.Octets.{pick, place, count, all}
 use Rattle.meaning.specs.Lists.{by-test}
-use Rattle.meaning.specs.Wire.{elementRefusal}
+use Rattle.meaning.specs.Wire.{elementRefusal, rootLimit}
 use Rattle.meaning.specs.Card.{Route, Tree, Use, free, mapped, awaiting, withLabel, bare, isFree, isEmpty}
 use Rattle.meaning.specs.Events.{notRoot}
 use Rattle.meaning.specs.RoundTrip.{both}
-use Rattle.meaning.specs.Save.{routeSaved, treeSaved, useSaved, routesSaved, treesSaved, usesSaved, routesRead, treesRead, usesRead, isMappedFor, labelled, allLabelled, isName, isRoute, isBranchLabel, isTree, isUse}
+use Rattle.meaning.specs.Save.{routeSaved, treeSaved, useSaved, routesSaved, treesSaved, usesSaved, routesRead, treesRead, usesRead, isMappedFor, labelled, allLabelled, isName, isRoute, isBranchLabel, isTree, isUse, routeSize, treeSize, useSize}
 use Rattle.meaning.specs.SaveFields.{all-cons, route-length, route-back, tree-length, tree-back, useRecord, use-length, use-label, use-after, use-back}
 
 -- ---- what the tests of one record tell
@@ -29,7 +29,7 @@ pub name-ok : (a : List ℕ) → isName a ≡ true → elementRefusal a ≡ 0
 unfolding isName
 name-ok a h = eqb-true _ _ h
 
-pub route-ok : (r : Route) → isRoute r ≡ true → (length (r .root) ≤ 16) × (r .via ≤ 16)
+pub route-ok : (r : Route) → isRoute r ≡ true → (length (r .root) ≤ rootLimit) × (r .via ≤ 16)
 unfolding isRoute notRoot
 route-ok r h =
     let n : ℕ = length (r .root) in
@@ -62,7 +62,7 @@ awaiting-ok n a h = let p = both (ltb n 16) (isName a) h in (ltb-true n 16 (p .0
 
 -- ---- routes
 
-pub routes-length : (rs : List Route) → length (routesSaved rs) ≡ length rs * 21
+pub routes-length : (rs : List Route) → length (routesSaved rs) ≡ length rs * routeSize
 unfolding routesSaved
 routes-length [] = refl
 routes-length (r ∷ rs) = length-append (routeSaved r) (routesSaved rs) ∙ omega (arith, route-length r, routes-length rs)
@@ -75,11 +75,11 @@ routes-back (r ∷ rs) rest h =
     let ok = route-ok r (p .0) in
     rw append-assoc
     (ap₂ _∷_ (route-back r (ok .0) (omega (arith, ok .1)) (routesSaved rs ++ rest))
-    (rw (drop-at (routeSaved r) (routesSaved rs ++ rest) 21 (route-length r)) (routes-back rs rest (p .1))))
+    (rw (drop-at (routeSaved r) (routesSaved rs ++ rest) routeSize (route-length r)) (routes-back rs rest (p .1))))
 
 -- ---- trees
 
-pub trees-length : (ts : List Tree) → ((i : ℕ) → i < length ts → length (getD ts i (bare []) .branches) ≡ 16) → length (treesSaved ts) ≡ length ts * 118
+pub trees-length : (ts : List Tree) → ((i : ℕ) → i < length ts → length (getD ts i (bare []) .branches) ≡ 16) → length (treesSaved ts) ≡ length ts * treeSize
 unfolding treesSaved
 trees-length [] h = refl
 trees-length (t ∷ ts) h = length-append (treeSaved t) (treesSaved ts) ∙ omega (arith, tree-length t (h 0 (suc-le-suc zero-le)), trees-length ts (λ i k. h (suc i) (suc-le-suc k)))
@@ -97,7 +97,7 @@ trees-back (t ∷ ts) rest h =
     let ok = tree-ok t (p .0) in
     rw append-assoc
     (ap₂ _∷_ (tree-back t (ok .sixteen) (ok .name) (treesSaved ts ++ rest) (ok .labels))
-    (rw (drop-at (treeSaved t) (treesSaved ts ++ rest) 118 (tree-length t (ok .sixteen))) (trees-back ts rest (p .1))))
+    (rw (drop-at (treeSaved t) (treesSaved ts ++ rest) treeSize (tree-length t (ok .sixteen))) (trees-back ts rest (p .1))))
 
 -- the label that the labels give to a tree
 unfoldable pub labelFor : ℕ → List Use → List ℕ → ℕ
@@ -122,7 +122,7 @@ used-free (u ∷ us) =
     let n = used-free us in
     by-test (isFree u) (λ e. rw e (omega arith)) (λ e. rw e (omega arith))
 
-pub uses-length : (l : ℕ) (us : List Use) → length (usesSaved l us) ≡ count inUse us * 59
+pub uses-length : (l : ℕ) (us : List Use) → length (usesSaved l us) ≡ count inUse us * useSize
 unfolding usesSaved useSaved count inUse isFree useRecord
 uses-length l [] = refl
 uses-length l (free ∷ us) = uses-length (suc l) us

@@ -42,6 +42,18 @@ isElement e =
 abbrev pub opaqueLimit : ℕ
 opaqueLimit = 32
 
+-- the longest root
+abbrev pub rootLimit : ℕ
+rootLimit = 16
+
+-- the longest name: six octets besides its root and its opaque value
+abbrev pub nameLimit : ℕ
+nameLimit = 6 + rootLimit + opaqueLimit
+
+-- the longest record of a message that names a tree: 24 octets besides its name
+abbrev pub recordLimit : ℕ
+recordLimit = 24 + nameLimit
+
 -- what 7 asks
 unfoldable pub isOpaque : List ℕ → Bool
 isOpaque o = ltb 0 (length o) && leb (length o) opaqueLimit

@@ -10,7 +10,7 @@ use lib.ListN.{take, drop, getD, length, length-drop}
 use lib.Dec.{leb}
 use borrow.Author.Tests.{eq-eqb, ne-eqb, lt-leb, le-leb, lt-ltb}
 use Rattle.meaning.specs.Octets.{pick, _when_else_}
-use Rattle.meaning.specs.Wire.{framed, overrun, after, tlvsF, tlvs, rootLength, opaqueLength, opaqueIn, isElement, isOpaque, elementRefusal}
+use Rattle.meaning.specs.Wire.{framed, overrun, after, tlvsF, tlvs, rootLength, opaqueLength, opaqueIn, isElement, isOpaque, elementRefusal, opaqueLimit}
 
 -- any count above the length gives the same
 tlvs-same : (f g : ℕ) (s : List ℕ) → length s < f → length s < g → tlvsF f s ≡ tlvsF g s
@@ -100,10 +100,10 @@ module _ (e : List ℕ) where
     unfolding isOpaque
     opaque-none z = simp (long, z, false-and)
 
-    pub opaque-long : 32 < k → isOpaque (opaqueIn e) ≡ false
+    pub opaque-long : opaqueLimit < k → isOpaque (opaqueIn e) ≡ false
     unfolding isOpaque
-    opaque-long h = simp (long, lt-leb k 32 h, and-false)
+    opaque-long h = simp (long, lt-leb k opaqueLimit h, and-false)
 
-    pub opaque-right : 0 < k → k ≤ 32 → isOpaque (opaqueIn e) ≡ true
+    pub opaque-right : 0 < k → k ≤ opaqueLimit → isOpaque (opaqueIn e) ≡ true
     unfolding isOpaque
-    opaque-right h₁ h₂ = simp (long, lt-ltb 0 k h₁, le-leb k 32 h₂)
+    opaque-right h₁ h₂ = simp (long, lt-ltb 0 k h₁, le-leb k opaqueLimit h₂)

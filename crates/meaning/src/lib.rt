@@ -1,0 +1,44 @@
+// The numbers of the definitions, for the lengths of arrays and the places in them: specs/Wire, Card and Save say the same, and the
+// proofs hold what is written here to them. A contract speaks of those.
+pub const OPAQUE_LIMIT: usize = 32;
+
+pub const ROOT_LIMIT: usize = 16;
+
+pub const NAME_LIMIT: usize = 6 + ROOT_LIMIT + OPAQUE_LIMIT;
+
+pub const RECORD_LIMIT: usize = 24 + NAME_LIMIT;
+
+pub const TREE_LIMIT: usize = 64;
+
+pub const ROUTE_LIMIT: usize = 32;
+
+pub const LABEL_COUNT: usize = 256;
+
+pub const NEIGHBOUR_COUNT: usize = 16;
+
+pub const SENT_LIMIT: usize = TREE_LIMIT * 2 * RECORD_LIMIT;
+// of a save
+pub const SAVED_OPAQUE: usize = 32;
+
+pub const SAVED_ROOT_SPACE: usize = 1 + ROOT_LIMIT;
+
+pub const HEAD_SIZE: usize = 15;
+
+pub const NAME_SIZE: usize = SAVED_ROOT_SPACE + (1 + SAVED_OPAQUE);
+
+pub const ROUTE_SIZE: usize = 4 + SAVED_ROOT_SPACE;
+
+pub const LEAF_PLACE: usize = 3 + NAME_SIZE;
+
+pub const BRANCH_PLACE: usize = LEAF_PLACE + 1;
+
+pub const TREE_SIZE: usize = BRANCH_PLACE + 4 * NEIGHBOUR_COUNT;
+
+pub const USE_SIZE: usize = 9 + NAME_SIZE;
+
+pub const SAVE_LIMIT: usize = HEAD_SIZE
+    + ROUTE_LIMIT * ROUTE_SIZE
+    + TREE_LIMIT * TREE_SIZE
+    + LABEL_COUNT * USE_SIZE;
+// its digits in hex
+pub const SAVE_DIGITS: usize = 2 * SAVE_LIMIT;

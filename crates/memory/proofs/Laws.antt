@@ -13,11 +13,12 @@ use lib.Count.{ones, ones-le, trailingZeros}
 use borrow.Author.Tests.{lt-ltb, ltb-true, ltb-false, le-leb, lt-leb, eq-eqb, ne-eqb}
 use Rattle.meaning.specs.Octets.{any, place, count, same}
 use Rattle.meaning.specs.Lists.{by-test, getD-out}
-use Rattle.meaning.specs.Card.{Route, Tree, Use, withNext, withTrees, withBranch, withLeaf, withLabel, treeAt, isBranch, named, treePlace, free, withLabels, isFree, isAwaiting, mappedTo, useOf, heldFor, freeLabels, carries, isFor, routePlace, routeOf, mapped, awaiting}
+use Rattle.meaning.specs.Card.{Route, Tree, Use, withNext, withTrees, withBranch, withLeaf, withLabel, treeAt, isBranch, named, treePlace, free, withLabels, isFree, isAwaiting, mappedTo, useOf, heldFor, freeLabels, carries, isFor, routePlace, routeOf, mapped, awaiting, treeLimit, routeLimit}
 use Rattle.meaning.specs.Events.{baseOutside, setLabel, setUse, ended}
 use Rattle.octets.specs.Part.{tab}
 use Rattle.octets.proofs.Tab.{tab-length, tab-get, tab-ext, tab-set, place-start, place-hit, place-miss, place-none, count-none}
 use Rattle.octets.proofs.Bits.{trailing-bit, Says, place-word, place-empty, count-word}
+use Rattle.memory.specs.Sizes.{nameSpace, routeColumn, ownColumn, rowWidth, rowColumn, branchColumn, rowNumbers, markColumn, wordCount, labelNumbers, treeOctets, labelOctets, rootOctets, labelNames, rootNames, Numbers}
 use Rattle.memory.specs.Memory.{upTo, textAt, treeName, baseIn, nextIn, routeCount, treeCount, routeIn, wordAt, isFreeAt, markAt, markUse, markPlace, isMappedAt, labelIn, ownPlace, carriesAt, ownLabel, treeIn, labelName, rootName, cardOf, Relabelled}
 use Rattle.memory.proofs.Memory.{treeCount-le, base-range, text-part, text-le, base-same, next-same, routes-same, own-kept, tree-with, tree-same, trees-same, label-same, labels-same, agree-refl, agree-set, tree-at}
 use Rattle.memory.proofs.Marks.{never, mapped-at, mapped-use, unmapped-free, unmapped-above, label-free, label-mapped, label-awaiting, free-in, remarked, remarked-free, carried-in, carried-out, not-mapped, not-named, own-some, own-none, own-beside}
@@ -54,27 +55,27 @@ module _ (ns os : List ℕ) (k v : ℕ) where
   pub next-away : 2 ≤ k → nextIn (set ns k v) ≡ nextIn ns
   next-away h = next-same ns (set ns k v) os os (agree-set 1 1 ns k v (λ a b. omega arith))
 
-  pub routes-away : (2 ≤ k → k < 36 → ⊥) → tab (routeCount (set ns k v)) (routeIn (set ns k v) os) ≡ tab (routeCount ns) (routeIn ns os)
+  pub routes-away : (2 ≤ k → k < ownColumn → ⊥) → tab (routeCount (set ns k v)) (routeIn (set ns k v) os) ≡ tab (routeCount ns) (routeIn ns os)
   routes-away h =
       routes-same ns (set ns k v) os os
       (agree-set 2 1 ns k v (λ a b. h (omega arith) (omega arith)))
-      (agree-set 4 32 ns k v (λ a b. h (omega arith) (omega arith)))
-      (agree-refl 17600 544 os)
+      (agree-set routeColumn routeLimit ns k v (λ a b. h (omega arith) (omega arith)))
+      (agree-refl rootNames rootOctets os)
 
   pub trees-away : 1 ≤ k → k < 3 → tab (treeCount (set ns k v)) (treeIn (set ns k v) os) ≡ tab (treeCount ns) (treeIn ns os)
   trees-away g h =
       trees-same ns (set ns k v) os os
       (agree-set 0 1 ns k v (λ a b. omega arith))
       (agree-set 3 1 ns k v (λ a b. omega arith))
-      (agree-set 36 64 ns k v (λ a b. omega arith))
-      (agree-set 100 1088 ns k v (λ a b. omega arith))
-      (agree-set 1188 260 ns k v (λ a b. omega arith))
-      (agree-refl 0 3520 os)
+      (agree-set ownColumn treeLimit ns k v (λ a b. omega arith))
+      (agree-set rowColumn rowNumbers ns k v (λ a b. omega arith))
+      (agree-set markColumn labelNumbers ns k v (λ a b. omega arith))
+      (agree-refl 0 treeOctets os)
 
-  pub labels-away : k < 1188 → tab 256 (labelIn (set ns k v) os) ≡ tab 256 (labelIn ns os)
-  labels-away h = labels-same ns (set ns k v) os os (agree-set 1188 260 ns k v (λ a b. omega arith)) (agree-refl 3520 14080 os)
+  pub labels-away : k < markColumn → tab 256 (labelIn (set ns k v) os) ≡ tab 256 (labelIn ns os)
+  labels-away h = labels-same ns (set ns k v) os os (agree-set markColumn labelNumbers ns k v (λ a b. omega arith)) (agree-refl labelNames labelOctets os)
 
-pub set-next : (ns os : List ℕ) (id : ℕ) → length ns ≡ 1448 → id < 4294967296 → cardOf (set ns 1 id) os ≡ withNext id (cardOf ns os)
+pub set-next : (ns os : List ℕ) (id : ℕ) → Numbers ns → id < 4294967296 → cardOf (set ns 1 id) os ≡ withNext id (cardOf ns os)
 unfolding cardOf withNext nextIn
 set-next ns os id l h =
     let n : getD (set ns 1 id) 1 0 % 4294967296 ≡ id = rw (getD-set-same ns 1 id 0 (omega arith)) (mod-eq-of-lt h) in
@@ -96,19 +97,19 @@ module _ (ns os : List ℕ) (i : ℕ) (h : i < treeCount ns) where
   pub label-carried : (treeAt i (cardOf ns os) .label ≡ 0 → ⊥) → carriesAt ns i (ownPlace ns i) ≡ true
   label-carried ne = by-test (carriesAt ns i (ownPlace ns i)) (λ t. t) (λ t. absurd (ne (sym (label-none t))))
 
-  pub leaf-at : not (eqb (getD ns (100 + i * 17) 0) 0) ≡ treeAt i (cardOf ns os) .leaf
+  pub leaf-at : not (eqb (getD ns (rowColumn + i * rowWidth) 0) 0) ≡ treeAt i (cardOf ns os) .leaf
   unfolding treeIn
   leaf-at = sym (ap (λ (t : Tree). t .leaf) (tree-at ns os i h))
 
-  pub branches-at : treeAt i (cardOf ns os) .branches ≡ tab 16 (λ n. getD ns (101 + i * 17 + n) 0)
+  pub branches-at : treeAt i (cardOf ns os) .branches ≡ tab 16 (λ n. getD ns (branchColumn + i * rowWidth + n) 0)
   unfolding treeIn
   branches-at = ap (λ (t : Tree). t .branches) (tree-at ns os i h)
 
   pub branches-length : length (treeAt i (cardOf ns os) .branches) ≡ 16
-  branches-length = rw branches-at (tab-length 16 (λ n. getD ns (101 + i * 17 + n) 0))
+  branches-length = rw branches-at (tab-length 16 (λ n. getD ns (branchColumn + i * rowWidth + n) 0))
 
-  pub branch-at : (n : ℕ) → n < 16 → getD ns (101 + i * 17 + n) 0 ≡ getD (treeAt i (cardOf ns os) .branches) n 0
-  branch-at n k = rw branches-at (sym (tab-get 16 (λ m. getD ns (101 + i * 17 + m) 0) n 0 k))
+  pub branch-at : (n : ℕ) → n < 16 → getD ns (branchColumn + i * rowWidth + n) 0 ≡ getD (treeAt i (cardOf ns os) .branches) n 0
+  branch-at n k = rw branches-at (sym (tab-get 16 (λ m. getD ns (branchColumn + i * rowWidth + m) 0) n 0 k))
 
   pub name-at : treeAt i (cardOf ns os) .name ≡ treeName os i
   unfolding treeIn
@@ -147,17 +148,17 @@ named-at a ns os i n e = rw e refl
 
 -- ---- one number of a tree anew
 
-module _ (ns os : List ℕ) (i : ℕ) (l : length ns ≡ 1448) (h : i < treeCount ns) (i64 : i < 64) where
+module _ (ns os : List ℕ) (i : ℕ) (l : Numbers ns) (h : i < treeCount ns) (i64 : i < 64) where
   -- the labels that trees carry are as they were
-  row-own : (k v j : ℕ) → 100 + i * 17 ≤ k → k < 117 + i * 17 → j < 64 → ownLabel (set ns k v) j (ownPlace (set ns k v) j) ≡ ownLabel ns j (ownPlace ns j)
+  row-own : (k v j : ℕ) → rowColumn + i * rowWidth ≤ k → k < rowColumn + i * rowWidth + rowWidth → j < 64 → ownLabel (set ns k v) j (ownPlace (set ns k v) j) ≡ ownLabel ns j (ownPlace ns j)
   row-own k v j low high j64 =
       own-kept ns (set ns k v) os os j
       (agree-set 0 1 ns k v (λ a b. omega arith))
-      (agree-set (36 + j) 1 ns k v (λ a b. omega arith))
-      (agree-set 1188 260 ns k v (λ a b. omega arith))
+      (agree-set (ownColumn + j) 1 ns k v (λ a b. omega arith))
+      (agree-set markColumn labelNumbers ns k v (λ a b. omega arith))
 
   -- at a place k of its row
-  tree-set : (k v : ℕ) (t : Tree) → 100 + i * 17 ≤ k → k < 117 + i * 17 → treeIn (set ns k v) os i ≡ t
+  tree-set : (k v : ℕ) (t : Tree) → rowColumn + i * rowWidth ≤ k → k < rowColumn + i * rowWidth + rowWidth → treeIn (set ns k v) os i ≡ t
       → cardOf (set ns k v) os ≡ withTrees (set (cardOf ns os .trees) i t) (cardOf ns os)
   unfolding cardOf withTrees treeCount
   tree-set k v t low high e =
@@ -166,29 +167,29 @@ module _ (ns os : List ℕ) (i : ℕ) (l : length ns ≡ 1448) (h : i < treeCoun
       tab-set (treeCount ns) (treeIn ns os) (treeIn (set ns k v) os) i t h e (λ j ne lt.
       tree-same ns (set ns k v) os os j
       (row-own k v j low high (omega (arith, treeCount-le ns)))
-      (agree-set (100 + j * 17) 17 ns k v (λ a b. ne (omega arith)))
-      (agree-refl (j * 55) 55 os)) in
+      (agree-set (rowColumn + j * rowWidth) rowWidth ns k v (λ a b. ne (omega arith)))
+      (agree-refl (j * nameSpace) nameSpace os)) in
       cc (base-away ns os k v (omega arith), next-away ns os k v (omega arith), routes-away ns os k v (λ a b. omega arith), labels-away ns os k v (omega arith))
 
   pub set-branch : (n v : ℕ) → n < 16
-      → cardOf (set ns (101 + i * 17 + n) v) os ≡ withTrees (set (cardOf ns os .trees) i (withBranch n v (treeAt i (cardOf ns os)))) (cardOf ns os)
+      → cardOf (set ns (branchColumn + i * rowWidth + n) v) os ≡ withTrees (set (cardOf ns os .trees) i (withBranch n v (treeAt i (cardOf ns os)))) (cardOf ns os)
   unfolding treeIn withBranch
   set-branch n v n16 =
-      let k : ℕ = 101 + i * 17 + n in
-      let bs : tab 16 (λ m. getD (set ns k v) (101 + i * 17 + m) 0) ≡ set (tab 16 (λ m. getD ns (101 + i * 17 + m) 0)) n v =
-      tab-set 16 _ _ n v n16 (getD-set-same ns k v 0 (omega arith)) (λ m ne lt. getD-set-other ns k (101 + i * 17 + m) v 0 (λ q. ne (omega arith))) in
-      let f : getD (set ns k v) (100 + i * 17) 0 ≡ getD ns (100 + i * 17) 0 = getD-set-other ns k (100 + i * 17) v 0 (λ q. omega arith) in
+      let k : ℕ = branchColumn + i * rowWidth + n in
+      let bs : tab 16 (λ m. getD (set ns k v) (branchColumn + i * rowWidth + m) 0) ≡ set (tab 16 (λ m. getD ns (branchColumn + i * rowWidth + m) 0)) n v =
+      tab-set 16 _ _ n v n16 (getD-set-same ns k v 0 (omega arith)) (λ m ne lt. getD-set-other ns k (branchColumn + i * rowWidth + m) v 0 (λ q. ne (omega arith))) in
+      let f : getD (set ns k v) (rowColumn + i * rowWidth) 0 ≡ getD ns (rowColumn + i * rowWidth) 0 = getD-set-other ns k (rowColumn + i * rowWidth) v 0 (λ q. omega arith) in
       let o = row-own k v i (omega arith) (omega arith) i64 in
       rw (tree-at ns os i h) (tree-set k v _ (omega arith) (omega arith) (cc))
 
-  row-away : (k v : ℕ) → k < 101 + i * 17 → tab 16 (λ m. getD (set ns k v) (101 + i * 17 + m) 0) ≡ tab 16 (λ m. getD ns (101 + i * 17 + m) 0)
-  row-away k v low = tab-ext 16 _ _ (λ m lt. getD-set-other ns k (101 + i * 17 + m) v 0 (λ q. omega arith))
+  row-away : (k v : ℕ) → k < branchColumn + i * rowWidth → tab 16 (λ m. getD (set ns k v) (branchColumn + i * rowWidth + m) 0) ≡ tab 16 (λ m. getD ns (branchColumn + i * rowWidth + m) 0)
+  row-away k v low = tab-ext 16 _ _ (λ m lt. getD-set-other ns k (branchColumn + i * rowWidth + m) v 0 (λ q. omega arith))
 
   pub set-leaf : (v : ℕ) (f : Bool) → not (eqb v 0) ≡ f
-      → cardOf (set ns (100 + i * 17) v) os ≡ withTrees (set (cardOf ns os .trees) i (withLeaf f (treeAt i (cardOf ns os)))) (cardOf ns os)
+      → cardOf (set ns (rowColumn + i * rowWidth) v) os ≡ withTrees (set (cardOf ns os .trees) i (withLeaf f (treeAt i (cardOf ns os)))) (cardOf ns os)
   unfolding treeIn withLeaf
   set-leaf v f e =
-      let k : ℕ = 100 + i * 17 in
+      let k : ℕ = rowColumn + i * rowWidth in
       let bs = row-away k v (omega arith) in
       let g : getD (set ns k v) k 0 ≡ v = getD-set-same ns k v 0 (omega arith) in
       let o = row-own k v i (omega arith) (omega arith) i64 in
@@ -313,7 +314,7 @@ count-start ns os = omega arith
 
 -- by words: each says which of its 64 labels are free
 
-says : (ns os : List ℕ) (w : ℕ) → w < 4 → Says isFree 256 (labelIn ns os) 64 (w * 64) (wordAt ns w)
+says : (ns os : List ℕ) (w : ℕ) → w < wordCount → Says isFree 256 (labelIn ns os) 64 (w * 64) (wordAt ns w)
 unfolding isFreeAt
 says ns os w h j lt =
     let q : (w * 64 + j) / 64 ≡ w = omega arith in
@@ -328,7 +329,7 @@ module _ (ns : List ℕ) where
   abbrev pub From : ℕ → Type 0
   From w = (os : List ℕ) → place isFree (cardOf ns os .labels) ≡ w * 64 + place isFree (drop (w * 64) (tab 256 (labelIn ns os)))
 
-  pub lowest-word : (w : ℕ) → w < 4 → From w → 0 < wordAt ns w → wordAt ns w < 2 ^ 64 → Lowest (w * 64 + trailingZeros 64 (wordAt ns w))
+  pub lowest-word : (w : ℕ) → w < wordCount → From w → 0 < wordAt ns w → wordAt ns w < 2 ^ 64 → Lowest (w * 64 + trailingZeros 64 (wordAt ns w))
   unfolding isFreeAt
   lowest-word w h from p l =
       let t = trailing-bit 64 (wordAt ns w) p l in
@@ -339,7 +340,7 @@ module _ (ns : List ℕ) where
         (λ _. rw (q, m) (t .1)),
       )
 
-  pub lowest-next : (w : ℕ) → w < 4 → From w → wordAt ns w ≡ 0 → From (w + 1)
+  pub lowest-next : (w : ℕ) → w < wordCount → From w → wordAt ns w ≡ 0 → From (w + 1)
   lowest-next w h from z os =
       let e : w * 64 + 64 ≡ (w + 1) * 64 = omega arith in
       from os ∙ place-empty isFree 256 (labelIn ns os) 64 (w * 64) (omega arith) (rw z at (says ns os w h)) ∙ rw e refl
@@ -356,7 +357,7 @@ counted ns os l =
     let z : 0 + ones (wordAt ns 0) ≡ ones (wordAt ns 0) = omega arith in
     sym (count-start ns os ∙ word 0 0 (omega arith) ∙ rw z (word 1 _ (omega arith) ∙ word 2 _ (omega arith) ∙ word 3 _ (omega arith) ∙ count-none isFree 256 (labelIn ns os) 256 _ (omega arith)))
   where
-    word : (w k : ℕ) → w < 4 → k + count isFree (drop (w * 64) (tab 256 (labelIn ns os))) ≡ k + ones (wordAt ns w) + count isFree (drop (w * 64 + 64) (tab 256 (labelIn ns os)))
+    word : (w k : ℕ) → w < wordCount → k + count isFree (drop (w * 64) (tab 256 (labelIn ns os))) ≡ k + ones (wordAt ns w) + count isFree (drop (w * 64 + 64) (tab 256 (labelIn ns os)))
     word w k h = count-word isFree 256 (labelIn ns os) 64 (w * 64) (wordAt ns w) k (omega arith) (l w) (says ns os w h)
 
 -- ---- the tree that carries a label
@@ -414,19 +415,19 @@ module _ (ns ms os : List ℕ) (p : ℕ) (h : p < 256) (label : ℕ) (e : label 
       let n : getD ms 3 0 ≡ getD ns 3 0 = r .rest 3 (omega arith) in
       let b : baseIn ms ≡ baseIn ns = base-same ns ms os os (λ j x y. r .rest j (omega arith)) in
       let i : nextIn ms ≡ nextIn ns = next-same ns ms os os (λ j x y. r .rest j (omega arith)) in
-      let rs : tab (routeCount ms) (routeIn ms os) ≡ tab (routeCount ns) (routeIn ns os) = routes-same ns ms os os (λ j x y. r .rest j (omega arith)) (λ j x y. r .rest j (omega arith)) (agree-refl 17600 544 os) in
+      let rs : tab (routeCount ms) (routeIn ms os) ≡ tab (routeCount ns) (routeIn ns os) = routes-same ns ms os os (λ j x y. r .rest j (omega arith)) (λ j x y. r .rest j (omega arith)) (agree-refl rootNames rootOctets os) in
       let ls : tab 256 (labelIn ms os) ≡ set (tab 256 (labelIn ns os)) p u =
-      tab-set 256 (labelIn ns os) (labelIn ms os) p u h eu (λ j ne lt. label-same ns ms os os j (r .marks j lt ne) (r .frees j lt ne) (agree-refl (3520 + j * 55) 55 os)) in
+      tab-set 256 (labelIn ns os) (labelIn ms os) p u h eu (λ j ne lt. label-same ns ms os os j (r .marks j lt ne) (r .frees j lt ne) (agree-refl (labelNames + j * nameSpace) nameSpace os)) in
       cc
 
   -- a tree whose label it is not
   beside : (j : ℕ) → j < 64 → (ownPlace ns j ≡ p → (carriesAt ns j p ≡ false) × (carriesAt ms j p ≡ false)) → treeIn ms os j ≡ treeIn ns os j
   beside j j64 f =
-      let o : ownPlace ms j ≡ ownPlace ns j = r .rest (36 + j) (omega arith) in
+      let o : ownPlace ms j ≡ ownPlace ns j = r .rest (ownColumn + j) (omega arith) in
       tree-same ns ms os os j
       (rw o (own-beside ns ms p j (ownPlace ns j) r (λ q. rw q (f q))))
       (λ k x y. r .rest k (omega arith))
-      (agree-refl (j * 55) 55 os)
+      (agree-refl (j * nameSpace) nameSpace os)
 
 pub free-label : (ns ms os : List ℕ) (label b : ℕ) → b ≡ baseIn ns → b ≤ label → label < b + 256 → isMappedAt ns (label - b) ≡ false
     → Relabelled (label - b) ns ms → isFreeAt ms (label - b) ≡ true → cardOf ms os ≡ setUse label free (cardOf ns os)
@@ -446,7 +447,7 @@ free-label ns ms os label b e low high m r now =
 
 -- the tree carries its label no more, which awaits release
 
-module _ (ns os : List ℕ) (i : ℕ) (l : length ns ≡ 1448) (h : i < treeCount ns) (i64 : i < 64) (c : carriesAt ns i (ownPlace ns i) ≡ true) where
+module _ (ns os : List ℕ) (i : ℕ) (l : Numbers ns) (h : i < treeCount ns) (i64 : i < 64) (c : carriesAt ns i (ownPlace ns i) ≡ true) where
   pub own-inside : ownPlace ns i < 256
   own-inside = carried-out ns i (ownPlace ns i) c .0
 
@@ -464,7 +465,7 @@ module _ (ns os : List ℕ) (i : ℕ) (l : length ns ≡ 1448) (h : i < treeCoun
         rw (use-in ns os (treeAt i (cardOf ns os) .label) p own-label own-inside, label-mapped ns p os (u .0) (u .1), label-awaiting ms p os f (omega arith), back) refl,
       )
 
-  pub ends : cardOf (set ns (1188 + ownPlace ns i) (markUse (markAt ns (ownPlace ns i)) + 16)) os
+  pub ends : cardOf (set ns (markColumn + ownPlace ns i) (markUse (markAt ns (ownPlace ns i)) + 16)) os
       ≡ setLabel i 0 (setUse (treeAt i (cardOf ns os) .label) (ended (useOf (treeAt i (cardOf ns os) .label) (cardOf ns os))) (cardOf ns os))
   unfolding setLabel
   ends =
@@ -483,7 +484,7 @@ module _ (ns os : List ℕ) (i : ℕ) (l : length ns ≡ 1448) (h : i < treeCoun
       v = markUse (markAt ns p) + 16
 
       ms : List ℕ
-      ms = set ns (1188 + p) v
+      ms = set ns (markColumn + p) v
 
       r : Relabelled p ns ms
       r = remarked ns p v own-inside
@@ -493,19 +494,19 @@ module _ (ns os : List ℕ) (i : ℕ) (l : length ns ≡ 1448) (h : i < treeCoun
       taken = remarked-free ns p v own-inside ∙ mapped-use ns p (carried-out ns i p c .1) .0
 
       done : (isMappedAt ms p ≡ false) × (labelIn ms os p ≡ ended (useOf label (cardOf ns os)))
-      done = own-ended ms (getD-set-same ns (1188 + p) v 0 (omega (arith, own-inside))) taken
+      done = own-ended ms (getD-set-same ns (markColumn + p) v 0 (omega (arith, own-inside))) taken
 
       named : markPlace (markAt ns p) ≡ i
       named = carried-out ns i p c .2
 
       this : treeIn ms os i ≡ withLabel 0 (treeAt i (cardOf ns os))
       this =
-          let o : ownPlace ms i ≡ p = r .rest (36 + i) (omega arith) in
+          let o : ownPlace ms i ≡ p = r .rest (ownColumn + i) (omega arith) in
           rw (tree-at ns os i h)
           (tree-with ns ms os os i 0
           (rw o (own-none ms i p (not-mapped ms i p (done .0))))
           (λ k x y. r .rest k (omega arith))
-          (agree-refl (i * 55) 55 os))
+          (agree-refl (i * nameSpace) nameSpace os))
 
 -- ---- routes
 
@@ -521,7 +522,7 @@ route-at : (r ns os : List ℕ) (i : ℕ) → i ≡ routePlace r (cardOf ns os) 
 unfolding routeOf cardOf
 route-at r ns os i e = ap (λ (k : ℕ). getD (tab (routeCount ns) (routeIn ns os)) k (record { root = r; via = 17 }) .via) (sym e)
 
-pub route-some : (r ns os : List ℕ) (i n : ℕ) → i ≡ routePlace r (cardOf ns os) → n ≡ routeCount ns → i < n → getD ns (4 + i) 0 ≡ routeOf r (cardOf ns os)
+pub route-some : (r ns os : List ℕ) (i n : ℕ) → i ≡ routePlace r (cardOf ns os) → n ≡ routeCount ns → i < n → getD ns (routeColumn + i) 0 ≡ routeOf r (cardOf ns os)
 unfolding routeIn
 route-some r ns os i n e k h = sym (route-at r ns os i e ∙ ap (λ (x : Route). x .via) (tab-get (routeCount ns) (routeIn ns os) i _ (omega arith)))
 

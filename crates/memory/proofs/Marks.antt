@@ -4,7 +4,7 @@ use native.Mathlib.Omega.{arith}
 use mathlib.Core.Path.{_≡_, refl, sym, _∙_}
 use mathlib.Core.Bool.{Bool, true, false, not, _&&_}
 use mathlib.Core.List.{List}
-use lib.ListN.{length, set, length-set}
+use lib.ListN.{set, length-set}
 use lib.Seq.{getD-set-same, getD-set-other}
 use lib.Dec.{eqb, ltb}
 use borrow.Author.Tests.{lt-ltb, le-ltb, ltb-true, ltb-false, eq-eqb, eqb-true, eqb-false, not-true}
@@ -12,6 +12,7 @@ use Rattle.meaning.specs.Lists.{by-test}
 use Rattle.meaning.specs.RoundTrip.{both}
 use Rattle.meaning.specs.Card.{free, mapped, awaiting, isFree}
 use Rattle.octets.specs.Bits.{bit}
+use Rattle.memory.specs.Sizes.{markColumn, wordColumn, wordCount, Numbers}
 use Rattle.memory.specs.Memory.{labelName, baseIn, wordAt, isFreeAt, markAt, markUse, markPlace, useIn, isMappedAt, labelIn, carriesAt, ownLabel, Relabelled}
 use Rattle.memory.proofs.Memory.{free-same, own-same, agree-set}
 
@@ -121,32 +122,32 @@ relabelled-again p ns ks ms a b = record {
 }
 
 -- its mark alone
-pub remarked : (ns : List ℕ) (p v : ℕ) → p < 256 → Relabelled p ns (set ns (1188 + p) v)
+pub remarked : (ns : List ℕ) (p v : ℕ) → p < 256 → Relabelled p ns (set ns (markColumn + p) v)
 remarked ns p v h = record {
-  long = length-set ns (1188 + p) v;
-  rest = λ k lt. getD-set-other ns (1188 + p) k v 0 (λ e. omega arith);
-  marks = λ q lt ne. getD-set-other ns (1188 + p) (1188 + q) v 0 (λ e. ne (omega arith));
-  frees = λ q lt ne. free-same ns (set ns (1188 + p) v) ns ns (agree-set 1444 4 ns (1188 + p) v (λ a b. omega arith)) q lt;
+  long = length-set ns (markColumn + p) v;
+  rest = λ k lt. getD-set-other ns (markColumn + p) k v 0 (λ e. omega arith);
+  marks = λ q lt ne. getD-set-other ns (markColumn + p) (markColumn + q) v 0 (λ e. ne (omega arith));
+  frees = λ q lt ne. free-same ns (set ns (markColumn + p) v) ns ns (agree-set wordColumn wordCount ns (markColumn + p) v (λ a b. omega arith)) q lt;
 }
 
-pub remarked-free : (ns : List ℕ) (p v : ℕ) → p < 256 → isFreeAt (set ns (1188 + p) v) p ≡ isFreeAt ns p
-remarked-free ns p v h = free-same ns (set ns (1188 + p) v) ns ns (agree-set 1444 4 ns (1188 + p) v (λ a b. omega arith)) p h
+pub remarked-free : (ns : List ℕ) (p v : ℕ) → p < 256 → isFreeAt (set ns (markColumn + p) v) p ≡ isFreeAt ns p
+remarked-free ns p v h = free-same ns (set ns (markColumn + p) v) ns ns (agree-set wordColumn wordCount ns (markColumn + p) v (λ a b. omega arith)) p h
 
 -- its bit alone, in the word that v takes the place of
-module _ (ns : List ℕ) (p v : ℕ) (h : p < 256) (l : length ns ≡ 1448) where
-  rebit-at : (q : ℕ) → q < 256 → q / 64 ≡ p / 64 → isFreeAt (set ns (1444 + p / 64) v) q ≡ bit (q % 64) v
+module _ (ns : List ℕ) (p v : ℕ) (h : p < 256) (l : Numbers ns) where
+  rebit-at : (q : ℕ) → q < 256 → q / 64 ≡ p / 64 → isFreeAt (set ns (wordColumn + p / 64) v) q ≡ bit (q % 64) v
   unfolding isFreeAt
-  rebit-at q lt e = rw (e, getD-set-same ns (1444 + p / 64) v 0 (omega arith)) refl
+  rebit-at q lt e = rw (e, getD-set-same ns (wordColumn + p / 64) v 0 (omega arith)) refl
 
-  rebit-away : (q : ℕ) → q < 256 → (q / 64 ≡ p / 64 → ⊥) → isFreeAt (set ns (1444 + p / 64) v) q ≡ isFreeAt ns q
+  rebit-away : (q : ℕ) → q < 256 → (q / 64 ≡ p / 64 → ⊥) → isFreeAt (set ns (wordColumn + p / 64) v) q ≡ isFreeAt ns q
   unfolding isFreeAt
-  rebit-away q lt ne = rw (getD-set-other ns (1444 + p / 64) (1444 + q / 64) v 0 (λ e. ne (omega arith))) refl
+  rebit-away q lt ne = rw (getD-set-other ns (wordColumn + p / 64) (wordColumn + q / 64) v 0 (λ e. ne (omega arith))) refl
 
   word-said : (q : ℕ) → q / 64 ≡ p / 64 → bit (q % 64) (wordAt ns (p / 64)) ≡ isFreeAt ns q
   unfolding isFreeAt
   word-said q e = rw e refl
 
-  rebit-others : ((j : ℕ) → j < 64 → (j ≡ p % 64 → ⊥) → bit j v ≡ bit j (wordAt ns (p / 64))) → (q : ℕ) → q < 256 → (q ≡ p → ⊥) → isFreeAt (set ns (1444 + p / 64) v) q ≡ isFreeAt ns q
+  rebit-others : ((j : ℕ) → j < 64 → (j ≡ p % 64 → ⊥) → bit j v ≡ bit j (wordAt ns (p / 64))) → (q : ℕ) → q < 256 → (q ≡ p → ⊥) → isFreeAt (set ns (wordColumn + p / 64) v) q ≡ isFreeAt ns q
   rebit-others o q lt ne =
       by-test (eqb (q / 64) (p / 64))
       (λ t.
@@ -155,12 +156,12 @@ module _ (ns : List ℕ) (p v : ℕ) (h : p < 256) (l : length ns ≡ 1448) wher
       (λ t. rebit-away q lt (eqb-false (q / 64) (p / 64) t))
 
   pub rebit : (b : Bool) → bit (p % 64) v ≡ b → ((j : ℕ) → j < 64 → (j ≡ p % 64 → ⊥) → bit j v ≡ bit j (wordAt ns (p / 64)))
-      → Relabelled p ns (set ns (1444 + p / 64) v) × (isFreeAt (set ns (1444 + p / 64) v) p ≡ b)
+      → Relabelled p ns (set ns (wordColumn + p / 64) v) × (isFreeAt (set ns (wordColumn + p / 64) v) p ≡ b)
   rebit b e o = (
     record {
-      long = length-set ns (1444 + p / 64) v;
-      rest = λ k lt. getD-set-other ns (1444 + p / 64) k v 0 (λ z. omega arith);
-      marks = λ q lt ne. getD-set-other ns (1444 + p / 64) (1188 + q) v 0 (λ z. omega arith);
+      long = length-set ns (wordColumn + p / 64) v;
+      rest = λ k lt. getD-set-other ns (wordColumn + p / 64) k v 0 (λ z. omega arith);
+      marks = λ q lt ne. getD-set-other ns (wordColumn + p / 64) (markColumn + q) v 0 (λ z. omega arith);
       frees = rebit-others o;
     },
     rebit-at p h refl ∙ e,

@@ -7,13 +7,15 @@ use lib.ListN.{length, take, drop, getD, set, length-drop}
 use lib.Seq.{getD-set-other, getD-take, getD-drop, length-take-le}
 use lib.Dec.{leb, ltb}
 use borrow.Author.Tests.{le-ltb, ltb-true, ltb-false, leb-true, not-false}
+use Rattle.meaning.specs.Wire.{rootLimit, nameLimit}
 use Rattle.meaning.specs.Lists.{by-test}
 use Rattle.meaning.specs.RoundTrip.{both}
-use Rattle.meaning.specs.Card.{labelCount, withLabel, bare, treeAt}
+use Rattle.meaning.specs.Card.{labelCount, withLabel, bare, treeAt, treeLimit, routeLimit}
 use Rattle.meaning.specs.Events.{baseOutside}
 use Rattle.octets.specs.Part.{tab}
 use Rattle.octets.proofs.Tab.{tab-length, tab-get, tab-ext, tab-is}
-use Rattle.memory.specs.Memory.{upTo, textAt, nameLimit, treeName, labelName, rootName, baseIn, nextIn, routeCount, treeCount, routeIn, markAt, isFreeAt, isMappedAt, labelIn, ownPlace, carriesAt, ownLabel, treeIn, cardOf}
+use Rattle.memory.specs.Sizes.{rootSpace, nameSpace, routeColumn, ownColumn, rowWidth, rowColumn, branchColumn, rowNumbers, markColumn, wordColumn, wordCount, labelNumbers, treeOctets, labelOctets, rootOctets, labelNames, rootNames}
+use Rattle.memory.specs.Memory.{upTo, textAt, treeName, labelName, rootName, baseIn, nextIn, routeCount, treeCount, routeIn, markAt, isFreeAt, isMappedAt, labelIn, ownPlace, carriesAt, ownLabel, treeIn, cardOf}
 
 -- ---- at most k
 
@@ -83,11 +85,11 @@ module _ (ns ns' os os' : List ℕ) where
   unfolding nextIn
   next-same h = rw (h 1 (omega arith) (omega arith)) refl
 
-  pub route-same : (i : ℕ) → Agree (4 + i) 1 ns ns' → Agree (17600 + i * 17) 17 os os' → routeIn ns' os' i ≡ routeIn ns os i
+  pub route-same : (i : ℕ) → Agree (routeColumn + i) 1 ns ns' → Agree (rootNames + i * rootSpace) rootSpace os os' → routeIn ns' os' i ≡ routeIn ns os i
   unfolding routeIn rootName
-  route-same i h k = rw (text-same 16 (17600 + i * 17) os os' k, h (4 + i) (omega arith) (omega arith)) refl
+  route-same i h k = rw (text-same rootLimit (rootNames + i * rootSpace) os os' k, h (routeColumn + i) (omega arith) (omega arith)) refl
 
-  pub routes-same : Agree 2 1 ns ns' → Agree 4 32 ns ns' → Agree 17600 544 os os' → tab (routeCount ns') (routeIn ns' os') ≡ tab (routeCount ns) (routeIn ns os)
+  pub routes-same : Agree 2 1 ns ns' → Agree routeColumn routeLimit ns ns' → Agree rootNames rootOctets os os' → tab (routeCount ns') (routeIn ns' os') ≡ tab (routeCount ns) (routeIn ns os)
   unfolding routeCount
   routes-same h k r =
       rw (h 2 (omega arith) (omega arith))
@@ -95,9 +97,9 @@ module _ (ns ns' os os' : List ℕ) where
       route-same i (λ j a b. k j (omega arith) (omega arith)) (λ j a b. r j (omega arith) (omega arith))))
 
   -- a word says of its labels what it said
-  pub free-same : Agree 1444 4 ns ns' → (p : ℕ) → p < 256 → isFreeAt ns' p ≡ isFreeAt ns p
+  pub free-same : Agree wordColumn wordCount ns ns' → (p : ℕ) → p < 256 → isFreeAt ns' p ≡ isFreeAt ns p
   unfolding isFreeAt
-  free-same h p lt = rw (h (1444 + p / 64) (omega arith) (omega arith)) refl
+  free-same h p lt = rw (h (wordColumn + p / 64) (omega arith) (omega arith)) refl
 
   -- the label that a tree at place i carries, by the bit and the mark of its own place alone
   pub own-same : (i p : ℕ) → Agree 0 1 ns ns' → (p < 256 → markAt ns' p ≡ markAt ns p) → (p < 256 → isFreeAt ns' p ≡ isFreeAt ns p) → ownLabel ns' i p ≡ ownLabel ns i p
@@ -107,40 +109,40 @@ module _ (ns ns' os os' : List ℕ) where
       (λ t. rw (t, m (ltb-true p 256 t), f (ltb-true p 256 t), base-same b) refl)
       (λ t. rw t refl)
 
-  pub own-kept : (i : ℕ) → Agree 0 1 ns ns' → Agree (36 + i) 1 ns ns' → Agree 1188 260 ns ns' → ownLabel ns' i (ownPlace ns' i) ≡ ownLabel ns i (ownPlace ns i)
+  pub own-kept : (i : ℕ) → Agree 0 1 ns ns' → Agree (ownColumn + i) 1 ns ns' → Agree markColumn labelNumbers ns ns' → ownLabel ns' i (ownPlace ns' i) ≡ ownLabel ns i (ownPlace ns i)
   own-kept i b o m =
-      rw (o (36 + i) (omega arith) (omega arith))
+      rw (o (ownColumn + i) (omega arith) (omega arith))
       (own-same i (ownPlace ns i) b
-      (λ h. m (1188 + ownPlace ns i) (omega arith) (omega arith))
+      (λ h. m (markColumn + ownPlace ns i) (omega arith) (omega arith))
       (λ h. free-same (λ j x y. m j (omega arith) (omega arith)) (ownPlace ns i) h))
 
   -- the row and the name of a tree as they were, and its label
-  pub tree-with : (i w : ℕ) → ownLabel ns' i (ownPlace ns' i) ≡ w → Agree (100 + i * 17) 17 ns ns' → Agree (i * 55) 55 os os' → treeIn ns' os' i ≡ withLabel w (treeIn ns os i)
+  pub tree-with : (i w : ℕ) → ownLabel ns' i (ownPlace ns' i) ≡ w → Agree (rowColumn + i * rowWidth) rowWidth ns ns' → Agree (i * nameSpace) nameSpace os os' → treeIn ns' os' i ≡ withLabel w (treeIn ns os i)
   unfolding treeIn treeName withLabel
   tree-with i w l r n =
-      let same-name : textAt nameLimit os' (i * 55) ≡ textAt nameLimit os (i * 55) = text-same nameLimit (i * 55) os os' n in
-      let same-branches : tab 16 (λ k. getD ns' (101 + i * 17 + k) 0) ≡ tab 16 (λ k. getD ns (101 + i * 17 + k) 0) = tab-ext 16 _ _ (λ k lt. r (101 + i * 17 + k) (omega arith) (omega arith)) in
-      let same-leaf : getD ns' (100 + i * 17) 0 ≡ getD ns (100 + i * 17) 0 = r (100 + i * 17) (omega arith) (omega arith) in
+      let same-name : textAt nameLimit os' (i * nameSpace) ≡ textAt nameLimit os (i * nameSpace) = text-same nameLimit (i * nameSpace) os os' n in
+      let same-branches : tab 16 (λ k. getD ns' (branchColumn + i * rowWidth + k) 0) ≡ tab 16 (λ k. getD ns (branchColumn + i * rowWidth + k) 0) = tab-ext 16 _ _ (λ k lt. r (branchColumn + i * rowWidth + k) (omega arith) (omega arith)) in
+      let same-leaf : getD ns' (rowColumn + i * rowWidth) 0 ≡ getD ns (rowColumn + i * rowWidth) 0 = r (rowColumn + i * rowWidth) (omega arith) (omega arith) in
       cc
 
-  pub tree-same : (i : ℕ) → ownLabel ns' i (ownPlace ns' i) ≡ ownLabel ns i (ownPlace ns i) → Agree (100 + i * 17) 17 ns ns' → Agree (i * 55) 55 os os' → treeIn ns' os' i ≡ treeIn ns os i
+  pub tree-same : (i : ℕ) → ownLabel ns' i (ownPlace ns' i) ≡ ownLabel ns i (ownPlace ns i) → Agree (rowColumn + i * rowWidth) rowWidth ns ns' → Agree (i * nameSpace) nameSpace os os' → treeIn ns' os' i ≡ treeIn ns os i
   tree-same i l r n = tree-with i (ownLabel ns i (ownPlace ns i)) l r n ∙ unfold treeIn withLabel in refl
 
-  pub trees-same : Agree 0 1 ns ns' → Agree 3 1 ns ns' → Agree 36 64 ns ns' → Agree 100 1088 ns ns' → Agree 1188 260 ns ns' → Agree 0 3520 os os' → tab (treeCount ns') (treeIn ns' os') ≡ tab (treeCount ns) (treeIn ns os)
+  pub trees-same : Agree 0 1 ns ns' → Agree 3 1 ns ns' → Agree ownColumn treeLimit ns ns' → Agree rowColumn rowNumbers ns ns' → Agree markColumn labelNumbers ns ns' → Agree 0 treeOctets os os' → tab (treeCount ns') (treeIn ns' os') ≡ tab (treeCount ns) (treeIn ns os)
   unfolding treeCount
   trees-same b h l r m n =
       rw (h 3 (omega arith) (omega arith))
       (tab-ext _ _ _ (λ i lt. let le = upTo-le 64 (getD ns 3 0) in
       tree-same i (own-kept i b (λ j x y. l j (omega arith) (omega arith)) m) (λ j x y. r j (omega arith) (omega arith)) (λ j x y. n j (omega arith) (omega arith))))
 
-  pub label-same : (p : ℕ) → markAt ns' p ≡ markAt ns p → isFreeAt ns' p ≡ isFreeAt ns p → Agree (3520 + p * 55) 55 os os' → labelIn ns' os' p ≡ labelIn ns os p
+  pub label-same : (p : ℕ) → markAt ns' p ≡ markAt ns p → isFreeAt ns' p ≡ isFreeAt ns p → Agree (labelNames + p * nameSpace) nameSpace os os' → labelIn ns' os' p ≡ labelIn ns os p
   unfolding labelIn labelName
-  label-same p m f n = rw (text-same nameLimit (3520 + p * 55) os os' n, m, f) refl
+  label-same p m f n = rw (text-same nameLimit (labelNames + p * nameSpace) os os' n, m, f) refl
 
-  pub labels-same : Agree 1188 260 ns ns' → Agree 3520 14080 os os' → tab labelCount (labelIn ns' os') ≡ tab labelCount (labelIn ns os)
+  pub labels-same : Agree markColumn labelNumbers ns ns' → Agree labelNames labelOctets os os' → tab labelCount (labelIn ns' os') ≡ tab labelCount (labelIn ns os)
   labels-same m n =
       tab-ext 256 _ _ (λ p lt.
-      label-same p (m (1188 + p) (omega arith) (omega arith)) (free-same (λ j x y. m j (omega arith) (omega arith)) p lt) (λ j x y. n j (omega arith) (omega arith)))
+      label-same p (m (markColumn + p) (omega arith) (omega arith)) (free-same (λ j x y. m j (omega arith) (omega arith)) p lt) (λ j x y. n j (omega arith) (omega arith)))
 
 -- the same places of the same list
 pub agree-refl : (p k : ℕ) (xs : List ℕ) → Agree p k xs xs

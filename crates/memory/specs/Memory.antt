@@ -6,10 +6,12 @@ use mathlib.Core.List.{List}
 use lib.ListN.{length, getD}
 use lib.Dec.{eqb, ltb}
 use Rattle.meaning.specs.Octets.{pick}
-use Rattle.meaning.specs.Card.{Route, Tree, Use, free, mapped, awaiting, Card, treeLimit, routeLimit, labelCount}
+use Rattle.meaning.specs.Wire.{rootLimit, nameLimit}
+use Rattle.meaning.specs.Card.{Route, Tree, Use, free, mapped, awaiting, Card, treeLimit, routeLimit, labelCount, neighbourCount}
 use Rattle.meaning.specs.Events.{baseOutside}
 use Rattle.octets.specs.Part.{tab}
 use Rattle.octets.specs.Bits.{bit}
+use Rattle.memory.specs.Sizes.{rootSpace, nameSpace, routeColumn, ownColumn, rowWidth, rowColumn, branchColumn, markColumn, wordColumn, labelNames, rootNames}
 
 -- at most k
 unfoldable pub upTo : ℕ → ℕ → ℕ
@@ -20,18 +22,14 @@ upTo k n = pick (ltb n k) n k
 unfoldable pub textAt : ℕ → List ℕ → ℕ → List ℕ
 textAt k os p = tab (upTo k (getD os p 0)) (λ j. getD os (p + 1 + j) 0)
 
--- the longest name, of a 16-octet root and the longest opaque value
-abbrev pub nameLimit : ℕ
-nameLimit = 54
-
 unfoldable pub treeName : List ℕ → ℕ → List ℕ
-treeName os i = textAt nameLimit os (i * 55)
+treeName os i = textAt nameLimit os (i * nameSpace)
 
 unfoldable pub labelName : List ℕ → ℕ → List ℕ
-labelName os p = textAt nameLimit os (3520 + p * 55)
+labelName os p = textAt nameLimit os (labelNames + p * nameSpace)
 
 unfoldable pub rootName : List ℕ → ℕ → List ℕ
-rootName os i = textAt 16 os (17600 + i * 17)
+rootName os i = textAt rootLimit os (rootNames + i * rootSpace)
 
 -- ---- numbers
 
@@ -49,13 +47,13 @@ unfoldable pub treeCount : List ℕ → ℕ
 treeCount ns = upTo treeLimit (getD ns 3 0)
 
 unfoldable pub routeIn : List ℕ → List ℕ → ℕ → Route
-routeIn ns os i = record { root = rootName os i; via = getD ns (4 + i) 0 }
+routeIn ns os i = record { root = rootName os i; via = getD ns (routeColumn + i) 0 }
 
 -- ---- labels: each has a bit and a mark
 
 -- the words of free labels, 64 labels to a word
 abbrev pub wordAt : List ℕ → ℕ → ℕ
-wordAt ns w = getD ns (1444 + w) 0
+wordAt ns w = getD ns (wordColumn + w) 0
 
 -- whether the label at place p of the block is free: said here, and nowhere else
 unfoldable pub isFreeAt : List ℕ → ℕ → Bool
@@ -63,7 +61,7 @@ isFreeAt ns p = bit (p % 64) (wordAt ns (p / 64))
 
 -- the mark of the label at place p, read where the label is not free: use + 256 * place, its use and the place of the tree that carries it
 abbrev pub markAt : List ℕ → ℕ → ℕ
-markAt ns p = getD ns (1188 + p) 0
+markAt ns p = getD ns (markColumn + p) 0
 
 abbrev pub markUse : ℕ → ℕ
 markUse m = m % 256
@@ -86,7 +84,7 @@ labelIn ns os p = pick (isFreeAt ns p) free (useIn (markUse (markAt ns p)) (labe
 
 -- the place in the block of the label that the tree at place i has for its own; any number that is no place is none
 abbrev pub ownPlace : List ℕ → ℕ → ℕ
-ownPlace ns i = getD ns (36 + i) 0
+ownPlace ns i = getD ns (ownColumn + i) 0
 
 -- the tree at place i carries the label at place p: the label is mapped, and its mark names the tree.
 -- A mark names one place, so no label has two carriers, whatever the memory holds, and a label's mark leads to its carrier
@@ -100,8 +98,8 @@ ownLabel ns i p = pick (carriesAt ns i p) (baseIn ns + p) 0
 unfoldable pub treeIn : List ℕ → List ℕ → ℕ → Tree
 treeIn ns os i = record {
   name = treeName os i;
-  branches = tab 16 (λ n. getD ns (101 + i * 17 + n) 0);
-  leaf = not (eqb (getD ns (100 + i * 17) 0) 0);
+  branches = tab neighbourCount (λ n. getD ns (branchColumn + i * rowWidth + n) 0);
+  leaf = not (eqb (getD ns (rowColumn + i * rowWidth) 0) 0);
   label = ownLabel ns i (ownPlace ns i);
 }
 
@@ -121,6 +119,6 @@ cardOf ns os = record {
 -- the bit and the mark of the label at place p are anew, and all else is as it was
 pub record Relabelled (p : ℕ) (ns ms : List ℕ) : Type 0 where
   pub long : length ms ≡ length ns
-  pub rest : (k : ℕ) → k < 1188 → getD ms k 0 ≡ getD ns k 0
+  pub rest : (k : ℕ) → k < markColumn → getD ms k 0 ≡ getD ns k 0
   pub marks : (q : ℕ) → q < 256 → (q ≡ p → ⊥) → markAt ms q ≡ markAt ns q
   pub frees : (q : ℕ) → q < 256 → (q ≡ p → ⊥) → isFreeAt ms q ≡ isFreeAt ns q

@@ -9,7 +9,9 @@ ghost use Rattle.meaning.specs.Octets.{two, four};
 ghost use Rattle.meaning.specs.Wire.{nextId};
 ghost use Rattle.meaning.specs.Notice.{noticeDue, noticeRecord, notice};
 ghost use Rattle.meaning.specs.Calls.{over, Does, Hands};
+ghost use Rattle.memory.specs.Sizes.{Numbers};
 ghost use Rattle.memory.specs.Memory.{cardOf};
+use memory::NUMBER_COUNT;
 
 // ---- the record
 
@@ -101,7 +103,7 @@ fn tell(
     out: &mut [u8],
     answer: &mut u32,
 ) -> usize
-    requires { ⌜ (length (now numbers) ≡ 1448) × (neighbour ≤ 15) ⌝ }
+    requires { ⌜ Numbers (now numbers) × (neighbour ≤ 15) ⌝ }
     ensures { λ r. ⌜ ((os : List ℕ) → Does (notice (length (now (out .entry))) (cardOf (now (numbers .entry)) os) neighbour number (now (octets .entry)))
         (now (answer .exit)) r (now (out .entry)) (now (out .exit)) (cardOf (now (numbers .exit)) os)) ⌝ }
 {
@@ -122,7 +124,7 @@ fn tell(
 
 // From the refused octets and the refusal's number. The names are not needed: the card is that of any names.
 pub fn notice_core(
-    numbers: &mut [u64; 1448],
+    numbers: &mut [u64; NUMBER_COUNT],
     neighbour: u32,
     number: u32,
     octets: &[u8],
@@ -140,7 +142,7 @@ pub fn notice_core(
 }
 
 pub fn notice<'a>(
-    numbers: &mut [u64; 1448],
+    numbers: &mut [u64; NUMBER_COUNT],
     neighbour: u32,
     number: u32,
     octets: &[u8],

@@ -1,5 +1,5 @@
 -- What an order says by its verb and the words behind it. Assumes nothing.
-use Prim.Native.Nat.{ℕ, _-_, _≤_}
+use Prim.Native.Nat.{ℕ, _-_, _≤_, _*_}
 use native.Mathlib.Omega.{arith}
 use mathlib.Core.Path.{_≡_, refl, sym, _∙_}
 use mathlib.Core.Bool.{Bool, true, false}
@@ -9,6 +9,7 @@ use lib.Seq.{length-take-le}
 use denote.Enum.Declared.{tagOf}
 use types.Run.{OneOf, miss}
 use Rattle.meaning.specs.Octets.{pick}
+use Rattle.meaning.specs.Save.{saveLimit}
 use Rattle.words.specs.Words.{part, isHexTo, isHex, isNumber, octetsOf}
 use Rattle.verbs.specs.Line.{isSaveHex, Said, withNumber, withHex, withSave, withNumberHex, withHexNumber, withNumbersHex, does}
 use Rattle.orders.specs.Tells.{meant, Lies, SaveLies, Tells}
@@ -68,14 +69,14 @@ pub lies : (l : List ℕ) (s e : ℕ) (b : Bool) → s ≤ e → e ≤ length l 
 unfolding isHex
 lies l s e b h k p q = let n = length-take-le (e - s) (drop s l) (simp length-drop (omega arith)) in let m = hex-short 8192 (part s e l) (omega arith) (sym p ∙ q) in (h, k, omega arith)
 
-pub save-lies : (l : List ℕ) (s e : ℕ) (b : Bool) → s ≤ e → e ≤ length l → b ≡ isHexTo 46686 (part s e l) → b ≡ true → SaveLies l s e
-save-lies l s e b h k p q = let n = length-take-le (e - s) (drop s l) (simp length-drop (omega arith)) in let m = hex-short 46686 (part s e l) (omega arith) (sym p ∙ q) in (h, k, omega arith)
+pub save-lies : (l : List ℕ) (s e : ℕ) (b : Bool) → s ≤ e → e ≤ length l → b ≡ isHexTo (2 * saveLimit) (part s e l) → b ≡ true → SaveLies l s e
+save-lies l s e b h k p q = let n = length-take-le (e - s) (drop s l) (simp length-drop (omega arith)) in let m = hex-short (2 * saveLimit) (part s e l) (omega arith) (sym p ∙ q) in (h, k, omega arith)
 
-pub one-save : (w : List ℕ) (b : Bool) → b ≡ isHexTo 46686 w → b ≡ true → Said.restore (octetsOf w) ≡ withSave (w ∷ [])
+pub one-save : (w : List ℕ) (b : Bool) → b ≡ isHexTo (2 * saveLimit) w → b ≡ true → Said.restore (octetsOf w) ≡ withSave (w ∷ [])
 unfolding withSave isSaveHex
 one-save w b e g = rw (sym e ∙ g)
 
-pub no-save : (w : List ℕ) (b : Bool) → b ≡ isHexTo 46686 w → b ≡ false → withSave (w ∷ []) ≡ Said.bad
+pub no-save : (w : List ℕ) (b : Bool) → b ≡ isHexTo (2 * saveLimit) w → b ≡ false → withSave (w ∷ []) ≡ Said.bad
 unfolding withSave isSaveHex
 no-save w b e g = rw (sym e ∙ g)
 

@@ -1,8 +1,9 @@
 -- What `read_order` answers. Assumes nothing.
-use Prim.Native.Nat.{ℕ, _+_, _≤_}
+use Prim.Native.Nat.{ℕ, _+_, _≤_, _*_}
 use mathlib.Core.Path.{_≡_}
 use mathlib.Core.List.{List}
 use lib.ListN.{length}
+use Rattle.meaning.specs.Save.{saveLimit}
 use Rattle.words.specs.Words.{part, octetsOf}
 use Rattle.verbs.specs.Line.{Said, nothing, bad, start, room, take, join, leave, route, label, tree, free, notice, save, restore}
 use Rattle.orders.specs.declared.Order.{Order}
@@ -29,7 +30,7 @@ abbrev pub Lies : List ℕ → ℕ → ℕ → Type 0
 Lies l s e = (s ≤ e) × (e ≤ length l) × (e ≤ s + 8192)
 
 abbrev pub SaveLies : List ℕ → ℕ → ℕ → Type 0
-SaveLies l s e = (s ≤ e) × (e ≤ length l) × (e ≤ s + 46686)
+SaveLies l s e = (s ≤ e) × (e ≤ length l) × (e ≤ s + 2 * saveLimit)
 
 abbrev pub InLine : List ℕ → Order → Type 0
 InLine l Order.Blank = Unit

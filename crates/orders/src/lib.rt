@@ -8,6 +8,7 @@ ghost use Rattle.words.specs.Scan.{numberIn};
 ghost use Rattle.verbs.specs.Line.{withSave, does, orderOf};
 ghost use Rattle.orders.specs.Tells.{Tells};
 ghost use Rattle.orders.specs.Scan.{asNumber, asHex};
+use meaning::SAVE_DIGITS;
 use verbs::Verb;
 use words::Number;
 use words::Word;
@@ -103,7 +104,7 @@ fn with_save(line: &[u8], start: usize, end: usize) -> Order
     requires { ⌜ (start ≤ end) × (end ≤ length (now line)) ⌝ }
     ensures { λ r. ⌜ Tells (now (line .entry)) (withSave (part start end (now (line .entry)) ∷ [])) r ⌝ }
 {
-    if words::is_hex_to(&line[start..end], 46686) {
+    if words::is_hex_to(&line[start..end], SAVE_DIGITS) {
         return Order::Restore { start, end };
     }
     Order::Bad

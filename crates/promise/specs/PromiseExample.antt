@@ -6,13 +6,14 @@ use mathlib.Core.List.{List, [], _∷_}
 use lib.Dec.{T}
 use Rattle.meaning.specs.Octets.{pick, same}
 use Rattle.meaning.specs.Wire.{rootIn, mapping, withdraw, release}
+use Rattle.meaning.specs.Card.{sentLimit}
 use Rattle.meaning.specs.Events.{Event, route}
 use Rattle.meaning.specs.Computing.{computing}
 use Rattle.meaning.specs.Examples.{A, heard, flat, feed}
 use Rattle.promise.specs.Promise.{Given, isAbout, mark, remove, noteSent, noteAll, noteTaken, branchSaid, branchBy, leafBy, branchesBy, routeBy, feedBy, Step, answerTo, sends, thenStep, thenSteps, history}
 
 abbrev pub withRoom : Event → Step
-withRoom e = record { room = 9984; does = e }
+withRoom e = record { room = sentLimit; does = e }
 
 -- A's root is routed to neighbour 0, and then cases 1 to 7, the refused Releases among them
 unfoldable pub seven : List Step

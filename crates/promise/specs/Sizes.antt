@@ -7,8 +7,8 @@ use mathlib.Core.List.{List, [], _∷_}
 use lib.ListN.{length, length-append}
 use lib.Dec.{eqb}
 use Rattle.meaning.specs.Octets.{two}
-use Rattle.meaning.specs.Wire.{Sent, recordOf, nextId, records}
-use Rattle.meaning.specs.Card.{Card, noRoute, treeLimit, routeLimit, labelCount, treeAt, routeOf}
+use Rattle.meaning.specs.Wire.{Sent, recordOf, nextId, records, recordLimit}
+use Rattle.meaning.specs.Card.{Card, noRoute, treeLimit, routeLimit, labelCount, treeAt, routeOf, sentLimit}
 use Rattle.meaning.specs.Events.{Outcome, refused, taken, unless, refuse, accept, roomShort, finish, Moved, still, followedBy, giveUp, give, letGo, takeUp, moveLabel, upstream, holder, ofRoot, moveOne, moveFrom, moveAll, reRoute, onRoute, Event, route, outcome, event}
 use Rattle.meaning.specs.Lists.{by-test, picked}
 use Rattle.meaning.specs.RoundTrip.{AllSendable, Sendable, message-length, name-fits}
@@ -17,10 +17,6 @@ use Rattle.promise.specs.LabelLaws.{Sound}
 use Rattle.promise.specs.RuleLaws.{Ruled}
 use Rattle.promise.specs.EventLaws.{became, names, Keeps, event-keeps}
 use Rattle.promise.specs.PromiseProof.{history-upheld, sends-said}
-
--- the longest record: of a 16-octet root and the longest opaque value
-abbrev pub recordLimit : ℕ
-recordLimit = 78
 
 unfoldable pub AllShort : List Sent → Type 0
 AllShort [] = Unit {0}
@@ -33,7 +29,7 @@ pub record Sized (c : Card) : Type 0 where
   -- each message that a step sends makes a record of at most 78 octets
   pub short : (s : Step) → AllShort (sends c s)
   -- a route order sends at most two messages for each tree: 9984 octets
-  pub order : (room : ℕ) (r : List ℕ) (via : ℕ) → length (event room c (route r via) .octets) ≤ treeLimit * 2 * recordLimit
+  pub order : (room : ℕ) (r : List ℕ) (via : ℕ) → length (event room c (route r via) .octets) ≤ sentLimit
 
 -- ---- a record
 
@@ -112,7 +108,7 @@ sizes-kept base steps =
       order = λ room r via. ordered (p .card) (p .live) (u .sound) (u .ruled) room r via;
     }
   where
-    ordered : (c : Card) (gs : List Given) → Sound c gs → Ruled c → (room : ℕ) (r : List ℕ) (via : ℕ) → length (event room c (route r via) .octets) ≤ 9984
+    ordered : (c : Card) (gs : List Given) → Sound c gs → Ruled c → (room : ℕ) (r : List ℕ) (via : ℕ) → length (event room c (route r via) .octets) ≤ sentLimit
     ordered c gs S R room r via =
         unfold event outcome in
         let most = most-octets c gs (route r via) room (length (c .trees) * 2) (onRoute c r via) (route-most c r via) (unfold outcome in event-keeps c gs S (route r via)) in

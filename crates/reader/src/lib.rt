@@ -6,6 +6,7 @@ ghost use lib.ListN.{drop};
 ghost use Rattle.meaning.specs.Octets.{any};
 ghost use Rattle.meaning.specs.Wire.{addressLength, rootLength, rootIn, elementRefusal, tlvs, isOverrun, found, must, isKind};
 ghost use Rattle.reader.specs.Read.{tlvAt, endOf, labelIn, headRefusal, Ordered, Reads};
+use meaning::OPAQUE_LIMIT;
 
 // ---- TLVs
 
@@ -130,7 +131,7 @@ pub fn element_refusal(e: &[u8]) -> u32
     if k == 0 {
         return 7;
     }
-    if 32 < k {
+    if OPAQUE_LIMIT < k {
         return 7;
     }
     0

@@ -5,8 +5,9 @@ use mathlib.Core.Path.{_≡_, refl, ap, _∙_}
 use mathlib.Core.List.{List, [], _∷_, _++_, append-assoc}
 use lib.ListN.{length, getD, length-append}
 use Rattle.meaning.specs.Octets.{pick, two, four}
+use Rattle.meaning.specs.Wire.{rootLimit}
 use Rattle.meaning.specs.Card.{Route, Tree, Use, mapped, awaiting, freeLabels}
-use Rattle.meaning.specs.Save.{spaced, nameSaved, marked, headSaved, routeSaved, foursOf, treeSaved, useSaved}
+use Rattle.meaning.specs.Save.{spaced, nameSaved, marked, headSaved, routeSaved, foursOf, treeSaved, useSaved, nameSize, routeSize, leafPlace, branchPlace, treeSize, useSize}
 use Rattle.octets.specs.Part.{mid}
 use Rattle.octets.proofs.Tab.{tab-is}
 use Rattle.memory.specs.Memory.{cardOf, baseIn, routeCount, treeCount}
@@ -18,33 +19,33 @@ use Rattle.recorder.proofs.Sizes.{fours-length}
 
 -- ---- records of two parts
 
-pub route-put : (r : Route) (xs us vs o : List ℕ) (v : ℕ) → length xs ≡ 21 → v ≡ r .via → o ≡ r .root → us ≡ 0x4C ∷ 0x53 ∷ 2 ∷ v % 256 ∷ [] → vs ≡ spaced 16 o → mid 4 17 (mid 0 4 xs us) vs ≡ routeSaved r
+pub route-put : (r : Route) (xs us vs o : List ℕ) (v : ℕ) → length xs ≡ routeSize → v ≡ r .via → o ≡ r .root → us ≡ 0x4C ∷ 0x53 ∷ 2 ∷ v % 256 ∷ [] → vs ≡ spaced rootLimit o → mid 4 (1 + rootLimit) (mid 0 4 xs us) vs ≡ routeSaved r
 unfolding routeSaved marked
 route-put r xs us vs o v l ev eo eu es =
-    rw (eu, es, ev, eo) (two-parts 4 17 xs (0x4C ∷ 0x53 ∷ 2 ∷ r .via % 256 ∷ []) (spaced 16 (r .root)) l refl (space-length 16 (r .root)))
+    rw (eu, es, ev, eo) (two-parts 4 (1 + rootLimit) xs (0x4C ∷ 0x53 ∷ 2 ∷ r .via % 256 ∷ []) (spaced rootLimit (r .root)) l refl (space-length rootLimit (r .root)))
 
 -- what stands before the name of a label in use
 abbrev pub stateOf : ℕ → ℕ → ℕ → List ℕ
 stateOf l s n = marked 4 (four l ++ (s ∷ n ∷ []))
 
-pub state-put : (l s n : ℕ) (a xs us vs : List ℕ) → length xs ≡ 59 → us ≡ stateOf l s n → vs ≡ nameSaved a → mid 9 50 (mid 0 9 xs us) vs ≡ marked 4 (four l ++ (s ∷ n ∷ nameSaved a))
+pub state-put : (l s n : ℕ) (a xs us vs : List ℕ) → length xs ≡ useSize → us ≡ stateOf l s n → vs ≡ nameSaved a → mid 9 nameSize (mid 0 9 xs us) vs ≡ marked 4 (four l ++ (s ∷ n ∷ nameSaved a))
 unfolding marked four
-state-put l s n a xs us vs e eu es = rw (eu, es) (two-parts 9 50 xs (stateOf l s n) (nameSaved a) e refl (name-length a))
+state-put l s n a xs us vs e eu es = rw (eu, es) (two-parts 9 nameSize xs (stateOf l s n) (nameSaved a) e refl (name-length a))
 
 -- ---- a tree, of four parts
 
-pub tree-put : (t : Tree) (xs us vs ws ys a : List ℕ) (f : ℕ) → length xs ≡ 118 → length (t .branches) ≡ 16 → a ≡ t .name → f ≡ pick (t .leaf) 1 0
-    → us ≡ 0x4C ∷ 0x53 ∷ 3 ∷ [] → vs ≡ nameSaved a → ws ≡ f ∷ [] → ys ≡ foursOf (t .branches) → mid 54 64 (mid 53 1 (mid 3 50 (mid 0 3 xs us) vs) ws) ys ≡ treeSaved t
+pub tree-put : (t : Tree) (xs us vs ws ys a : List ℕ) (f : ℕ) → length xs ≡ treeSize → length (t .branches) ≡ 16 → a ≡ t .name → f ≡ pick (t .leaf) 1 0
+    → us ≡ 0x4C ∷ 0x53 ∷ 3 ∷ [] → vs ≡ nameSaved a → ws ≡ f ∷ [] → ys ≡ foursOf (t .branches) → mid branchPlace 64 (mid leafPlace 1 (mid 3 nameSize (mid 0 3 xs us) vs) ws) ys ≡ treeSaved t
 unfolding treeSaved marked
 tree-put t xs us vs ws ys a f l lb ea ef eu ev ew ey =
-    let n : length (nameSaved (t .name)) ≡ 50 = name-length (t .name) in
+    let n : length (nameSaved (t .name)) ≡ nameSize = name-length (t .name) in
     let b : length (foursOf (t .branches)) ≡ 64 = fours-length (t .branches) ∙ ap (λ (k : ℕ). k * 4) lb in
     let mark : List ℕ = 0x4C ∷ 0x53 ∷ 3 ∷ [] in
     let flag : List ℕ = pick (t .leaf) 1 0 ∷ [] in
     rw (eu, ev, ew, ey, ea, ef)
-    (laid-then 0 54 64 (mark ++ (nameSaved (t .name) ++ flag)) (foursOf (t .branches)) xs (mid 53 1 (mid 3 50 (mid 0 3 xs mark) (nameSaved (t .name))) flag) (simp length-append (omega arith))
-    (laid-then 0 53 1 (mark ++ nameSaved (t .name)) flag xs (mid 3 50 (mid 0 3 xs mark) (nameSaved (t .name))) (omega arith)
-    (laid-then 0 3 50 mark (nameSaved (t .name)) xs (mid 0 3 xs mark) (omega arith) (laid-part 0 3 mark xs refl) refl n)
+    (laid-then 0 branchPlace 64 (mark ++ (nameSaved (t .name) ++ flag)) (foursOf (t .branches)) xs (mid leafPlace 1 (mid 3 nameSize (mid 0 3 xs mark) (nameSaved (t .name))) flag) (simp length-append (omega arith))
+    (laid-then 0 leafPlace 1 (mark ++ nameSaved (t .name)) flag xs (mid 3 nameSize (mid 0 3 xs mark) (nameSaved (t .name))) (omega arith)
+    (laid-then 0 3 nameSize mark (nameSaved (t .name)) xs (mid 0 3 xs mark) (omega arith) (laid-part 0 3 mark xs refl) refl n)
     (omega arith) refl)
     (simp length-append (omega arith)) b
     ∙ laid-all (mark ++ ((nameSaved (t .name) ++ flag) ++ foursOf (t .branches))) xs (simp length-append (omega arith))

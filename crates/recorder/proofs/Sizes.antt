@@ -6,33 +6,34 @@ use mathlib.Core.Bool.{true, false}
 use mathlib.Core.List.{List, [], _∷_, _++_}
 use lib.ListN.{length, length-append}
 use Rattle.meaning.specs.Octets.{two, four, count}
+use Rattle.meaning.specs.Wire.{rootLimit}
 use Rattle.meaning.specs.Lists.{by-test}
 use Rattle.meaning.specs.Card.{Route, Tree, Use, free, mapped, awaiting, Card, isFree}
-use Rattle.meaning.specs.Save.{nameSaved, marked, headSaved, routeSaved, foursOf, treeSaved, useSaved, usesSaved}
+use Rattle.meaning.specs.Save.{nameSaved, marked, headSaved, routeSaved, foursOf, treeSaved, useSaved, usesSaved, headSize, routeSize, treeSize, useSize}
 use Rattle.texts.proofs.Sizes.{space-length, name-length}
 
-pub head-length : (c : Card) → length (headSaved c) ≡ 15
+pub head-length : (c : Card) → length (headSaved c) ≡ headSize
 unfolding headSaved marked four two
 head-length c = refl
 
-pub route-length : (r : Route) → length (routeSaved r) ≡ 21
+pub route-length : (r : Route) → length (routeSaved r) ≡ routeSize
 unfolding routeSaved marked
-route-length r = rw (space-length 16 (r .root)) refl
+route-length r = rw (space-length rootLimit (r .root)) refl
 
 pub fours-length : (ns : List ℕ) → length (foursOf ns) ≡ length ns * 4
 unfolding foursOf four
 fours-length [] = refl
 fours-length (n ∷ ns) = omega (arith, fours-length ns)
 
-pub tree-length : (t : Tree) → length (t .branches) ≡ 16 → length (treeSaved t) ≡ 118
+pub tree-length : (t : Tree) → length (t .branches) ≡ 16 → length (treeSaved t) ≡ treeSize
 unfolding treeSaved marked
 tree-length t e = simp length-append (rw (name-length (t .name), fours-length (t .branches), e) refl)
 
-pub state-length : (l s n : ℕ) (a : List ℕ) → length (marked 4 (four l ++ (s ∷ n ∷ nameSaved a))) ≡ 59
+pub state-length : (l s n : ℕ) (a : List ℕ) → length (marked 4 (four l ++ (s ∷ n ∷ nameSaved a))) ≡ useSize
 unfolding marked four
 state-length l s n a = rw (name-length a) refl
 
-pub use-length : (l : ℕ) (u : Use) → isFree u ≡ false → length (useSaved l u) ≡ 59
+pub use-length : (l : ℕ) (u : Use) → isFree u ≡ false → length (useSaved l u) ≡ useSize
 unfolding useSaved isFree
 use-length l free e = let z : _≡_ {A = ℕ} 0 1 = cc in absurd (omega arith)
 use-length l (mapped n a) e = state-length l 1 n a
@@ -44,7 +45,7 @@ use-none l free e = refl
 use-none l (mapped n a) e = let z : _≡_ {A = ℕ} 0 1 = cc in absurd (omega arith)
 use-none l (awaiting n a) e = let z : _≡_ {A = ℕ} 0 1 = cc in absurd (omega arith)
 
-pub uses-length : (l : ℕ) (us : List Use) → length (usesSaved l us) + count isFree us * 59 ≡ length us * 59
+pub uses-length : (l : ℕ) (us : List Use) → length (usesSaved l us) + count isFree us * useSize ≡ length us * useSize
 unfolding usesSaved count
 uses-length l [] = refl
 uses-length l (u ∷ us) =

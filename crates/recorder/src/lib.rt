@@ -6,13 +6,20 @@ ghost use Prim.Native.Nat.{ℕ, _+_, _<_};
 ghost use lib.ListN.{length};
 ghost use Rattle.meaning.specs.Octets.{pick, four};
 ghost use Rattle.meaning.specs.Card.{treeAt};
-ghost use Rattle.meaning.specs.Save.{nameSaved, marked, headSaved, routeSaved, foursOf, treeSaved, useSaved};
+ghost use Rattle.meaning.specs.Save.{nameSaved, marked, headSaved, routeSaved, foursOf, treeSaved, useSaved, headSize, routeSize, treeSize, useSize};
+ghost use Rattle.memory.specs.Sizes.{Numbers, Names};
 ghost use Rattle.memory.specs.Memory.{cardOf, baseIn, treeCount, routeIn, isFreeAt, labelIn};
+use meaning::BRANCH_PLACE;
+use meaning::LEAF_PLACE;
+use meaning::ROOT_LIMIT;
+use meaning::ROUTE_SIZE;
+use meaning::TREE_SIZE;
+use meaning::USE_SIZE;
 
 // ---- the head
 
 pub fn put_head(numbers: &[u64], out: &mut [u8])
-    requires { ⌜ (length (now numbers) ≡ 1448) × (length (now out) ≡ 15) ⌝ }
+    requires { ⌜ Numbers (now numbers) × (length (now out) ≡ headSize) ⌝ }
     ensures { λ _. ⌜ ((os : List ℕ) → now (out .exit) ≡ headSaved (cardOf (now (numbers .entry)) os)) ⌝ }
 {
     let base = memory::base(numbers);
@@ -41,12 +48,16 @@ pub fn put_head(numbers: &[u64], out: &mut [u8])
 // ---- a route
 
 pub fn put_route(numbers: &[u64], names: &[u8], i: usize, out: &mut [u8])
-    requires { ⌜ (length (now numbers) ≡ 1448) × (length (now names) ≡ 18144) × (i < 32) × (length (now out) ≡ 21) ⌝ }
+    requires { ⌜ Numbers (now numbers) × Names (now names) × (i < 32) × (length (now out) ≡ routeSize) ⌝ }
     ensures { λ _. ⌜ now (out .exit) ≡ routeSaved (routeIn (now (numbers .entry)) (now (names .entry)) i) ⌝ }
 {
     let head = [0x4c, 0x53, 2, (table::route_via(numbers, i) % 256) as u8];
     octets::copy(&mut out[0..4], &head);
-    texts::put_space(&mut out[4..21], 16, table::root_name(names, i));
+    texts::put_space(
+        &mut out[4..ROUTE_SIZE],
+        ROOT_LIMIT,
+        table::root_name(names, i),
+    );
 }
 
 // ---- a tree
@@ -67,7 +78,7 @@ fn put_four(out: &mut [u8], n: u64)
 
 // The sixteen branch labels of the tree at place i.
 fn put_branches(numbers: &[u64], i: usize, out: &mut [u8])
-    requires { ⌜ (length (now numbers) ≡ 1448) × (i < treeCount (now numbers)) × (i < 64) × (length (now out) ≡ 64) ⌝ }
+    requires { ⌜ Numbers (now numbers) × (i < treeCount (now numbers)) × (i < 64) × (length (now out) ≡ 64) ⌝ }
     ensures { λ _. ⌜ ((os : List ℕ) → now (out .exit) ≡ foursOf (treeAt i (cardOf (now (numbers .entry)) os) .branches)) ⌝ }
 {
     let mut k = 0;
@@ -80,29 +91,29 @@ fn put_branches(numbers: &[u64], i: usize, out: &mut [u8])
 }
 
 fn leaf_octet(numbers: &[u64], i: usize) -> u8
-    requires { ⌜ (length (now numbers) ≡ 1448) × (i < treeCount (now numbers)) × (i < 64) ⌝ }
+    requires { ⌜ Numbers (now numbers) × (i < treeCount (now numbers)) × (i < 64) ⌝ }
     ensures { λ r. ⌜ ((os : List ℕ) → r ≡ pick (treeAt i (cardOf (now (numbers .entry)) os) .leaf) 1 0) ⌝ }
 {
     if table::is_leaf(numbers, i) { 1 } else { 0 }
 }
 
 pub fn put_tree(numbers: &[u64], names: &[u8], i: usize, out: &mut [u8])
-    requires { ⌜ (length (now numbers) ≡ 1448) × (length (now names) ≡ 18144) × (i < treeCount (now numbers)) × (i < 64) × (length (now out) ≡ 118) ⌝ }
+    requires { ⌜ Numbers (now numbers) × Names (now names) × (i < treeCount (now numbers)) × (i < 64) × (length (now out) ≡ treeSize) ⌝ }
     ensures { λ _. ⌜ now (out .exit) ≡ treeSaved (treeAt i (cardOf (now (numbers .entry)) (now (names .entry)))) ⌝ }
 {
     let head = [0x4c, 0x53, 3];
     octets::copy(&mut out[0..3], &head);
-    texts::put_name(&mut out[3..53], table::tree_name(names, i));
+    texts::put_name(&mut out[3..LEAF_PLACE], table::tree_name(names, i));
     let leaf = [leaf_octet(numbers, i)];
-    octets::copy(&mut out[53..54], &leaf);
-    put_branches(numbers, i, &mut out[54..118]);
+    octets::copy(&mut out[LEAF_PLACE..BRANCH_PLACE], &leaf);
+    put_branches(numbers, i, &mut out[BRANCH_PLACE..TREE_SIZE]);
 }
 
 // ---- a label in use
 
 // A label in state 1, mapped to the neighbour, or 2, awaiting release from it.
 fn put_state(out: &mut [u8], label: u64, state: u8, neighbour: u64, name: &[u8])
-    requires { ⌜ (length (now out) ≡ 59) × (neighbour < 256) ⌝ }
+    requires { ⌜ (length (now out) ≡ useSize) × (neighbour < 256) ⌝ }
     ensures { λ _. ⌜ now (out .exit) ≡ marked 4 (four label ++ (state ∷ neighbour ∷ nameSaved (now (name .entry)))) ⌝ }
 {
     let head = [
@@ -117,12 +128,12 @@ fn put_state(out: &mut [u8], label: u64, state: u8, neighbour: u64, name: &[u8])
         neighbour as u8,
     ];
     octets::copy(&mut out[0..9], &head);
-    texts::put_name(&mut out[9..59], name);
+    texts::put_name(&mut out[9..USE_SIZE], name);
 }
 
 // The label at place p of the block, which is not free.
 pub fn put_use(numbers: &[u64], names: &[u8], p: usize, out: &mut [u8])
-    requires { ⌜ (length (now numbers) ≡ 1448) × (length (now names) ≡ 18144) × (p < 256) × (isFreeAt (now numbers) p ≡ false) × (length (now out) ≡ 59) ⌝ }
+    requires { ⌜ Numbers (now numbers) × Names (now names) × (p < 256) × (isFreeAt (now numbers) p ≡ false) × (length (now out) ≡ useSize) ⌝ }
     ensures { λ _. ⌜ now (out .exit) ≡ useSaved (baseIn (now (numbers .entry)) + p) (labelIn (now (numbers .entry)) (now (names .entry)) p) ⌝ }
 {
     let label = memory::base(numbers) + p as u64;

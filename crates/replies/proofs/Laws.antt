@@ -1,5 +1,5 @@
 -- Laws by which what is written is the reply. Assumes nothing.
-use Prim.Native.Nat.{ℕ, _-_, _≤_}
+use Prim.Native.Nat.{ℕ, _-_, _≤_, _*_}
 use native.Mathlib.Omega.{arith}
 use mathlib.Core.Path.{_≡_, refl, sym, ap, _∙_}
 use mathlib.Core.List.{List, [], _∷_}
@@ -13,13 +13,13 @@ use Rattle.meaning.specs.Wire.{records}
 use Rattle.meaning.specs.Card.{Card, Feed}
 use Rattle.meaning.specs.Events.{Out, Outcome, refused, taken, refuse, accept, roomShort, noNeighbour, finish, Event, outcome, event}
 use Rattle.meaning.specs.Notice.{noticeDue, noticeRecord, notice}
-use Rattle.meaning.specs.Save.{saved, save}
+use Rattle.meaning.specs.Save.{saved, save, saveLimit}
 use Rattle.meaning.specs.Calls.{Hands}
 use Rattle.words.specs.Words.{Puts}
 use Rattle.orders.specs.Tells.{meant, Lies, SaveLies, InLine}
 use Rattle.orders.specs.declared.Order.{Order}
 use Rattle.orders.proofs.Order.{the-type}
-use Rattle.lines.specs.Text.{countLine, eventLine, feedLine}
+use Rattle.lines.specs.Text.{countLine, eventLine, feedLine, textSpace}
 use Rattle.replies.specs.Reply.{only, counted, told, replyTo, Says, WritesRecords}
 
 -- ---- octets that are no longer than the room
@@ -65,7 +65,7 @@ decoded {ys} {before} {r = r} p = rw (p .whole) (take-at ys (drop r before) r (s
 
 -- ---- replies
 
-pub says-told : (f : ℕ → List ℕ → Out) {l m : ℕ} {s os : List ℕ} {a : ℕ} {part : List ℕ} {card : Card} (word text : List ℕ) (room r : ℕ) → l ≡ m → s ≡ os → Hands (f l s) a part card → r ≤ 47104 → take r text ≡ eventLine word a part → Says (told word (f m os) room) r text card
+pub says-told : (f : ℕ → List ℕ → Out) {l m : ℕ} {s os : List ℕ} {a : ℕ} {part : List ℕ} {card : Card} (word text : List ℕ) (room r : ℕ) → l ≡ m → s ≡ os → Hands (f l s) a part card → r ≤ textSpace → take r text ≡ eventLine word a part → Says (told word (f m os) room) r text card
 unfolding told
 says-told f {a = a} {part} word text room r el es h k e = record {
   short = k;
@@ -73,15 +73,15 @@ says-told f {a = a} {part} word text room r el es h k e = record {
   leaves = rw (← el, ← es) (h .leaves);
 }
 
-pub says-counted : (o : Out) {a : ℕ} {card : Card} (word text : List ℕ) (room r : ℕ) → a ≡ o .answer → card ≡ o .card → r ≤ 47104 → take r text ≡ countLine word a → Says (counted word o room) r text card
+pub says-counted : (o : Out) {a : ℕ} {card : Card} (word text : List ℕ) (room r : ℕ) → a ≡ o .answer → card ≡ o .card → r ≤ textSpace → take r text ≡ countLine word a → Says (counted word o room) r text card
 unfolding counted
 says-counted o word text room r ea ec k e = record { short = k; line = e ∙ ap (countLine word) ea; leaves = ec }
 
-pub says-only : (ys text : List ℕ) (c : Card) (room r : ℕ) → r ≤ 47104 → take r text ≡ ys → Says (only ys c room) r text c
+pub says-only : (ys text : List ℕ) (c : Card) (room r : ℕ) → r ≤ textSpace → take r text ≡ ys → Says (only ys c room) r text c
 unfolding only
 says-only ys text c room r k e = record { short = k; line = e; leaves = refl }
 
-pub says-fed : {feed found : Feed} (word text : List ℕ) (c : Card) (room r : ℕ) → feed ≡ found → r ≤ 47104 → take r text ≡ feedLine word feed → Says (only (feedLine word found) c room) r text c
+pub says-fed : {feed found : Feed} (word text : List ℕ) (c : Card) (room r : ℕ) → feed ≡ found → r ≤ textSpace → take r text ≡ feedLine word feed → Says (only (feedLine word found) c room) r text c
 says-fed word text c room r h k e = says-only _ text c room r k (e ∙ ap (feedLine word) h)
 
 -- ---- an order, by its variant
@@ -141,5 +141,5 @@ room-stays number room c l (Order.Restore s e) h = refl
 pub short : (l : List ℕ) (s e : ℕ) → Lies l s e → length (take (e - s) (drop s l)) ≤ 8192
 short l s e h = let n = length-take-le (e - s) (drop s l) (simp length-drop (omega arith)) in omega arith
 
-pub save-short : (l : List ℕ) (s e : ℕ) → SaveLies l s e → length (take (e - s) (drop s l)) ≤ 46686
+pub save-short : (l : List ℕ) (s e : ℕ) → SaveLies l s e → length (take (e - s) (drop s l)) ≤ 2 * saveLimit
 save-short l s e h = let n = length-take-le (e - s) (drop s l) (simp length-drop (omega arith)) in omega arith

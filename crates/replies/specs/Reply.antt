@@ -4,13 +4,13 @@ use Prim.Native.Nat.{ℕ, _≤_, min}
 use mathlib.Core.Path.{_≡_}
 use mathlib.Core.List.{List, []}
 use lib.ListN.{take}
-use Rattle.meaning.specs.Card.{Card, freeLabels, lookupLabel, lookupName}
+use Rattle.meaning.specs.Card.{Card, freeLabels, lookupLabel, lookupName, sentLimit}
 use Rattle.meaning.specs.Events.{Out, start, event, receive, join, leave, route}
 use Rattle.meaning.specs.Notice.{notice}
-use Rattle.meaning.specs.Save.{save, restore}
+use Rattle.meaning.specs.Save.{save, restore, saveLimit}
 use Rattle.words.specs.Words.{ascii}
 use Rattle.verbs.specs.Line.{Said}
-use Rattle.lines.specs.Text.{countLine, eventLine, feedLine}
+use Rattle.lines.specs.Text.{countLine, eventLine, feedLine, textSpace}
 use Rattle.orders.specs.declared.Order.{Order}
 
 -- room: how many octets of output later events and saves are lent
@@ -33,10 +33,10 @@ told word o room = record { text = eventLine word (o .answer) (o .octets); card 
 
 -- an event and a notice are lent 9984 octets and a save 23343, or the room where that is less
 abbrev pub eventRoom : ℕ → ℕ
-eventRoom room = min room 9984
+eventRoom room = min room sentLimit
 
 abbrev pub saveRoom : ℕ → ℕ
-saveRoom room = min room 23343
+saveRoom room = min room saveLimit
 
 -- THE REPLY to what a line says, by the number of the line, the room and the card. The room is another only after `room`.
 unfoldable pub replyTo : (number room : ℕ) → Card → Said → Reply
@@ -59,7 +59,7 @@ replyTo number room c (Said.restore octets) = counted (ascii "restore") (restore
 
 -- the first r octets of a text, no more than 47104, are the text of the reply, and the card is its card
 pub record Says (reply : Reply) (r : ℕ) (text : List ℕ) (card : Card) : Type 0 where
-  pub short : r ≤ 47104
+  pub short : r ≤ textSpace
   pub line : take r text ≡ reply .text
   pub leaves : card ≡ reply .card
 

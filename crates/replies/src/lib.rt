@@ -3,11 +3,16 @@ ghost use mathlib.Core.Path.{_≡_};
 ghost use mathlib.Core.List.{List};
 ghost use Prim.Native.Nat.{ℕ, _≤_, min};
 ghost use lib.ListN.{length, take};
+ghost use Rattle.meaning.specs.Card.{sentLimit};
+ghost use Rattle.lines.specs.Text.{textSpace};
 ghost use Rattle.memory.specs.Memory.{cardOf};
 ghost use Rattle.words.specs.Words.{octetsOf};
 ghost use Rattle.verbs.specs.Line.{Said};
 ghost use Rattle.orders.specs.Tells.{meant, InLine};
 ghost use Rattle.replies.specs.Reply.{replyTo, Says, WritesRecords};
+use meaning::SENT_LIMIT;
+use memory::NUMBER_COUNT;
+use memory::OCTET_COUNT;
 use orders::Order;
 
 // ---- what the calls are lent
@@ -19,10 +24,10 @@ pub fn input() -> [u8; 4096]
     [0; 4096]
 }
 
-fn output() -> [u8; 9984]
-    ensures { λ r. ⌜ 9984 ≡ length r ⌝ }
+fn output() -> [u8; SENT_LIMIT]
+    ensures { λ r. ⌜ sentLimit ≡ length r ⌝ }
 {
-    [0; 9984]
+    [0; SENT_LIMIT]
 }
 
 // The octets of output that an event or a save is lent: as many as the room says, or all.
@@ -39,14 +44,14 @@ pub fn lent(out: &mut [u8], room: u32) -> &mut [u8]
 // ---- orders
 
 fn on_take(
-    numbers: &mut [u64; 1448],
-    names: &mut [u8; 18144],
+    numbers: &mut [u64; NUMBER_COUNT],
+    names: &mut [u8; OCTET_COUNT],
     neighbour: u32,
     hex: &[u8],
     room: u32,
     text: &mut [u8],
 ) -> usize
-    requires { ⌜ (length (now hex) ≤ 8192) × (47104 ≤ length (now text)) ⌝ }
+    requires { ⌜ (length (now hex) ≤ 8192) × (textSpace ≤ length (now text)) ⌝ }
     ensures { λ r. ⌜ ((number : ℕ) → Says (replyTo number room (cardOf (now (numbers .entry)) (now (names .entry))) (Said.take neighbour (octetsOf (now (hex .entry)))))
         r (now (text .exit)) (cardOf (now (numbers .exit)) (now (names .exit)))) ⌝ }
 {
@@ -66,13 +71,13 @@ fn on_take(
 }
 
 fn on_join(
-    numbers: &mut [u64; 1448],
-    names: &mut [u8; 18144],
+    numbers: &mut [u64; NUMBER_COUNT],
+    names: &mut [u8; OCTET_COUNT],
     hex: &[u8],
     room: u32,
     text: &mut [u8],
 ) -> usize
-    requires { ⌜ (length (now hex) ≤ 8192) × (47104 ≤ length (now text)) ⌝ }
+    requires { ⌜ (length (now hex) ≤ 8192) × (textSpace ≤ length (now text)) ⌝ }
     ensures { λ r. ⌜ ((number : ℕ) → Says (replyTo number room (cardOf (now (numbers .entry)) (now (names .entry))) (Said.join (octetsOf (now (hex .entry)))))
         r (now (text .exit)) (cardOf (now (numbers .exit)) (now (names .exit)))) ⌝ }
 {
@@ -91,13 +96,13 @@ fn on_join(
 }
 
 fn on_leave(
-    numbers: &mut [u64; 1448],
-    names: &mut [u8; 18144],
+    numbers: &mut [u64; NUMBER_COUNT],
+    names: &mut [u8; OCTET_COUNT],
     hex: &[u8],
     room: u32,
     text: &mut [u8],
 ) -> usize
-    requires { ⌜ (length (now hex) ≤ 8192) × (47104 ≤ length (now text)) ⌝ }
+    requires { ⌜ (length (now hex) ≤ 8192) × (textSpace ≤ length (now text)) ⌝ }
     ensures { λ r. ⌜ ((number : ℕ) → Says (replyTo number room (cardOf (now (numbers .entry)) (now (names .entry))) (Said.leave (octetsOf (now (hex .entry)))))
         r (now (text .exit)) (cardOf (now (numbers .exit)) (now (names .exit)))) ⌝ }
 {
@@ -116,14 +121,14 @@ fn on_leave(
 }
 
 fn on_route(
-    numbers: &mut [u64; 1448],
-    names: &mut [u8; 18144],
+    numbers: &mut [u64; NUMBER_COUNT],
+    names: &mut [u8; OCTET_COUNT],
     hex: &[u8],
     via: u32,
     room: u32,
     text: &mut [u8],
 ) -> usize
-    requires { ⌜ (length (now hex) ≤ 8192) × (47104 ≤ length (now text)) ⌝ }
+    requires { ⌜ (length (now hex) ≤ 8192) × (textSpace ≤ length (now text)) ⌝ }
     ensures { λ r. ⌜ ((number : ℕ) → Says (replyTo number room (cardOf (now (numbers .entry)) (now (names .entry))) (Said.route (octetsOf (now (hex .entry))) via))
         r (now (text .exit)) (cardOf (now (numbers .exit)) (now (names .exit)))) ⌝ }
 {
@@ -144,14 +149,14 @@ fn on_route(
 
 // Why a message was refused, to the neighbour that sent it.
 fn on_notice(
-    numbers: &mut [u64; 1448],
+    numbers: &mut [u64; NUMBER_COUNT],
     neighbour: u32,
     number: u32,
     hex: &[u8],
     room: u32,
     text: &mut [u8],
 ) -> usize
-    requires { ⌜ (length (now hex) ≤ 8192) × (47104 ≤ length (now text)) ⌝ }
+    requires { ⌜ (length (now hex) ≤ 8192) × (textSpace ≤ length (now text)) ⌝ }
     ensures { λ r. ⌜ ((line : ℕ) (os : List ℕ) → Says (replyTo line room (cardOf (now (numbers .entry)) os) (Said.notice neighbour number (octetsOf (now (hex .entry)))))
         r (now (text .exit)) (cardOf (now (numbers .exit)) os)) ⌝ }
 {
@@ -172,14 +177,14 @@ fn on_notice(
 
 // An order that writes records: no other comes here.
 pub fn on_event(
-    numbers: &mut [u64; 1448],
-    names: &mut [u8; 18144],
+    numbers: &mut [u64; NUMBER_COUNT],
+    names: &mut [u8; OCTET_COUNT],
     line: &[u8],
     order: Order,
     room: u32,
     text: &mut [u8],
 ) -> usize
-    requires { ⌜ InLine (now line) order × WritesRecords order × (47104 ≤ length (now text)) ⌝ }
+    requires { ⌜ InLine (now line) order × WritesRecords order × (textSpace ≤ length (now text)) ⌝ }
     ensures { λ r. ⌜ ((number : ℕ) → Says (replyTo number room (cardOf (now (numbers .entry)) (now (names .entry))) (meant (now (line .entry)) order))
         r (now (text .exit)) (cardOf (now (numbers .exit)) (now (names .exit)))) ⌝ }
 {

@@ -1,17 +1,18 @@
 // The trees of a root, oldest first: what a route order takes, and the move of them all.
 ghost use mathlib.Core.Path.{_≡_};
 ghost use mathlib.Core.List.{List};
-ghost use Prim.Native.Nat.{ℕ, _+_, _≤_, _<_};
+ghost use Prim.Native.Nat.{ℕ, _+_, _≤_, _<_, _*_};
 ghost use lib.ListN.{length};
-ghost use Rattle.meaning.specs.Wire.{records};
-ghost use Rattle.meaning.specs.Card.{Card, treeAt, freeLabels};
+ghost use Rattle.meaning.specs.Wire.{records, recordLimit};
+ghost use Rattle.meaning.specs.Card.{Card, treeAt, freeLabels, sentLimit};
 ghost use Rattle.meaning.specs.Events.{needOne, needAll, ofRoot, moveOne, moveAll};
+ghost use Rattle.memory.specs.Sizes.{Numbers, Names};
 ghost use Rattle.memory.specs.Memory.{cardOf, treeCount};
 ghost use Rattle.holders.specs.Move.{Wrote, sizeOne, sizeAll};
 use moves::Written;
 
 fn is_of_root(names: &[u8], i: usize, root: &[u8]) -> bool
-    requires { ⌜ (length (now names) ≡ 18144) × (i < 64) ⌝ }
+    requires { ⌜ Names (now names) × (i < 64) ⌝ }
     ensures { λ r. ⌜ ((ns : List ℕ) → i < treeCount ns → r ≡ ofRoot (now (root .entry)) (treeAt i (cardOf ns (now (names .entry))))) ⌝ }
 {
     octets::equal(reader::root_of(table::tree_name(names, i)), root)
@@ -19,7 +20,7 @@ fn is_of_root(names: &[u8], i: usize, root: &[u8]) -> bool
 
 // How many free labels the move of one tree takes, and how many octets its records have.
 fn need_one(numbers: &[u64], names: &[u8], i: usize, root: &[u8], u: u64) -> usize
-    requires { ⌜ (length (now numbers) ≡ 1448) × (length (now names) ≡ 18144) × (i < treeCount (now numbers)) × (i < 64) ⌝ }
+    requires { ⌜ Numbers (now numbers) × Names (now names) × (i < treeCount (now numbers)) × (i < 64) ⌝ }
     ensures { λ r. ⌜ (r ≡ needOne (now (root .entry)) u (treeAt i (cardOf (now (numbers .entry)) (now (names .entry))))) × (r ≤ 1) ⌝ }
 {
     if is_of_root(names, i, root) {
@@ -34,8 +35,8 @@ fn need_one(numbers: &[u64], names: &[u8], i: usize, root: &[u8], u: u64) -> usi
 }
 
 fn size_one(numbers: &[u64], names: &[u8], i: usize, root: &[u8], u: u64) -> usize
-    requires { ⌜ (length (now numbers) ≡ 1448) × (length (now names) ≡ 18144) × (i < treeCount (now numbers)) × (i < 64) ⌝ }
-    ensures { λ r. ⌜ (r ≡ sizeOne (now (root .entry)) u (treeAt i (cardOf (now (numbers .entry)) (now (names .entry))))) × (r ≤ 156) ⌝ }
+    requires { ⌜ Numbers (now numbers) × Names (now names) × (i < treeCount (now numbers)) × (i < 64) ⌝ }
+    ensures { λ r. ⌜ (r ≡ sizeOne (now (root .entry)) u (treeAt i (cardOf (now (numbers .entry)) (now (names .entry))))) × (r ≤ 2 * recordLimit) ⌝ }
 {
     if is_of_root(names, i, root) {
         holders::move_size(numbers, names, i, holders::holder(numbers, i, u))
@@ -46,7 +47,7 @@ fn size_one(numbers: &[u64], names: &[u8], i: usize, root: &[u8], u: u64) -> usi
 
 // How many free labels a move of all trees of a root takes.
 pub fn need_all(numbers: &[u64], names: &[u8], root: &[u8], u: u64) -> usize
-    requires { ⌜ (length (now numbers) ≡ 1448) × (length (now names) ≡ 18144) ⌝ }
+    requires { ⌜ Numbers (now numbers) × Names (now names) ⌝ }
     ensures { λ r. ⌜ (r ≡ needAll (now (root .entry)) u (cardOf (now (numbers .entry)) (now (names .entry)))) × (r ≤ 64) ⌝ }
 {
     let n = memory::tree_count(numbers);
@@ -61,8 +62,8 @@ pub fn need_all(numbers: &[u64], names: &[u8], root: &[u8], u: u64) -> usize
 
 // How many octets its records have.
 pub fn size_all(numbers: &[u64], names: &[u8], root: &[u8], u: u64) -> usize
-    requires { ⌜ (length (now numbers) ≡ 1448) × (length (now names) ≡ 18144) ⌝ }
-    ensures { λ r. ⌜ (r ≡ sizeAll (now (root .entry)) u (cardOf (now (numbers .entry)) (now (names .entry)))) × (r ≤ 9984) ⌝ }
+    requires { ⌜ Numbers (now numbers) × Names (now names) ⌝ }
+    ensures { λ r. ⌜ (r ≡ sizeAll (now (root .entry)) u (cardOf (now (numbers .entry)) (now (names .entry)))) × (r ≤ sentLimit) ⌝ }
 {
     let n = memory::tree_count(numbers);
     let mut sum = 0;
@@ -84,7 +85,7 @@ fn move_one(
     at: usize,
     id: u32,
 ) -> Written
-    requires { ⌜ (length (now numbers) ≡ 1448) × (length (now names) ≡ 18144) × (i < treeCount (now numbers)) × (i < 64) × (u ≤ 17) × (u ≡ 16 → ⊥)
+    requires { ⌜ Numbers (now numbers) × Names (now names) × (i < treeCount (now numbers)) × (i < 64) × (u ≤ 17) × (u ≡ 16 → ⊥)
         × (needOne (now root) u (treeAt i (cardOf (now numbers) (now names))) ≤ freeLabels (cardOf (now numbers) (now names)))
         × (at + length (records id (moveOne (now root) u i (cardOf (now numbers) (now names)) .sent)) ≤ length (now out)) ⌝ }
     ensures { λ r. ⌜ Wrote (moveOne (now (root .entry)) u i (cardOf (now (numbers .entry)) (now (names .entry)))) id at (now (out .entry)) (now (out .exit)) (cardOf (now (numbers .exit)) (now (names .exit))) (r .at) (r .id)
@@ -107,7 +108,7 @@ pub fn move_all(
     out: &mut [u8],
     id: u32,
 ) -> Written
-    requires { ⌜ (length (now numbers) ≡ 1448) × (length (now names) ≡ 18144) × (u ≤ 17) × (u ≡ 16 → ⊥)
+    requires { ⌜ Numbers (now numbers) × Names (now names) × (u ≤ 17) × (u ≡ 16 → ⊥)
         × (needAll (now root) u (cardOf (now numbers) (now names)) ≤ freeLabels (cardOf (now numbers) (now names)))
         × (sizeAll (now root) u (cardOf (now numbers) (now names)) ≤ length (now out)) ⌝ }
     ensures { λ r. ⌜ Wrote (moveAll (now (root .entry)) u (cardOf (now (numbers .entry)) (now (names .entry)))) id 0 (now (out .entry)) (now (out .exit)) (cardOf (now (numbers .exit)) (now (names .exit))) (r .at) (r .id) ⌝ }

@@ -5,9 +5,11 @@ ghost use lib.ListN.{length};
 ghost use mathlib.Core.Bool.{_&&_};
 ghost use lib.Dec.{eqb, leb, ltb};
 ghost use Rattle.meaning.specs.Octets.{_when_else_};
+ghost use Rattle.meaning.specs.Wire.{rootLimit};
 ghost use Rattle.meaning.specs.Card.{noRoute, routeOf, routePlace, freeLabels, withRoutes};
 ghost use Rattle.meaning.specs.Events.{finish, routesFull, routesWith, labelsShort, needAll, upstream};
 ghost use Rattle.meaning.specs.Calls.{Does};
+ghost use Rattle.memory.specs.Sizes.{Numbers, Names};
 ghost use Rattle.memory.specs.Memory.{cardOf};
 ghost use Rattle.holders.specs.Move.{sizeAll};
 ghost use Rattle.trees.specs.End.{Ended};
@@ -21,7 +23,7 @@ fn upstream_via(via: u64) -> u64
 
 // 15, for a root whose route is to be another.
 fn routes_full(numbers: &[u64], names: &[u8], root: &[u8]) -> bool
-    requires { ⌜ (length (now numbers) ≡ 1448) × (length (now names) ≡ 18144) ⌝ }
+    requires { ⌜ Numbers (now numbers) × Names (now names) ⌝ }
     ensures { λ r. ⌜ r ≡ (eqb (routeOf (now (root .entry)) (cardOf (now (numbers .entry)) (now (names .entry)))) noRoute
         && leb 32 (length (cardOf (now (numbers .entry)) (now (names .entry)) .routes))) ⌝ }
 {
@@ -33,7 +35,7 @@ fn routes_full(numbers: &[u64], names: &[u8], root: &[u8]) -> bool
 
 // 15, 12 and 16 for a route that is another than the old one.
 fn route_refusal(numbers: &[u64], names: &[u8], root: &[u8], via: u64, u: u64, room: usize) -> u32
-    requires { ⌜ (length (now numbers) ≡ 1448) × (length (now names) ≡ 18144) × (u ≡ upstream via) × (routeOf (now root) (cardOf (now numbers) (now names)) ≡ via → ⊥) ⌝ }
+    requires { ⌜ Numbers (now numbers) × Names (now names) × (u ≡ upstream via) × (routeOf (now root) (cardOf (now numbers) (now names)) ≡ via → ⊥) ⌝ }
     ensures { λ r. ⌜ r ≡ 15 when routesFull (cardOf (now (numbers .entry)) (now (names .entry))) (now (root .entry)) via else 12 when labelsShort (cardOf (now (numbers .entry)) (now (names .entry))) (needAll (now (root .entry)) (upstream via) (cardOf (now (numbers .entry)) (now (names .entry))))
         else 16 when ltb room (sizeAll (now (root .entry)) (upstream via) (cardOf (now (numbers .entry)) (now (names .entry)))) else 0 ⌝ }
 {
@@ -51,7 +53,7 @@ fn route_refusal(numbers: &[u64], names: &[u8], root: &[u8], via: u64, u: u64, r
 
 // The root's entry: anew, or gone where there is no route.
 fn set_route(numbers: &mut [u64], names: &mut [u8], root: &[u8], via: u64)
-    requires { ⌜ (length (now numbers) ≡ 1448) × (length (now names) ≡ 18144) × (length (now root) ≤ 16)
+    requires { ⌜ Numbers (now numbers) × Names (now names) × (length (now root) ≤ rootLimit)
         × (routePlace (now root) (cardOf (now numbers) (now names)) ≡ length ((cardOf (now numbers) (now names)) .routes) → (via ≡ 17 → ⊥) × (length ((cardOf (now numbers) (now names)) .routes) < 32)) ⌝ }
     ensures { λ _. ⌜ (cardOf (now (numbers .exit)) (now (names .exit))) ≡ withRoutes (routesWith (cardOf (now (numbers .entry)) (now (names .entry))) (now (root .entry)) via) (cardOf (now (numbers .entry)) (now (names .entry))) ⌝ }
 {
@@ -71,7 +73,7 @@ fn re_route(
     u: u64,
     out: &mut [u8],
 ) -> usize
-    requires { ⌜ (length (now numbers) ≡ 1448) × (length (now names) ≡ 18144) × (length (now root) ≤ 16) × (u ≡ upstream via) × (u ≤ 17) × (u ≡ 16 → ⊥)
+    requires { ⌜ Numbers (now numbers) × Names (now names) × (length (now root) ≤ rootLimit) × (u ≡ upstream via) × (u ≤ 17) × (u ≡ 16 → ⊥)
         × (routePlace (now root) (cardOf (now numbers) (now names)) ≡ length ((cardOf (now numbers) (now names)) .routes) → (via ≡ 17 → ⊥) × (length ((cardOf (now numbers) (now names)) .routes) < 32))
         × (needAll (now root) u (cardOf (now numbers) (now names)) ≤ freeLabels (cardOf (now numbers) (now names))) × (sizeAll (now root) u (cardOf (now numbers) (now names)) ≤ length (now out)) ⌝ }
     ensures { λ r. ⌜ Ended (movedTo (cardOf (now (numbers .entry)) (now (names .entry))) (now (root .entry)) via) ((cardOf (now (numbers .entry)) (now (names .entry))) .next) 0 (now (out .entry)) (now (out .exit)) (cardOf (now (numbers .exit)) (now (names .exit))) r ⌝ }
@@ -92,7 +94,7 @@ pub fn change_route(
     out: &mut [u8],
     answer: &mut u32,
 ) -> usize
-    requires { ⌜ (length (now numbers) ≡ 1448) × (length (now names) ≡ 18144) × (length (now root) ≤ 16) × (via ≤ 17) ⌝ }
+    requires { ⌜ Numbers (now numbers) × Names (now names) × (length (now root) ≤ rootLimit) × (via ≤ 17) ⌝ }
     ensures { λ r. ⌜ Does (finish (length (now (out .entry))) (cardOf (now (numbers .entry)) (now (names .entry))) (routeOrder (cardOf (now (numbers .entry)) (now (names .entry))) (now (root .entry)) via))
         (now (answer .exit)) r (now (out .entry)) (now (out .exit)) (cardOf (now (numbers .exit)) (now (names .exit))) ⌝ }
 {

@@ -3,16 +3,17 @@ ghost use mathlib.Core.Path.{_≡_};
 ghost use mathlib.Core.Bool.{false, not};
 ghost use mathlib.Core.List.{List};
 ghost use Prim.Native.Nat.{ℕ, _+_, _<_};
-ghost use lib.ListN.{length, drop};
+ghost use lib.ListN.{drop};
 ghost use Rattle.meaning.specs.Octets.{any, all};
 ghost use Rattle.meaning.specs.Card.{treeAt, isEmpty, isFor, named};
 ghost use Rattle.meaning.specs.Save.{isName, onceEach, isRoute, sameRoot, isBranchLabel, isTree, sameName};
+ghost use Rattle.memory.specs.Sizes.{Numbers, Names};
 ghost use Rattle.memory.specs.Memory.{cardOf, treeCount, routeIn};
 
 // ---- routes
 
 fn is_route(numbers: &[u64], names: &[u8], i: usize) -> bool
-    requires { ⌜ (length (now numbers) ≡ 1448) × (length (now names) ≡ 18144) × (i < 32) ⌝ }
+    requires { ⌜ Numbers (now numbers) × Names (now names) × (i < 32) ⌝ }
     ensures { λ r. ⌜ r ≡ isRoute (routeIn (now (numbers .entry)) (now (names .entry)) i) ⌝ }
 {
     if 16 < table::route_via(numbers, i) {
@@ -26,7 +27,7 @@ fn is_route(numbers: &[u64], names: &[u8], i: usize) -> bool
 }
 
 pub fn routes_good(numbers: &[u64], names: &[u8]) -> bool
-    requires { ⌜ (length (now numbers) ≡ 1448) × (length (now names) ≡ 18144) ⌝ }
+    requires { ⌜ Numbers (now numbers) × Names (now names) ⌝ }
     ensures { λ r. ⌜ r ≡ all isRoute (cardOf (now (numbers .entry)) (now (names .entry)) .routes) ⌝ }
 {
     let n = memory::route_count(numbers);
@@ -42,7 +43,7 @@ pub fn routes_good(numbers: &[u64], names: &[u8]) -> bool
 
 // Whether a route of that root stands at place `from` or further on.
 fn root_from(numbers: &[u64], names: &[u8], from: usize, root: &[u8]) -> bool
-    requires { ⌜ (length (now numbers) ≡ 1448) × (length (now names) ≡ 18144) ⌝ }
+    requires { ⌜ Numbers (now numbers) × Names (now names) ⌝ }
     ensures { λ r. ⌜ r ≡ any (isFor (now (root .entry))) (drop from (cardOf (now (numbers .entry)) (now (names .entry)) .routes)) ⌝ }
 {
     let n = memory::route_count(numbers);
@@ -57,7 +58,7 @@ fn root_from(numbers: &[u64], names: &[u8], from: usize, root: &[u8]) -> bool
 }
 
 pub fn roots_once(numbers: &[u64], names: &[u8]) -> bool
-    requires { ⌜ (length (now numbers) ≡ 1448) × (length (now names) ≡ 18144) ⌝ }
+    requires { ⌜ Numbers (now numbers) × Names (now names) ⌝ }
     ensures { λ r. ⌜ r ≡ onceEach sameRoot (cardOf (now (numbers .entry)) (now (names .entry)) .routes) ⌝ }
 {
     let n = memory::route_count(numbers);
@@ -92,7 +93,7 @@ fn is_branch_label(label: u64) -> bool
 }
 
 fn branches_good(numbers: &[u64], i: usize) -> bool
-    requires { ⌜ (length (now numbers) ≡ 1448) × (i < treeCount (now numbers)) × (i < 64) ⌝ }
+    requires { ⌜ Numbers (now numbers) × (i < treeCount (now numbers)) × (i < 64) ⌝ }
     ensures { λ r. ⌜ ((os : List ℕ) → r ≡ all isBranchLabel (treeAt i (cardOf (now (numbers .entry)) os) .branches)) ⌝ }
 {
     let mut k = 0;
@@ -107,7 +108,7 @@ fn branches_good(numbers: &[u64], i: usize) -> bool
 
 // Whether the tree at place i has a branch or a leaf.
 fn leads_somewhere(numbers: &[u64], i: usize) -> bool
-    requires { ⌜ (length (now numbers) ≡ 1448) × (i < treeCount (now numbers)) × (i < 64) ⌝ }
+    requires { ⌜ Numbers (now numbers) × (i < treeCount (now numbers)) × (i < 64) ⌝ }
     ensures { λ r. ⌜ ((os : List ℕ) → r ≡ not (isEmpty (treeAt i (cardOf (now (numbers .entry)) os)))) ⌝ }
 {
     if table::is_leaf(numbers, i) {
@@ -117,7 +118,7 @@ fn leads_somewhere(numbers: &[u64], i: usize) -> bool
 }
 
 fn is_tree(numbers: &[u64], names: &[u8], i: usize) -> bool
-    requires { ⌜ (length (now numbers) ≡ 1448) × (length (now names) ≡ 18144) × (i < treeCount (now numbers)) × (i < 64) ⌝ }
+    requires { ⌜ Numbers (now numbers) × Names (now names) × (i < treeCount (now numbers)) × (i < 64) ⌝ }
     ensures { λ r. ⌜ r ≡ isTree (treeAt i (cardOf (now (numbers .entry)) (now (names .entry)))) ⌝ }
 {
     if !is_name(table::tree_name(names, i)) {
@@ -130,7 +131,7 @@ fn is_tree(numbers: &[u64], names: &[u8], i: usize) -> bool
 }
 
 pub fn trees_good(numbers: &[u64], names: &[u8]) -> bool
-    requires { ⌜ (length (now numbers) ≡ 1448) × (length (now names) ≡ 18144) ⌝ }
+    requires { ⌜ Numbers (now numbers) × Names (now names) ⌝ }
     ensures { λ r. ⌜ r ≡ all isTree (cardOf (now (numbers .entry)) (now (names .entry)) .trees) ⌝ }
 {
     let n = memory::tree_count(numbers);
@@ -146,7 +147,7 @@ pub fn trees_good(numbers: &[u64], names: &[u8]) -> bool
 
 // Whether a tree of that name stands at place `from` or further on.
 fn name_from(numbers: &[u64], names: &[u8], from: usize, name: &[u8]) -> bool
-    requires { ⌜ (length (now numbers) ≡ 1448) × (length (now names) ≡ 18144) ⌝ }
+    requires { ⌜ Numbers (now numbers) × Names (now names) ⌝ }
     ensures { λ r. ⌜ r ≡ any (named (now (name .entry))) (drop from (cardOf (now (numbers .entry)) (now (names .entry)) .trees)) ⌝ }
 {
     let n = memory::tree_count(numbers);
@@ -162,7 +163,7 @@ fn name_from(numbers: &[u64], names: &[u8], from: usize, name: &[u8]) -> bool
 
 // No two trees have one name.
 pub fn names_once(numbers: &[u64], names: &[u8]) -> bool
-    requires { ⌜ (length (now numbers) ≡ 1448) × (length (now names) ≡ 18144) ⌝ }
+    requires { ⌜ Numbers (now numbers) × Names (now names) ⌝ }
     ensures { λ r. ⌜ r ≡ onceEach sameName (cardOf (now (numbers .entry)) (now (names .entry)) .trees) ⌝ }
 {
     let n = memory::tree_count(numbers);

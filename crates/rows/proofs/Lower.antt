@@ -4,11 +4,12 @@ use native.Mathlib.Omega.{arith}
 use mathlib.Core.Path.{_≡_, refl, sym, _∙_}
 use mathlib.Core.Bool.{true, false}
 use mathlib.Core.List.{List}
-use lib.ListN.{length, set, length-set}
+use lib.ListN.{set, length-set}
 use lib.Seq.{getD-set-same, getD-set-other}
 use lib.Dec.{eqb}
 use borrow.Author.Tests.{eqb-true, eqb-false}
 use Rattle.meaning.specs.Lists.{by-test}
+use Rattle.memory.specs.Sizes.{nameSpace, ownColumn, markColumn, wordColumn, wordCount, labelNames, Numbers}
 use Rattle.memory.specs.Memory.{markAt, markUse, markPlace, isFreeAt, isMappedAt, labelIn, ownPlace, carriesAt, Relabelled}
 use Rattle.memory.proofs.Memory.{base-same, free-same, own-same, label-same, agree-refl, agree-set}
 use Rattle.memory.proofs.Marks.{mapped-at, mapped-use, carried-in, carried-out, not-far, not-named, own-some, own-none, remarked, remarked-free, own-beside}
@@ -19,7 +20,7 @@ pub use-kept : (ns ms os : List ℕ) (p : ℕ) → markUse (markAt ms p) ≡ mar
 unfolding labelIn
 use-kept ns ms os p e f = rw (e, f) refl
 
-module _ (ns : List ℕ) (j : ℕ) (l : length ns ≡ 1448) (h : j + 1 < 64) where
+module _ (ns : List ℕ) (j : ℕ) (l : Numbers ns) (h : j + 1 < 64) where
   -- the tree carries its label
   module _ (c : carriesAt ns (j + 1) (ownPlace ns (j + 1)) ≡ true) where
     pub own-inside : ownPlace ns (j + 1) < 256
@@ -28,12 +29,12 @@ module _ (ns : List ℕ) (j : ℕ) (l : length ns ≡ 1448) (h : j + 1 < 64) whe
     pub own-named : 256 ≤ markAt ns (ownPlace ns (j + 1))
     own-named = let e : markPlace (markAt ns (ownPlace ns (j + 1))) ≡ j + 1 = carried-out ns (j + 1) (ownPlace ns (j + 1)) c .2 in omega arith
 
-    pub lower-carried : LoweredOne j ns (set ns (1188 + ownPlace ns (j + 1)) (markAt ns (ownPlace ns (j + 1)) - 256))
+    pub lower-carried : LoweredOne j ns (set ns (markColumn + ownPlace ns (j + 1)) (markAt ns (ownPlace ns (j + 1)) - 256))
     lower-carried = record {
-      long = length-set ns (1188 + p) v;
-      rest = λ k x y. getD-set-other ns (1188 + p) k v 0 (λ e. y (omega (arith, own-inside)) (omega (arith, own-inside)));
+      long = length-set ns (markColumn + p) v;
+      rest = λ k x y. getD-set-other ns (markColumn + p) k v 0 (λ e. y (omega (arith, own-inside)) (omega (arith, own-inside)));
       uses = uses;
-      moved = rw (own-at (j + 1) h, own-some ms j p (carried-in ms j p own-inside now-mapped now-place), own-some ns (j + 1) p c, base-same ns ms ns ns (agree-set 0 1 ns (1188 + p) v (λ a b. omega arith))) refl;
+      moved = rw (own-at (j + 1) h, own-some ms j p (carried-in ms j p own-inside now-mapped now-place), own-some ns (j + 1) p c, base-same ns ms ns ns (agree-set 0 1 ns (markColumn + p) v (λ a b. omega arith))) refl;
       others = λ q a q64 ne n0 n1. rw (own-at q q64) (own-beside ns ms p a (ownPlace ns q) r (λ e. rw e (not-named ns a p (λ z. n1 (sym z ∙ place)), not-named ms a p (λ z. n0 (sym z ∙ now-place)))));
     }
       where
@@ -44,7 +45,7 @@ module _ (ns : List ℕ) (j : ℕ) (l : length ns ≡ 1448) (h : j + 1 < 64) whe
         v = markAt ns p - 256
 
         ms : List ℕ
-        ms = set ns (1188 + p) v
+        ms = set ns (markColumn + p) v
 
         r : Relabelled p ns ms
         r = remarked ns p v own-inside
@@ -56,7 +57,7 @@ module _ (ns : List ℕ) (j : ℕ) (l : length ns ≡ 1448) (h : j + 1 < 64) whe
         place = carried-out ns (j + 1) p c .2
 
         now : markAt ms p ≡ v
-        now = getD-set-same ns (1188 + p) v 0 (omega (arith, own-inside))
+        now = getD-set-same ns (markColumn + p) v 0 (omega (arith, own-inside))
 
         now-use : markUse (markAt ms p) ≡ markUse (markAt ns p)
         now-use = let e = now in let q = own-named in omega arith
@@ -71,37 +72,37 @@ module _ (ns : List ℕ) (j : ℕ) (l : length ns ≡ 1448) (h : j + 1 < 64) whe
             mapped-at ms p (free ∙ u .0) (omega (arith, u .1))
 
         own-at : (q : ℕ) → q < 64 → ownPlace ms q ≡ ownPlace ns q
-        own-at q q64 = getD-set-other ns (1188 + p) (36 + q) v 0 (λ e. omega arith)
+        own-at q q64 = getD-set-other ns (markColumn + p) (ownColumn + q) v 0 (λ e. omega arith)
 
         uses : (os : List ℕ) (q : ℕ) → q < 256 → labelIn ms os q ≡ labelIn ns os q
         uses os q lt =
             by-test (eqb q p)
             (λ t. let e : q ≡ p = eqb-true q p t in rw e (use-kept ns ms os p now-use free))
-            (λ t. label-same ns ms os os q (r .marks q lt (eqb-false q p t)) (r .frees q lt (eqb-false q p t)) (agree-refl (3520 + q * 55) 55 os))
+            (λ t. label-same ns ms os os q (r .marks q lt (eqb-false q p t)) (r .frees q lt (eqb-false q p t)) (agree-refl (labelNames + q * nameSpace) nameSpace os))
 
   -- it does not: it has none for its own
-  pub lower-cleared : carriesAt ns (j + 1) (ownPlace ns (j + 1)) ≡ false → LoweredOne j ns (set ns (36 + (j + 1)) 256)
+  pub lower-cleared : carriesAt ns (j + 1) (ownPlace ns (j + 1)) ≡ false → LoweredOne j ns (set ns (ownColumn + (j + 1)) 256)
   lower-cleared c = record {
-    long = length-set ns (36 + (j + 1)) 256;
-    rest = λ k x y. getD-set-other ns (36 + (j + 1)) k 256 0 (λ e. x (omega arith) (omega arith));
-    uses = λ os q lt. label-same ns ms os os q (mark q) (free q lt) (agree-refl (3520 + q * 55) 55 os);
+    long = length-set ns (ownColumn + (j + 1)) 256;
+    rest = λ k x y. getD-set-other ns (ownColumn + (j + 1)) k 256 0 (λ e. x (omega arith) (omega arith));
+    uses = λ os q lt. label-same ns ms os os q (mark q) (free q lt) (agree-refl (labelNames + q * nameSpace) nameSpace os);
     moved = own-none ms j (ownPlace ms (j + 1)) (not-far ms j (ownPlace ms (j + 1)) (omega (arith, now))) ∙ sym (own-none ns (j + 1) (ownPlace ns (j + 1)) c);
     others = λ q a q64 ne n0 n1.
-        rw (getD-set-other ns (36 + (j + 1)) (36 + q) 256 0 (λ e. ne (omega arith)))
-        (own-same ns ms ns ns a (ownPlace ns q) (agree-set 0 1 ns (36 + (j + 1)) 256 (λ x y. omega arith)) (λ lt. mark (ownPlace ns q)) (λ lt. free (ownPlace ns q) lt));
+        rw (getD-set-other ns (ownColumn + (j + 1)) (ownColumn + q) 256 0 (λ e. ne (omega arith)))
+        (own-same ns ms ns ns a (ownPlace ns q) (agree-set 0 1 ns (ownColumn + (j + 1)) 256 (λ x y. omega arith)) (λ lt. mark (ownPlace ns q)) (λ lt. free (ownPlace ns q) lt));
   }
     where
       ms : List ℕ
-      ms = set ns (36 + (j + 1)) 256
+      ms = set ns (ownColumn + (j + 1)) 256
 
       mark : (q : ℕ) → markAt ms q ≡ markAt ns q
-      mark q = getD-set-other ns (36 + (j + 1)) (1188 + q) 256 0 (λ e. omega arith)
+      mark q = getD-set-other ns (ownColumn + (j + 1)) (markColumn + q) 256 0 (λ e. omega arith)
 
       free : (q : ℕ) → q < 256 → isFreeAt ms q ≡ isFreeAt ns q
-      free = free-same ns ms ns ns (agree-set 1444 4 ns (36 + (j + 1)) 256 (λ a b. omega arith))
+      free = free-same ns ms ns ns (agree-set wordColumn wordCount ns (ownColumn + (j + 1)) 256 (λ a b. omega arith))
 
       now : ownPlace ms (j + 1) ≡ 256
-      now = getD-set-same ns (36 + (j + 1)) 256 0 (omega arith)
+      now = getD-set-same ns (ownColumn + (j + 1)) 256 0 (omega arith)
 
 -- ---- all behind a place, one after the other
 

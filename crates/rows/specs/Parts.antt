@@ -3,6 +3,7 @@ use Prim.Native.Nat.{ℕ, _+_, _≤_, _<_}
 use mathlib.Core.Path.{_≡_}
 use mathlib.Core.List.{List}
 use lib.ListN.{length, getD}
+use Rattle.memory.specs.Sizes.{ownColumn, rowColumn, markColumn, wordColumn}
 use Rattle.memory.specs.Memory.{labelIn, ownPlace, ownLabel}
 
 -- the values vs stand from place a on, and all else is as it was
@@ -21,7 +22,7 @@ pub record Closed (a e w : ℕ) (xs ys : List ℕ) : Type 0 where
 -- Those before the gap and those behind j carry theirs as they did; what every label is used for, and all else, is as it was.
 pub record Lowered (i j : ℕ) (ns ms : List ℕ) : Type 0 where
   pub long : length ms ≡ length ns
-  pub rest : (k : ℕ) → (36 ≤ k → k < 100 → ⊥) → (1188 ≤ k → k < 1444 → ⊥) → getD ms k 0 ≡ getD ns k 0
+  pub rest : (k : ℕ) → (ownColumn ≤ k → k < rowColumn → ⊥) → (markColumn ≤ k → k < wordColumn → ⊥) → getD ms k 0 ≡ getD ns k 0
   pub uses : (os : List ℕ) (p : ℕ) → p < 256 → labelIn ms os p ≡ labelIn ns os p
   pub before : (q : ℕ) → q < i → q < 64 → ownLabel ms q (ownPlace ms q) ≡ ownLabel ns q (ownPlace ns q)
   pub moved : (q : ℕ) → i ≤ q → q < j → ownLabel ms q (ownPlace ms (q + 1)) ≡ ownLabel ns (q + 1) (ownPlace ns (q + 1))
@@ -30,7 +31,7 @@ pub record Lowered (i j : ℕ) (ns ms : List ℕ) : Type 0 where
 -- one of them, from place j + 1 to place j: a tree at another place q carries what it did, read as at any place a but these two
 pub record LoweredOne (j : ℕ) (ns ms : List ℕ) : Type 0 where
   pub long : length ms ≡ length ns
-  pub rest : (k : ℕ) → (36 ≤ k → k < 100 → ⊥) → (1188 ≤ k → k < 1444 → ⊥) → getD ms k 0 ≡ getD ns k 0
+  pub rest : (k : ℕ) → (ownColumn ≤ k → k < rowColumn → ⊥) → (markColumn ≤ k → k < wordColumn → ⊥) → getD ms k 0 ≡ getD ns k 0
   pub uses : (os : List ℕ) (p : ℕ) → p < 256 → labelIn ms os p ≡ labelIn ns os p
   pub moved : ownLabel ms j (ownPlace ms (j + 1)) ≡ ownLabel ns (j + 1) (ownPlace ns (j + 1))
   pub others : (q a : ℕ) → q < 64 → (q ≡ j + 1 → ⊥) → (a ≡ j → ⊥) → (a ≡ j + 1 → ⊥) → ownLabel ms a (ownPlace ms q) ≡ ownLabel ns a (ownPlace ns q)

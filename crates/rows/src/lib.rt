@@ -4,9 +4,23 @@ ghost use mathlib.Core.List.{List, [], _∷_, _++_};
 ghost use Prim.Native.Nat.{ℕ, _+_, _-_, _≤_, _<_};
 ghost use lib.ListN.{length, replicate};
 ghost use Rattle.meaning.specs.Octets.{put, cut};
+ghost use Rattle.meaning.specs.Wire.{rootLimit, nameLimit};
 ghost use Rattle.meaning.specs.Card.{fresh, withTrees, withRoutes, bare, routePlace};
+ghost use Rattle.memory.specs.Sizes.{Numbers, Names};
 ghost use Rattle.memory.specs.Memory.{cardOf, treeCount, routeCount};
 ghost use Rattle.rows.specs.Parts.{Written, Closed, Lowered, LoweredOne};
+use memory::FOURTH_WORD;
+use memory::MARK_COLUMN;
+use memory::NAME_SPACE;
+use memory::OWN_COLUMN;
+use memory::ROOT_NAMES;
+use memory::ROOT_SPACE;
+use memory::ROUTE_COLUMN;
+use memory::ROW_COLUMN;
+use memory::ROW_WIDTH;
+use memory::SECOND_WORD;
+use memory::THIRD_WORD;
+use memory::WORD_COLUMN;
 
 // ---- parts of the memory
 
@@ -47,35 +61,35 @@ pub fn put_text(names: &mut [u8], at: usize, text: &[u8])
 
 // A tree comes, with neither branch nor leaf nor label: the newest.
 pub fn enter_tree(numbers: &mut [u64], names: &mut [u8], name: &[u8])
-    requires { ⌜ (length (now numbers) ≡ 1448) × (length (now names) ≡ 18144) × (treeCount (now numbers) < 64) × (length (now name) ≤ 54) ⌝ }
+    requires { ⌜ Numbers (now numbers) × Names (now names) × (treeCount (now numbers) < 64) × (length (now name) ≤ nameLimit) ⌝ }
     ensures { λ _. ⌜ cardOf (now (numbers .exit)) (now (names .exit))
         ≡ withTrees (cardOf (now (numbers .entry)) (now (names .entry)) .trees ++ (bare (now (name .entry)) ∷ [])) (cardOf (now (numbers .entry)) (now (names .entry))) ⌝ }
 {
     let n = memory::tree_count(numbers);
-    clear(numbers, 100 + n * 17, 17);
-    put_text(names, n * 55, name);
-    numbers[36 + n] = 256;
+    clear(numbers, ROW_COLUMN + n * ROW_WIDTH, ROW_WIDTH);
+    put_text(names, n * NAME_SPACE, name);
+    numbers[OWN_COLUMN + n] = 256;
     numbers[3] = (n + 1) as u64;
 }
 
 // The tree at place j + 1 is to stand at place j: the mark of its label names that place. Where it does not carry the label that
 // it has for its own it has none from now on, so that it cannot come to carry that one.
 fn lower_one(numbers: &mut [u64], j: usize)
-    requires { ⌜ (length (now numbers) ≡ 1448) × (j + 1 < 64) ⌝ }
+    requires { ⌜ Numbers (now numbers) × (j + 1 < 64) ⌝ }
     ensures { λ _. ⌜ LoweredOne j (now (numbers .entry)) (now (numbers .exit)) ⌝ }
 {
     let t = j + 1;
     if table::carries_own(numbers, t) {
-        let k = 1188 + numbers[36 + t] as usize;
+        let k = MARK_COLUMN + numbers[OWN_COLUMN + t] as usize;
         numbers[k] = numbers[k] - 256;
         return;
     }
-    numbers[36 + t] = 256;
+    numbers[OWN_COLUMN + t] = 256;
 }
 
 // Each of the n trees that stands behind place i is to stand one place lower.
 fn lower_behind(numbers: &mut [u64], i: usize, n: usize)
-    requires { ⌜ (length (now numbers) ≡ 1448) × (i < n) × (n ≤ 64) ⌝ }
+    requires { ⌜ Numbers (now numbers) × (i < n) × (n ≤ 64) ⌝ }
     ensures { λ _. ⌜ Lowered i (n - 1) (now (numbers .entry)) (now (numbers .exit)) ⌝ }
 {
     let mut j = i;
@@ -87,15 +101,20 @@ fn lower_behind(numbers: &mut [u64], i: usize, n: usize)
 
 // A tree goes, and the gap is closed.
 pub fn remove_tree(numbers: &mut [u64], names: &mut [u8], i: usize)
-    requires { ⌜ (length (now numbers) ≡ 1448) × (length (now names) ≡ 18144) × (i < treeCount (now numbers)) × (i < 64) ⌝ }
+    requires { ⌜ Numbers (now numbers) × Names (now names) × (i < treeCount (now numbers)) × (i < 64) ⌝ }
     ensures { λ _. ⌜ cardOf (now (numbers .exit)) (now (names .exit))
         ≡ withTrees (cut (cardOf (now (numbers .entry)) (now (names .entry)) .trees) i) (cardOf (now (numbers .entry)) (now (names .entry))) ⌝ }
 {
     let n = memory::tree_count(numbers);
     lower_behind(numbers, i, n);
-    close_numbers(numbers, 36 + i, 36 + n, 1);
-    close_numbers(numbers, 100 + i * 17, 100 + n * 17, 17);
-    close_octets(names, i * 55, n * 55, 55);
+    close_numbers(numbers, OWN_COLUMN + i, OWN_COLUMN + n, 1);
+    close_numbers(
+        numbers,
+        ROW_COLUMN + i * ROW_WIDTH,
+        ROW_COLUMN + n * ROW_WIDTH,
+        ROW_WIDTH,
+    );
+    close_octets(names, i * NAME_SPACE, n * NAME_SPACE, NAME_SPACE);
     numbers[3] = (n - 1) as u64;
 }
 
@@ -103,19 +122,19 @@ pub fn remove_tree(numbers: &mut [u64], names: &mut [u8], i: usize)
 
 // A route comes, behind the others.
 pub fn append_route(numbers: &mut [u64], names: &mut [u8], root: &[u8], via: u64)
-    requires { ⌜ (length (now numbers) ≡ 1448) × (length (now names) ≡ 18144) × (routeCount (now numbers) < 32) × (length (now root) ≤ 16) ⌝ }
+    requires { ⌜ Numbers (now numbers) × Names (now names) × (routeCount (now numbers) < 32) × (length (now root) ≤ rootLimit) ⌝ }
     ensures { λ _. ⌜ cardOf (now (numbers .exit)) (now (names .exit))
         ≡ withRoutes (cardOf (now (numbers .entry)) (now (names .entry)) .routes ++ (record { root = now (root .entry); via = via } ∷ [])) (cardOf (now (numbers .entry)) (now (names .entry))) ⌝ }
 {
     let n = memory::route_count(numbers);
-    put_text(names, 17600 + n * 17, root);
-    numbers[4 + n] = via;
+    put_text(names, ROOT_NAMES + n * ROOT_SPACE, root);
+    numbers[ROUTE_COLUMN + n] = via;
     numbers[2] = (n + 1) as u64;
 }
 
 // The route of the root whose place is i: its entry, or a new one behind the others.
 pub fn put_route(numbers: &mut [u64], names: &mut [u8], i: usize, root: &[u8], via: u64)
-    requires { ⌜ (length (now numbers) ≡ 1448) × (length (now names) ≡ 18144) × (length (now root) ≤ 16)
+    requires { ⌜ Numbers (now numbers) × Names (now names) × (length (now root) ≤ rootLimit)
         × (i ≡ routePlace (now root) (cardOf (now numbers) (now names)))
         × (routeCount (now numbers) ≤ routePlace (now root) (cardOf (now numbers) (now names)) → routeCount (now numbers) < 32) ⌝ }
     ensures { λ _. ⌜ cardOf (now (numbers .exit)) (now (names .exit))
@@ -123,7 +142,7 @@ pub fn put_route(numbers: &mut [u64], names: &mut [u8], i: usize, root: &[u8], v
 {
     let n = memory::route_count(numbers);
     if i < n {
-        numbers[4 + i] = via;
+        numbers[ROUTE_COLUMN + i] = via;
         return;
     }
     append_route(numbers, names, root, via);
@@ -131,13 +150,18 @@ pub fn put_route(numbers: &mut [u64], names: &mut [u8], i: usize, root: &[u8], v
 
 // A root's entry goes, and the gap is closed.
 pub fn remove_route(numbers: &mut [u64], names: &mut [u8], i: usize)
-    requires { ⌜ (length (now numbers) ≡ 1448) × (length (now names) ≡ 18144) × (i < routeCount (now numbers)) × (i < 32) ⌝ }
+    requires { ⌜ Numbers (now numbers) × Names (now names) × (i < routeCount (now numbers)) × (i < 32) ⌝ }
     ensures { λ _. ⌜ cardOf (now (numbers .exit)) (now (names .exit))
         ≡ withRoutes (cut (cardOf (now (numbers .entry)) (now (names .entry)) .routes) i) (cardOf (now (numbers .entry)) (now (names .entry))) ⌝ }
 {
     let n = memory::route_count(numbers);
-    close_numbers(numbers, 4 + i, 4 + n, 1);
-    close_octets(names, 17600 + i * 17, 17600 + n * 17, 17);
+    close_numbers(numbers, ROUTE_COLUMN + i, ROUTE_COLUMN + n, 1);
+    close_octets(
+        names,
+        ROOT_NAMES + i * ROOT_SPACE,
+        ROOT_NAMES + n * ROOT_SPACE,
+        ROOT_SPACE,
+    );
     numbers[2] = (n - 1) as u64;
 }
 
@@ -145,14 +169,14 @@ pub fn remove_route(numbers: &mut [u64], names: &mut [u8], i: usize)
 
 // A fresh card, whatever the memory held.
 pub fn start_fresh(numbers: &mut [u64], base: u64)
-    requires { ⌜ (length (now numbers) ≡ 1448) × (16 ≤ base) × (base ≤ 1048320) ⌝ }
+    requires { ⌜ Numbers (now numbers) × (16 ≤ base) × (base ≤ 1048320) ⌝ }
     ensures { λ _. ⌜ ((os : List ℕ) → cardOf (now (numbers .exit)) os ≡ fresh base) ⌝ }
 {
     octets::zero(numbers);
     numbers[0] = base;
     numbers[1] = 1;
-    numbers[1444] = 0xffff_ffff_ffff_ffff;
-    numbers[1445] = 0xffff_ffff_ffff_ffff;
-    numbers[1446] = 0xffff_ffff_ffff_ffff;
-    numbers[1447] = 0xffff_ffff_ffff_ffff;
+    numbers[WORD_COLUMN] = 0xffff_ffff_ffff_ffff;
+    numbers[SECOND_WORD] = 0xffff_ffff_ffff_ffff;
+    numbers[THIRD_WORD] = 0xffff_ffff_ffff_ffff;
+    numbers[FOURTH_WORD] = 0xffff_ffff_ffff_ffff;
 }

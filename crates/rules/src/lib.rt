@@ -5,17 +5,17 @@ ghost use mathlib.Core.Path.{_≡_};
 ghost use mathlib.Core.Bool.{false, _&&_};
 ghost use mathlib.Core.List.{List};
 ghost use Prim.Native.Nat.{ℕ, _+_, _<_};
-ghost use lib.ListN.{length};
 ghost use Rattle.meaning.specs.Octets.{all};
 ghost use Rattle.meaning.specs.Card.{treeAt, useOf};
 ghost use Rattle.meaning.specs.Save.{isName, isUse, isCarried, allCarried, isMappedFor, carriesOwn, holdsRight, keepsRules};
+ghost use Rattle.memory.specs.Sizes.{Numbers, Names};
 ghost use Rattle.memory.specs.Memory.{cardOf, baseIn, treeCount, isFreeAt, labelIn, labelName};
 
 // ---- labels
 
 // Whether the label at place p, which is not free, is used for one of the sixteen neighbours.
 fn is_near(numbers: &[u64], p: usize) -> bool
-    requires { ⌜ (length (now numbers) ≡ 1448) × (p < 256) × (isFreeAt (now numbers) p ≡ false) ⌝ }
+    requires { ⌜ Numbers (now numbers) × (p < 256) × (isFreeAt (now numbers) p ≡ false) ⌝ }
     ensures { λ r. ⌜ ((os : List ℕ) → isUse (labelIn (now (numbers .entry)) os p) ≡ (r && isName (labelName os p))) ⌝ }
 {
     if labels::mapped_at(numbers, p) != 17 {
@@ -26,7 +26,7 @@ fn is_near(numbers: &[u64], p: usize) -> bool
 
 // The neighbour of a label in use is one of the sixteen, whatever the memory holds: its name is what can be wrong.
 fn is_use(numbers: &[u64], names: &[u8], p: usize) -> bool
-    requires { ⌜ (length (now numbers) ≡ 1448) × (length (now names) ≡ 18144) × (p < 256) ⌝ }
+    requires { ⌜ Numbers (now numbers) × Names (now names) × (p < 256) ⌝ }
     ensures { λ r. ⌜ r ≡ isUse (labelIn (now (numbers .entry)) (now (names .entry)) p) ⌝ }
 {
     if labels::is_free(numbers, p) {
@@ -39,7 +39,7 @@ fn is_use(numbers: &[u64], names: &[u8], p: usize) -> bool
 }
 
 fn uses_good(numbers: &[u64], names: &[u8]) -> bool
-    requires { ⌜ (length (now numbers) ≡ 1448) × (length (now names) ≡ 18144) ⌝ }
+    requires { ⌜ Numbers (now numbers) × Names (now names) ⌝ }
     ensures { λ r. ⌜ r ≡ all isUse (cardOf (now (numbers .entry)) (now (names .entry)) .labels) ⌝ }
 {
     let mut p = 0;
@@ -54,7 +54,7 @@ fn uses_good(numbers: &[u64], names: &[u8]) -> bool
 
 // Whether the label at place p, if it is mapped, is that of the tree of its name.
 fn is_carried(numbers: &[u64], names: &[u8], p: usize) -> bool
-    requires { ⌜ (length (now numbers) ≡ 1448) × (length (now names) ≡ 18144) × (p < 256) ⌝ }
+    requires { ⌜ Numbers (now numbers) × Names (now names) × (p < 256) ⌝ }
     ensures { λ r. ⌜ r ≡ isCarried (cardOf (now (numbers .entry)) (now (names .entry))) (baseIn (now (numbers .entry)) + p) (labelIn (now (numbers .entry)) (now (names .entry)) p) ⌝ }
 {
     if labels::mapped_at(numbers, p) == 17 {
@@ -68,7 +68,7 @@ fn is_carried(numbers: &[u64], names: &[u8], p: usize) -> bool
 }
 
 fn all_carried(numbers: &[u64], names: &[u8]) -> bool
-    requires { ⌜ (length (now numbers) ≡ 1448) × (length (now names) ≡ 18144) ⌝ }
+    requires { ⌜ Numbers (now numbers) × Names (now names) ⌝ }
     ensures { λ r. ⌜ r ≡ allCarried (cardOf (now (numbers .entry)) (now (names .entry))) (cardOf (now (numbers .entry)) (now (names .entry)) .base) (cardOf (now (numbers .entry)) (now (names .entry)) .labels) ⌝ }
 {
     let mut p = 0;
@@ -83,7 +83,7 @@ fn all_carried(numbers: &[u64], names: &[u8]) -> bool
 
 // Whether a label is mapped for that name.
 fn is_mapped_for(numbers: &[u64], names: &[u8], label: u64, name: &[u8]) -> bool
-    requires { ⌜ (length (now numbers) ≡ 1448) × (length (now names) ≡ 18144) ⌝ }
+    requires { ⌜ Numbers (now numbers) × Names (now names) ⌝ }
     ensures { λ r. ⌜ r ≡ isMappedFor (now (name .entry)) (useOf label (cardOf (now (numbers .entry)) (now (names .entry)))) ⌝ }
 {
     let b = memory::base(numbers);
@@ -101,7 +101,7 @@ fn is_mapped_for(numbers: &[u64], names: &[u8], label: u64, name: &[u8]) -> bool
 }
 
 fn carries_own(numbers: &[u64], names: &[u8], i: usize) -> bool
-    requires { ⌜ (length (now numbers) ≡ 1448) × (length (now names) ≡ 18144) × (i < treeCount (now numbers)) × (i < 64) ⌝ }
+    requires { ⌜ Numbers (now numbers) × Names (now names) × (i < treeCount (now numbers)) × (i < 64) ⌝ }
     ensures { λ r. ⌜ r ≡ carriesOwn (cardOf (now (numbers .entry)) (now (names .entry))) (treeAt i (cardOf (now (numbers .entry)) (now (names .entry)))) ⌝ }
 {
     let label = table::tree_label(numbers, i);
@@ -112,7 +112,7 @@ fn carries_own(numbers: &[u64], names: &[u8], i: usize) -> bool
 }
 
 fn own_labels(numbers: &[u64], names: &[u8]) -> bool
-    requires { ⌜ (length (now numbers) ≡ 1448) × (length (now names) ≡ 18144) ⌝ }
+    requires { ⌜ Numbers (now numbers) × Names (now names) ⌝ }
     ensures { λ r. ⌜ r ≡ all (carriesOwn (cardOf (now (numbers .entry)) (now (names .entry)))) (cardOf (now (numbers .entry)) (now (names .entry)) .trees) ⌝ }
 {
     let n = memory::tree_count(numbers);
@@ -127,7 +127,7 @@ fn own_labels(numbers: &[u64], names: &[u8]) -> bool
 }
 
 fn holds_right(numbers: &[u64], names: &[u8], i: usize) -> bool
-    requires { ⌜ (length (now numbers) ≡ 1448) × (length (now names) ≡ 18144) × (i < treeCount (now numbers)) × (i < 64) ⌝ }
+    requires { ⌜ Numbers (now numbers) × Names (now names) × (i < treeCount (now numbers)) × (i < 64) ⌝ }
     ensures { λ r. ⌜ r ≡ holdsRight (cardOf (now (numbers .entry)) (now (names .entry))) (treeAt i (cardOf (now (numbers .entry)) (now (names .entry)))) ⌝ }
 {
     let u = holders::upstream_of(numbers, names, table::tree_name(names, i));
@@ -135,7 +135,7 @@ fn holds_right(numbers: &[u64], names: &[u8], i: usize) -> bool
 }
 
 fn held_right(numbers: &[u64], names: &[u8]) -> bool
-    requires { ⌜ (length (now numbers) ≡ 1448) × (length (now names) ≡ 18144) ⌝ }
+    requires { ⌜ Numbers (now numbers) × Names (now names) ⌝ }
     ensures { λ r. ⌜ r ≡ all (holdsRight (cardOf (now (numbers .entry)) (now (names .entry)))) (cardOf (now (numbers .entry)) (now (names .entry)) .trees) ⌝ }
 {
     let n = memory::tree_count(numbers);
@@ -153,7 +153,7 @@ fn held_right(numbers: &[u64], names: &[u8]) -> bool
 
 // Each is asked: a table that keeps the rules passes them all.
 pub fn keeps_rules(numbers: &[u64], names: &[u8]) -> bool
-    requires { ⌜ (length (now numbers) ≡ 1448) × (length (now names) ≡ 18144) ⌝ }
+    requires { ⌜ Numbers (now numbers) × Names (now names) ⌝ }
     ensures { λ r. ⌜ r ≡ keepsRules (cardOf (now (numbers .entry)) (now (names .entry))) ⌝ }
 {
     rowrules::routes_good(numbers, names)

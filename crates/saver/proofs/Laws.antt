@@ -7,7 +7,7 @@ use mathlib.Core.List.{List, _++_, append-assoc}
 use lib.ListN.{length, length-append}
 use borrow.Author.Tests.{lt-ltb, le-ltb}
 use Rattle.meaning.specs.Card.{Card, Use, isFree, treeAt, freeLabels}
-use Rattle.meaning.specs.Save.{headSaved, routeSaved, treeSaved, useSaved, routesSaved, treesSaved, usesSaved, saved, save}
+use Rattle.meaning.specs.Save.{headSaved, routeSaved, treeSaved, useSaved, routesSaved, treesSaved, usesSaved, saved, save, headSize, routeSize, treeSize, useSize}
 use Rattle.meaning.specs.Events.{roomShort, refuse}
 use Rattle.meaning.specs.Calls.{over, Does}
 use Rattle.octets.specs.Part.{mid, tab}
@@ -69,24 +69,24 @@ module _ (l : ℕ) (u : Use) (at : ℕ) (xs : List ℕ) where
   pub label-skip : isFree u ≡ true → (xs ≡ laid at (useSaved l u) xs) × (at ≡ at + length (useSaved l u))
   label-skip e = rw (use-none l u e) (mid-none at xs, omega arith)
 
-  pub label-put : (r : List ℕ) → isFree u ≡ false → r ≡ useSaved l u → (mid at (at + 59 - at) xs r ≡ laid at (useSaved l u) xs) × (at + 59 ≡ at + length (useSaved l u))
+  pub label-put : (r : List ℕ) → isFree u ≡ false → r ≡ useSaved l u → (mid at (at + useSize - at) xs r ≡ laid at (useSaved l u) xs) × (at + useSize ≡ at + length (useSaved l u))
   label-put r e er =
-      let n : length (useSaved l u) ≡ 59 = use-length l u e in
-      let q : at + 59 - at ≡ length (useSaved l u) = omega arith in
+      let n : length (useSaved l u) ≡ useSize = use-length l u e in
+      let q : at + useSize - at ≡ length (useSaved l u) = omega arith in
       (rw (er, q) refl, omega arith)
 
 -- ---- sizes
 
-pub routes-size : (ns os : List ℕ) → length (routesSaved (cardOf ns os .routes)) ≡ routeCount ns * 21
-routes-size ns os = ap length (routes-rows ns os) ∙ joined-length (routeCount ns) 21 (routeRow ns os) (λ i h. route-length (routeIn ns os i))
+pub routes-size : (ns os : List ℕ) → length (routesSaved (cardOf ns os .routes)) ≡ routeCount ns * routeSize
+routes-size ns os = ap length (routes-rows ns os) ∙ joined-length (routeCount ns) routeSize (routeRow ns os) (λ i h. route-length (routeIn ns os i))
 
-pub tree-size : (ns os : List ℕ) (i : ℕ) → i < treeCount ns → length (treeRow ns os i) ≡ 118
+pub tree-size : (ns os : List ℕ) (i : ℕ) → i < treeCount ns → length (treeRow ns os i) ≡ treeSize
 tree-size ns os i h = rw (sym (tree-at ns os i h)) (tree-length (treeAt i (cardOf ns os)) (branches-length ns os i h))
 
-pub trees-size : (ns os : List ℕ) → length (treesSaved (cardOf ns os .trees)) ≡ treeCount ns * 118
-trees-size ns os = ap length (trees-rows ns os) ∙ joined-length (treeCount ns) 118 (treeRow ns os) (tree-size ns os)
+pub trees-size : (ns os : List ℕ) → length (treesSaved (cardOf ns os .trees)) ≡ treeCount ns * treeSize
+trees-size ns os = ap length (trees-rows ns os) ∙ joined-length (treeCount ns) treeSize (treeRow ns os) (tree-size ns os)
 
-pub saved-size : (ns os : List ℕ) → length (saved (cardOf ns os)) ≡ 15 + routeCount ns * 21 + treeCount ns * 118 + (256 - freeLabels (cardOf ns os)) * 59
+pub saved-size : (ns os : List ℕ) → length (saved (cardOf ns os)) ≡ headSize + routeCount ns * routeSize + treeCount ns * treeSize + (256 - freeLabels (cardOf ns os)) * useSize
 unfolding saved freeLabels
 saved-size ns os =
     simp length-append
@@ -94,17 +94,17 @@ saved-size ns os =
 
 -- ---- the whole save: the head, and three lots of rows
 
-fields-length : (c : Card) → length (saved c) ≡ 15 + (length (routesSaved (c .routes)) + (length (treesSaved (c .trees)) + length (usesSaved (c .base) (c .labels))))
+fields-length : (c : Card) → length (saved c) ≡ headSize + (length (routesSaved (c .routes)) + (length (treesSaved (c .trees)) + length (usesSaved (c .base) (c .labels))))
 unfolding saved
 fields-length c = simp length-append (omega (arith, head-length c))
 
 pub parts-length : (ns os : List ℕ) → length (saved (cardOf ns os))
-    ≡ 15 + (length (routesSaved (cardOf ns os .routes)) + (length (treesSaved (cardOf ns os .trees)) + length (usesSaved (baseIn ns) (cardOf ns os .labels))))
+    ≡ headSize + (length (routesSaved (cardOf ns os .routes)) + (length (treesSaved (cardOf ns os .trees)) + length (usesSaved (baseIn ns) (cardOf ns os .labels))))
 parts-length ns os = fields-length (cardOf ns os) ∙ unfold cardOf in refl
 
 module _ (ns os xs : List ℕ) (fits : length (saved (cardOf ns os)) ≤ length xs) where
   pub parts-laid : (hs us vs ws : List ℕ) (a b r : ℕ) → hs ≡ headSaved (cardOf ns os)
-      → (us ≡ laid 15 (routesSaved (cardOf ns os .routes)) (mid 0 15 xs hs)) × (a ≡ 15 + length (routesSaved (cardOf ns os .routes)))
+      → (us ≡ laid headSize (routesSaved (cardOf ns os .routes)) (mid 0 headSize xs hs)) × (a ≡ headSize + length (routesSaved (cardOf ns os .routes)))
       → (vs ≡ laid a (treesSaved (cardOf ns os .trees)) us) × (b ≡ a + length (treesSaved (cardOf ns os .trees)))
       → (ws ≡ laid b (usesSaved (baseIn ns) (cardOf ns os .labels)) vs) × (r ≡ b + length (usesSaved (baseIn ns) (cardOf ns os .labels)))
       → (ws ≡ over (saved (cardOf ns os)) xs) × (r ≡ length (saved (cardOf ns os)))
@@ -114,11 +114,11 @@ module _ (ns os xs : List ℕ) (fits : length (saved (cardOf ns os)) ≤ length 
       let rs = routesSaved (c .routes) in
       let ts = treesSaved (c .trees) in
       let ls = usesSaved (baseIn ns) (c .labels) in
-      let n : length head ≡ 15 = head-length c in
-      let all : length (saved c) ≡ 15 + (length rs + (length ts + length ls)) = parts-length ns os in
-      let x0 : mid 0 15 xs hs ≡ laid 0 head xs = ap (mid 0 15 xs) eh ∙ laid-part 0 15 head xs n in
+      let n : length head ≡ headSize = head-length c in
+      let all : length (saved c) ≡ headSize + (length rs + (length ts + length ls)) = parts-length ns os in
+      let x0 : mid 0 headSize xs hs ≡ laid 0 head xs = ap (mid 0 headSize xs) eh ∙ laid-part 0 headSize head xs n in
       let l1 : length (head ++ rs) ≡ length head + length rs = length-append head rs in
-      let x1 : us ≡ laid 0 (head ++ rs) xs = eu .0 ∙ laid-then 0 15 (length rs) head rs xs (mid 0 15 xs hs) (omega arith) x0 (omega arith) refl in
+      let x1 : us ≡ laid 0 (head ++ rs) xs = eu .0 ∙ laid-then 0 headSize (length rs) head rs xs (mid 0 headSize xs hs) (omega arith) x0 (omega arith) refl in
       let l2 : length ((head ++ rs) ++ ts) ≡ length (head ++ rs) + length ts = length-append (head ++ rs) ts in
       let x2 : vs ≡ laid 0 ((head ++ rs) ++ ts) xs = ev .0 ∙ laid-then 0 a (length ts) (head ++ rs) ts xs us (omega arith) x1 (omega arith) refl in
       let x3 : ws ≡ laid 0 (((head ++ rs) ++ ts) ++ ls) xs = ew .0 ∙ laid-then 0 b (length ls) ((head ++ rs) ++ ts) ls xs vs (omega arith) x2 (omega arith) refl in

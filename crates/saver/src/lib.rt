@@ -5,16 +5,23 @@ ghost use mathlib.Core.List.{List};
 ghost use Prim.Native.Nat.{ℕ, _+_, _≤_, _<_};
 ghost use lib.ListN.{length};
 ghost use denote.Ref.{ptr};
-ghost use Rattle.meaning.specs.Save.{useSaved, routesSaved, treesSaved, usesSaved, saved, save};
+ghost use Rattle.meaning.specs.Save.{useSaved, routesSaved, treesSaved, usesSaved, saved, save, saveLimit};
 ghost use Rattle.meaning.specs.Calls.{over, Does, Hands};
+ghost use Rattle.memory.specs.Sizes.{Numbers, Names};
 ghost use Rattle.memory.specs.Memory.{cardOf, baseIn, labelIn};
 ghost use Rattle.texts.specs.Laid.{laid};
+use meaning::HEAD_SIZE;
+use meaning::ROUTE_SIZE;
+use meaning::TREE_SIZE;
+use meaning::USE_SIZE;
+use memory::NUMBER_COUNT;
+use memory::OCTET_COUNT;
 
 // ---- routes, trees and labels in use, one behind the other
 
 // All routes from a place on; the place behind them.
 fn put_routes(numbers: &[u64], names: &[u8], out: &mut [u8], from: usize) -> usize
-    requires { ⌜ (length (now numbers) ≡ 1448) × (length (now names) ≡ 18144)
+    requires { ⌜ Numbers (now numbers) × Names (now names)
         × (from + length (routesSaved (cardOf (now numbers) (now names) .routes)) ≤ length (now out)) ⌝ }
     ensures { λ r. ⌜ (now (out .exit) ≡ laid from (routesSaved (cardOf (now (numbers .entry)) (now (names .entry)) .routes)) (now (out .entry)))
         × (r ≡ from + length (routesSaved (cardOf (now (numbers .entry)) (now (names .entry)) .routes))) ⌝ }
@@ -23,7 +30,7 @@ fn put_routes(numbers: &[u64], names: &[u8], out: &mut [u8], from: usize) -> usi
     let mut at = from;
     let mut i = 0;
     while i < n {
-        let e = at + 21;
+        let e = at + ROUTE_SIZE;
         recorder::put_route(numbers, names, i, &mut out[at..e]);
         at = e;
         i += 1;
@@ -33,7 +40,7 @@ fn put_routes(numbers: &[u64], names: &[u8], out: &mut [u8], from: usize) -> usi
 
 // All trees from a place on; the place behind them.
 fn put_trees(numbers: &[u64], names: &[u8], out: &mut [u8], from: usize) -> usize
-    requires { ⌜ (length (now numbers) ≡ 1448) × (length (now names) ≡ 18144)
+    requires { ⌜ Numbers (now numbers) × Names (now names)
         × (from + length (treesSaved (cardOf (now numbers) (now names) .trees)) ≤ length (now out)) ⌝ }
     ensures { λ r. ⌜ (now (out .exit) ≡ laid from (treesSaved (cardOf (now (numbers .entry)) (now (names .entry)) .trees)) (now (out .entry)))
         × (r ≡ from + length (treesSaved (cardOf (now (numbers .entry)) (now (names .entry)) .trees))) ⌝ }
@@ -42,7 +49,7 @@ fn put_trees(numbers: &[u64], names: &[u8], out: &mut [u8], from: usize) -> usiz
     let mut at = from;
     let mut i = 0;
     while i < n {
-        let e = at + 118;
+        let e = at + TREE_SIZE;
         recorder::put_tree(numbers, names, i, &mut out[at..e]);
         at = e;
         i += 1;
@@ -52,7 +59,7 @@ fn put_trees(numbers: &[u64], names: &[u8], out: &mut [u8], from: usize) -> usiz
 
 // The record of the label at place p of the block, and the place behind it: of a free label nothing is written.
 fn put_label(numbers: &[u64], names: &[u8], p: usize, out: &mut [u8], at: usize) -> usize
-    requires { ⌜ (length (now numbers) ≡ 1448) × (length (now names) ≡ 18144) × (p < 256)
+    requires { ⌜ Numbers (now numbers) × Names (now names) × (p < 256)
         × (at + length (useSaved (baseIn (now numbers) + p) (labelIn (now numbers) (now names) p)) ≤ length (now out)) ⌝ }
     ensures { λ r. ⌜ (now (out .exit) ≡ laid at (useSaved (baseIn (now (numbers .entry)) + p) (labelIn (now (numbers .entry)) (now (names .entry)) p)) (now (out .entry)))
         × (r ≡ at + length (useSaved (baseIn (now (numbers .entry)) + p) (labelIn (now (numbers .entry)) (now (names .entry)) p))) ⌝ }
@@ -60,14 +67,14 @@ fn put_label(numbers: &[u64], names: &[u8], p: usize, out: &mut [u8], at: usize)
     if labels::is_free(numbers, p) {
         return at;
     }
-    let e = at + 59;
+    let e = at + USE_SIZE;
     recorder::put_use(numbers, names, p, &mut out[at..e]);
     e
 }
 
 // All labels in use from a place on; the place behind them.
 fn put_labels(numbers: &[u64], names: &[u8], out: &mut [u8], from: usize) -> usize
-    requires { ⌜ (length (now numbers) ≡ 1448) × (length (now names) ≡ 18144)
+    requires { ⌜ Numbers (now numbers) × Names (now names)
         × (from + length (usesSaved (baseIn (now numbers)) (cardOf (now numbers) (now names) .labels)) ≤ length (now out)) ⌝ }
     ensures { λ r. ⌜ (now (out .exit) ≡ laid from (usesSaved (baseIn (now (numbers .entry))) (cardOf (now (numbers .entry)) (now (names .entry)) .labels)) (now (out .entry)))
         × (r ≡ from + length (usesSaved (baseIn (now (numbers .entry))) (cardOf (now (numbers .entry)) (now (names .entry)) .labels))) ⌝ }
@@ -85,23 +92,23 @@ fn put_labels(numbers: &[u64], names: &[u8], out: &mut [u8], from: usize) -> usi
 
 // How many octets the save has.
 pub fn saved_size(numbers: &[u64]) -> usize
-    requires { ⌜ length (now numbers) ≡ 1448 ⌝ }
-    ensures { λ r. ⌜ ((os : List ℕ) → r ≡ length (saved (cardOf (now (numbers .entry)) os))) × (r ≤ 23343) ⌝ }
+    requires { ⌜ Numbers (now numbers) ⌝ }
+    ensures { λ r. ⌜ ((os : List ℕ) → r ≡ length (saved (cardOf (now (numbers .entry)) os))) × (r ≤ saveLimit) ⌝ }
 {
     let routes = memory::route_count(numbers);
     let trees = memory::tree_count(numbers);
     let uses = 256 - labels::free_labels(numbers);
-    15 + routes * 21 + trees * 118 + uses * 59
+    HEAD_SIZE + routes * ROUTE_SIZE + trees * TREE_SIZE + uses * USE_SIZE
 }
 
 // The save at the front of the output, the rest of which stays; how many octets it has.
 pub fn write_save(numbers: &[u64], names: &[u8], out: &mut [u8]) -> usize
-    requires { ⌜ (length (now numbers) ≡ 1448) × (length (now names) ≡ 18144) × (length (saved (cardOf (now numbers) (now names))) ≤ length (now out)) ⌝ }
+    requires { ⌜ Numbers (now numbers) × Names (now names) × (length (saved (cardOf (now numbers) (now names))) ≤ length (now out)) ⌝ }
     ensures { λ r. ⌜ (now (out .exit) ≡ over (saved (cardOf (now (numbers .entry)) (now (names .entry)))) (now (out .entry)))
         × (r ≡ length (saved (cardOf (now (numbers .entry)) (now (names .entry))))) ⌝ }
 {
-    recorder::put_head(numbers, &mut out[0..15]);
-    let a = put_routes(numbers, names, out, 15);
+    recorder::put_head(numbers, &mut out[0..HEAD_SIZE]);
+    let a = put_routes(numbers, names, out, HEAD_SIZE);
     let b = put_trees(numbers, names, out, a);
     put_labels(numbers, names, out, b)
 }
@@ -109,8 +116,8 @@ pub fn write_save(numbers: &[u64], names: &[u8], out: &mut [u8]) -> usize
 // ---- the call
 
 pub fn save_core(
-    numbers: &[u64; 1448],
-    names: &[u8; 18144],
+    numbers: &[u64; NUMBER_COUNT],
+    names: &[u8; OCTET_COUNT],
     out: &mut [u8],
     answer: &mut u32,
 ) -> usize
@@ -126,8 +133,8 @@ pub fn save_core(
 }
 
 pub fn save<'a>(
-    numbers: &[u64; 1448],
-    names: &[u8; 18144],
+    numbers: &[u64; NUMBER_COUNT],
+    names: &[u8; OCTET_COUNT],
     out: &'a mut [u8],
     answer: &mut u32,
 ) -> &'a mut [u8]

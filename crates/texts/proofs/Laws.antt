@@ -5,8 +5,8 @@ use mathlib.Core.Path.{_≡_, refl, sym, ap, _∙_}
 use mathlib.Core.List.{List, [], _∷_}
 use lib.ListN.{length, take, drop, getD, set, length-drop, drop-of-length-le}
 use lib.Seq.{take-all}
-use Rattle.meaning.specs.Wire.{rootLength, rootIn, opaqueIn}
-use Rattle.meaning.specs.Save.{padded, spaced, nameSaved}
+use Rattle.meaning.specs.Wire.{rootLength, rootIn, opaqueIn, rootLimit}
+use Rattle.meaning.specs.Save.{padded, spaced, nameSaved, savedOpaque, nameSize}
 use Rattle.octets.specs.Part.{mid}
 use Rattle.octets.proofs.Laws.{front, front-more, copy-done}
 use Rattle.texts.proofs.Parts.{two-parts}
@@ -33,10 +33,10 @@ space-put xs us vs o n v l ev eu es =
 
 -- ---- a name
 
-pub name-put : (a xs us vs r o : List ℕ) → length xs ≡ 50 → r ≡ rootIn a → o ≡ opaqueIn a → us ≡ spaced 16 r → vs ≡ spaced 32 o → mid 17 33 (mid 0 17 xs us) vs ≡ nameSaved a
+pub name-put : (a xs us vs r o : List ℕ) → length xs ≡ nameSize → r ≡ rootIn a → o ≡ opaqueIn a → us ≡ spaced rootLimit r → vs ≡ spaced savedOpaque o → mid (1 + rootLimit) (1 + savedOpaque) (mid 0 (1 + rootLimit) xs us) vs ≡ nameSaved a
 unfolding nameSaved
 name-put a xs us vs r o l er eo eu es =
-    rw (eu, es, er, eo) (two-parts 17 33 xs (spaced 16 (rootIn a)) (spaced 32 (opaqueIn a)) l (space-length 16 (rootIn a)) (space-length 32 (opaqueIn a)))
+    rw (eu, es, er, eo) (two-parts (1 + rootLimit) (1 + savedOpaque) xs (spaced rootLimit (rootIn a)) (spaced savedOpaque (opaqueIn a)) l (space-length rootLimit (rootIn a)) (space-length savedOpaque (opaqueIn a)))
 
 -- ---- the opaque value
 

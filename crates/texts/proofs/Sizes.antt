@@ -5,8 +5,8 @@ use native.Mathlib.Omega.{arith}
 use mathlib.Core.Path.{_≡_, refl}
 use mathlib.Core.List.{List, [], _∷_}
 use lib.ListN.{length, take, getD, length-append, length-replicate, getD-replicate}
-use Rattle.meaning.specs.Wire.{rootIn, opaqueIn}
-use Rattle.meaning.specs.Save.{padded, spaced, nameSaved}
+use Rattle.meaning.specs.Wire.{rootIn, opaqueIn, rootLimit}
+use Rattle.meaning.specs.Save.{padded, spaced, nameSaved, savedOpaque, nameSize}
 
 pub taken-le : (n : ℕ) (o : List ℕ) → length (take n o) ≤ n
 taken-le zero o = omega arith
@@ -32,6 +32,6 @@ space-length n o = omega (arith, padded-length n o)
 
 -- ---- a name
 
-pub name-length : (a : List ℕ) → length (nameSaved a) ≡ 50
+pub name-length : (a : List ℕ) → length (nameSaved a) ≡ nameSize
 unfolding nameSaved
-name-length a = rw (length-append, space-length 16 (rootIn a), space-length 32 (opaqueIn a)) refl
+name-length a = rw (length-append, space-length rootLimit (rootIn a), space-length savedOpaque (opaqueIn a)) refl

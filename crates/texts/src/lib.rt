@@ -3,7 +3,11 @@ ghost use mathlib.Core.Path.{_≡_};
 ghost use Prim.Native.Nat.{_+_, _≤_};
 ghost use lib.ListN.{length, take};
 ghost use Rattle.meaning.specs.Wire.{opaqueIn};
-ghost use Rattle.meaning.specs.Save.{padded, spaced, nameSaved};
+ghost use Rattle.meaning.specs.Save.{padded, spaced, nameSaved, nameSize};
+use meaning::NAME_SIZE;
+use meaning::ROOT_LIMIT;
+use meaning::SAVED_OPAQUE;
+use meaning::SAVED_ROOT_SPACE;
 
 // How many octets of a text find room.
 fn fitting(text: &[u8], room: usize) -> usize
@@ -47,9 +51,17 @@ fn opaque_of(name: &[u8]) -> &[u8]
 }
 
 pub fn put_name(out: &mut [u8], name: &[u8])
-    requires { ⌜ length (now out) ≡ 50 ⌝ }
+    requires { ⌜ length (now out) ≡ nameSize ⌝ }
     ensures { λ _. ⌜ now (out .exit) ≡ nameSaved (now (name .entry)) ⌝ }
 {
-    put_space(&mut out[0..17], 16, reader::root_of(name));
-    put_space(&mut out[17..50], 32, opaque_of(name));
+    put_space(
+        &mut out[0..SAVED_ROOT_SPACE],
+        ROOT_LIMIT,
+        reader::root_of(name),
+    );
+    put_space(
+        &mut out[SAVED_ROOT_SPACE..NAME_SIZE],
+        SAVED_OPAQUE,
+        opaque_of(name),
+    );
 }

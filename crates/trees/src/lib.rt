@@ -5,9 +5,10 @@ ghost use Prim.Native.Nat.{ℕ, _+_, _*_, _≤_, _<_};
 ghost use lib.ListN.{length};
 ghost use lib.Dec.{leb, ltb};
 ghost use Rattle.meaning.specs.Octets.{_when_else_};
-ghost use Rattle.meaning.specs.Wire.{records};
+ghost use Rattle.meaning.specs.Wire.{records, recordLimit};
 ghost use Rattle.meaning.specs.Card.{treeAt, withBranch, withLeaf, bare, freeLabels};
 ghost use Rattle.meaning.specs.Events.{relabel, takeUp, needMove, need, labelsShort, upstreamOf};
+ghost use Rattle.memory.specs.Sizes.{Numbers, Names};
 ghost use Rattle.memory.specs.Memory.{cardOf, treeCount};
 ghost use Rattle.holders.specs.Move.{relabelSize};
 ghost use Rattle.trees.specs.End.{Ended, thenCut};
@@ -16,7 +17,7 @@ ghost use Rattle.trees.specs.End.{Ended, thenCut};
 
 // The neighbour that the tree at place i holds a label for, once neighbour n's branch is x; 17 for none.
 pub fn branch_holder(numbers: &[u64], names: &[u8], i: usize, n: usize, x: u64) -> u64
-    requires { ⌜ (length (now numbers) ≡ 1448) × (length (now names) ≡ 18144) × (i < treeCount (now numbers)) × (i < 64) ⌝ }
+    requires { ⌜ Numbers (now numbers) × Names (now names) × (i < treeCount (now numbers)) × (i < 64) ⌝ }
     ensures { λ r. ⌜ (r ≡ upstreamOf (cardOf (now (numbers .entry)) (now (names .entry))) (withBranch n x (treeAt i (cardOf (now (numbers .entry)) (now (names .entry)))))) × (r ≤ 17) × (r ≡ 16 → ⊥) ⌝ }
 {
     let u = holders::upstream_of(numbers, names, table::tree_name(names, i));
@@ -25,7 +26,7 @@ pub fn branch_holder(numbers: &[u64], names: &[u8], i: usize, n: usize, x: u64) 
 
 // The same, once its leaf mark is `leaf`.
 pub fn leaf_holder(numbers: &[u64], names: &[u8], i: usize, leaf: bool) -> u64
-    requires { ⌜ (length (now numbers) ≡ 1448) × (length (now names) ≡ 18144) × (i < treeCount (now numbers)) × (i < 64) ⌝ }
+    requires { ⌜ Numbers (now numbers) × Names (now names) × (i < treeCount (now numbers)) × (i < 64) ⌝ }
     ensures { λ r. ⌜ (r ≡ upstreamOf (cardOf (now (numbers .entry)) (now (names .entry))) (withLeaf leaf (treeAt i (cardOf (now (numbers .entry)) (now (names .entry)))))) × (r ≤ 17) × (r ≡ 16 → ⊥) ⌝ }
 {
     let u = holders::upstream_of(numbers, names, table::tree_name(names, i));
@@ -34,7 +35,7 @@ pub fn leaf_holder(numbers: &[u64], names: &[u8], i: usize, leaf: bool) -> u64
 
 // The neighbour that a new tree holds a label for, whose only branch is that of neighbour n; 17 for none.
 pub fn new_holder(numbers: &[u64], names: &[u8], name: &[u8], n: usize) -> u64
-    requires { ⌜ (length (now numbers) ≡ 1448) × (length (now names) ≡ 18144) × (n < 16) ⌝ }
+    requires { ⌜ Numbers (now numbers) × Names (now names) × (n < 16) ⌝ }
     ensures { λ r. ⌜ ((l : ℕ) → 0 < l → r ≡ upstreamOf (cardOf (now (numbers .entry)) (now (names .entry))) (withBranch n l (bare (now (name .entry))))) × (r ≤ 17) × (r ≡ 16 → ⊥) ⌝ }
 {
     let u = holders::upstream_of(numbers, names, name);
@@ -55,7 +56,7 @@ pub fn standing_refusal(
     first: usize,
     room: usize,
 ) -> u32
-    requires { ⌜ (length (now numbers) ≡ 1448) × (length (now names) ≡ 18144) × (i < treeCount (now numbers)) × (i < 64) × (first ≤ 78) ⌝ }
+    requires { ⌜ Numbers (now numbers) × Names (now names) × (i < treeCount (now numbers)) × (i < 64) × (first ≤ recordLimit) ⌝ }
     ensures { λ r. ⌜ r ≡ 12 when labelsShort (cardOf (now (numbers .entry)) (now (names .entry))) (need (cardOf (now (numbers .entry)) (now (names .entry))) (treeAt i (cardOf (now (numbers .entry)) (now (names .entry)))) u)
         else 16 when ltb room (first + relabelSize (cardOf (now (numbers .entry)) (now (names .entry))) (treeAt i (cardOf (now (numbers .entry)) (now (names .entry)))) u) else 0 ⌝ }
 {
@@ -70,7 +71,7 @@ pub fn standing_refusal(
 
 // 11, 12 and 16 for a new tree that is to hold a label for u.
 pub fn new_refusal(numbers: &[u64], u: u64, size: usize, room: usize) -> u32
-    requires { ⌜ length (now numbers) ≡ 1448 ⌝ }
+    requires { ⌜ Numbers (now numbers) ⌝ }
     ensures { λ r. ⌜ ((os : List ℕ) → r ≡ 11 when leb 64 (length (cardOf (now (numbers .entry)) os .trees))
         else 12 when ltb (freeLabels (cardOf (now (numbers .entry)) os)) (needMove u) else 16 when ltb room (needMove u * size) else 0) ⌝ }
 {
@@ -99,7 +100,7 @@ pub fn settle(
     at: usize,
     id: u32,
 ) -> usize
-    requires { ⌜ (length (now numbers) ≡ 1448) × (length (now names) ≡ 18144) × (i < treeCount (now numbers)) × (i < 64) × (u ≤ 17) × (u ≡ 16 → ⊥)
+    requires { ⌜ Numbers (now numbers) × Names (now names) × (i < treeCount (now numbers)) × (i < 64) × (u ≤ 17) × (u ≡ 16 → ⊥)
         × (need (cardOf (now numbers) (now names)) (treeAt i (cardOf (now numbers) (now names))) u ≤ freeLabels (cardOf (now numbers) (now names)))
         × (at + relabelSize (cardOf (now numbers) (now names)) (treeAt i (cardOf (now numbers) (now names))) u ≤ length (now out)) ⌝ }
     ensures { λ r. ⌜ Ended (thenCut empty i (relabel i u (cardOf (now (numbers .entry)) (now (names .entry))))) id at (now (out .entry)) (now (out .exit)) (cardOf (now (numbers .exit)) (now (names .exit))) r ⌝ }
@@ -125,7 +126,7 @@ pub fn grow(
     out: &mut [u8],
     id: u32,
 ) -> usize
-    requires { ⌜ (length (now numbers) ≡ 1448) × (length (now names) ≡ 18144) × (i < treeCount (now numbers)) × (i < 64) × (u ≤ 17) × (u ≡ 16 → ⊥)
+    requires { ⌜ Numbers (now numbers) × Names (now names) × (i < treeCount (now numbers)) × (i < 64) × (u ≤ 17) × (u ≡ 16 → ⊥)
         × (needMove u ≤ freeLabels (cardOf (now numbers) (now names)))
         × (length (records id (takeUp i u (cardOf (now numbers) (now names)) .sent)) ≤ length (now out)) ⌝ }
     ensures { λ r. ⌜ Ended (takeUp i u (cardOf (now (numbers .entry)) (now (names .entry)))) id 0 (now (out .entry)) (now (out .exit)) (cardOf (now (numbers .exit)) (now (names .exit))) r ⌝ }

@@ -1,10 +1,11 @@
 -- What a line of the bench program says. Assumes nothing.
-use Prim.Native.Nat.{ℕ}
+use Prim.Native.Nat.{ℕ, _*_}
 use mathlib.Core.Bool.{Bool}
 use mathlib.Core.List.{List, [], _∷_}
 use lib.ListN.{length}
 use lib.Dec.{leb}
 use Rattle.meaning.specs.Octets.{pick, same}
+use Rattle.meaning.specs.Save.{saveLimit}
 use Rattle.words.specs.Words.{ascii, words, value, isNumber, isHexTo, isHex, octetsOf}
 use Rattle.verbs.specs.declared.Verb.{Verb}
 
@@ -48,7 +49,7 @@ withHex f (w ∷ v ∷ ws) = bad
 
 -- for at most 23343 octets, the longest save
 unfoldable pub isSaveHex : List ℕ → Bool
-isSaveHex w = isHexTo 46686 w
+isSaveHex w = isHexTo (2 * saveLimit) w
 
 unfoldable pub withSave : List (List ℕ) → Said
 withSave [] = bad

@@ -2,7 +2,7 @@ use Rattle.memory.specs.Memory.{cardOf}
 use native.Mathlib.Omega.{arith}
 use Rattle.replies.proofs.Laws.{save-fits, part-fits, says-told}
 use Rattle.replies.specs.Reply.{replyTo}
-use Rattle.meaning.specs.Save.{save}
+use Rattle.meaning.specs.Save.{save, saveLimit}
 use mathlib.Core.Path.{refl}
 use mathlib.Core.List.{[]}
 use Rattle.words.specs.Words.{ascii}
@@ -26,7 +26,7 @@ slice-aggregate-put-event : tie.Need-slice-aggregate-put-event
 slice-aggregate-put-event c = search needs
 
 put-event-requires : tie.Need-put-event-requires
-put-event-requires c κs = (omega arith, part-fits _ 23343 (c .before .before .before .save .ensures .0) (save-fits _ _) (omega (arith, c .before .before .before .before .before .lent .ensures .1)), c .before .before .before .before .before .before .before .before .before .pre)
+put-event-requires c κs = (omega arith, part-fits _ saveLimit (c .before .before .before .save .ensures .0) (save-fits _ _) (omega (arith, c .before .before .before .before .before .lent .ensures .1)), c .before .before .before .before .before .before .before .before .before .pre)
 
 same-length : tie.Need-same-length
 same-length c = search needs

@@ -1,14 +1,15 @@
 -- `echo::count` meets its contract: no more are kept than were tried. Assumes nothing.
 use Prim.Native.Nat.{_-_, _≤_}
 use borrow.Author.Needs.{needs}
+use Rattle.meaning.specs.Wire.{opaqueLimit}
 use Rattle.echo.proofs.count.Statement.{statement}
 use Rattle.echo.proofs.count.Tie as tie
 
 abbrev Inv-loop : tie.InvT-loop
-Inv-loop family root kept₀ opaque₀ kept opaque = (kept ≤ opaque) × (opaque ≤ 32)
+Inv-loop family root kept₀ opaque₀ kept opaque = (kept ≤ opaque) × (opaque ≤ opaqueLimit)
 
 abbrev μ-loop : tie.MeasureT-loop
-μ-loop family root kept₀ opaque₀ kept opaque = 32 - opaque
+μ-loop family root kept₀ opaque₀ kept opaque = opaqueLimit - opaque
 
 loop-holds : tie.Need-loop-holds Inv-loop μ-loop
 loop-holds c = search needs

@@ -3,7 +3,7 @@ use native.Mathlib.Omega.{arith}
 use mathlib.Core.Path.{_≡_, refl, _∙_}
 use lib.ListN.{length, drop}
 use borrow.Author.Needs.{needs}
-use Rattle.meaning.specs.Save.{routesRead}
+use Rattle.meaning.specs.Save.{routesRead, headSize}
 use Rattle.meaning.specs.Card.{withRoutes}
 use Rattle.memory.specs.Memory.{cardOf}
 use Rattle.entries.proofs.Rows.{routes-none, routes-more, routes-room}
@@ -11,7 +11,7 @@ use Rattle.entries.proofs.read_routes.Statement.{statement}
 use Rattle.entries.proofs.read_routes.Tie as tie
 
 abbrev Inv-loop : tie.InvT-loop
-Inv-loop octets n numbers₀ names₀ i₀ numbers names i = (i ≤ n) × (length numbers ≡ length numbers₀) × (length names ≡ length names₀) × (cardOf numbers names ≡ withRoutes (routesRead i (drop 15 octets)) (cardOf numbers₀ names₀))
+Inv-loop octets n numbers₀ names₀ i₀ numbers names i = (i ≤ n) × (length numbers ≡ length numbers₀) × (length names ≡ length names₀) × (cardOf numbers names ≡ withRoutes (routesRead i (drop headSize octets)) (cardOf numbers₀ names₀))
 
 abbrev μ-loop : tie.MeasureT-loop
 μ-loop octets n numbers₀ names₀ i₀ numbers names i = n - i

@@ -4,6 +4,7 @@ use Rattle.memory.proofs.Laws.{few-in, counted}
 use borrow.Author.Needs.{needs}
 use Rattle.labels.proofs.free_labels.Statement.{statement}
 use Rattle.labels.proofs.free_labels.Tie as tie
+use Rattle.memory.specs.Sizes.{wordColumn}
 
 shared-slice-read-result : tie.Need-shared-slice-read-result
 shared-slice-read-result c = search needs
@@ -12,28 +13,28 @@ shared-slice-read-result-2 : tie.Need-shared-slice-read-result-2
 shared-slice-read-result-2 c = search needs
 
 add-result : tie.Need-add-result
-add-result c = let few = few-in (c .before .before .args .numbers .now) (λ w. c .shared-slice-known2 .given (1444 + w) .fits) in omega (arith, few 0, few 1)
+add-result c = let few = few-in (c .before .before .args .numbers .now) (λ w. c .shared-slice-known2 .given (wordColumn + w) .fits) in omega (arith, few 0, few 1)
 
 shared-slice-read-result-3 : tie.Need-shared-slice-read-result-3
 shared-slice-read-result-3 c = search needs
 
 add-result-2 : tie.Need-add-result-2
-add-result-2 c = let few = few-in (c .before .before .before .args .numbers .now) (λ w. c .shared-slice-known3 .given (1444 + w) .fits) in omega (arith, few 0, few 1, few 2)
+add-result-2 c = let few = few-in (c .before .before .before .args .numbers .now) (λ w. c .shared-slice-known3 .given (wordColumn + w) .fits) in omega (arith, few 0, few 1, few 2)
 
 shared-slice-read-result-4 : tie.Need-shared-slice-read-result-4
 shared-slice-read-result-4 c = search needs
 
 add-result-3 : tie.Need-add-result-3
-add-result-3 c = let few = few-in (c .before .before .before .before .args .numbers .now) (λ w. c .shared-slice-known4 .given (1444 + w) .fits) in omega (arith, few 0, few 1, few 2, few 3)
+add-result-3 c = let few = few-in (c .before .before .before .before .args .numbers .now) (λ w. c .shared-slice-known4 .given (wordColumn + w) .fits) in omega (arith, few 0, few 1, few 2, few 3)
 
 cast-result : tie.Need-cast-result
-cast-result c = let few = few-in (c .before .before .before .before .args .numbers .now) (λ w. c .shared-slice-known4 .given (1444 + w) .fits) in omega (arith, few 0, few 1, few 2, few 3)
+cast-result c = let few = few-in (c .before .before .before .before .args .numbers .now) (λ w. c .shared-slice-known4 .given (wordColumn + w) .fits) in omega (arith, few 0, few 1, few 2, few 3)
 
 returns : tie.Need-returns
 returns c =
     let ns = c .before .before .before .before .args .numbers .now in
-    let few = few-in ns (λ w. c .shared-slice-known4 .given (1444 + w) .fits) in
-    ((λ os. counted ns os (λ w. c .shared-slice-known4 .given (1444 + w) .fits)), omega (arith, few 0, few 1, few 2, few 3))
+    let few = few-in ns (λ w. c .shared-slice-known4 .given (wordColumn + w) .fits) in
+    ((λ os. counted ns os (λ w. c .shared-slice-known4 .given (wordColumn + w) .fits)), omega (arith, few 0, few 1, few 2, few 3))
 
 pub free-labels-spec : {M : Type 1} → statement M
 free-labels-spec =

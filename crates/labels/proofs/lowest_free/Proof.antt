@@ -2,6 +2,7 @@ use Prim.Native.Nat.{_+_, _-_, _≤_}
 use native.Mathlib.Omega.{arith}
 use lib.Count.{trailing-le}
 use Rattle.meaning.specs.Lists.{positive}
+use Rattle.memory.specs.Sizes.{wordColumn}
 use Rattle.memory.specs.Memory.{wordAt}
 use borrow.Author.Needs.{needs}
 use Rattle.memory.proofs.Laws.{labels-start, From, lowest-word, lowest-next, lowest-none}
@@ -42,7 +43,7 @@ add-result c =
 returns : tie.Need-returns Inv-loop μ-loop
 returns c =
     let l = c .before .before .before in
-    lowest-word _ (l .loop .w) (c .before .before .loop-test .taken) (l .loop .inv .1) (positive _ (c .if1 .taken)) (c .before .shared-slice-known .given (1444 + l .loop .w) .fits)
+    lowest-word _ (l .loop .w) (c .before .before .loop-test .taken) (l .loop .inv .1) (positive _ (c .if1 .taken)) (c .before .shared-slice-known .given (wordColumn + l .loop .w) .fits)
 
 add-w : tie.Need-add-w Inv-loop μ-loop
 add-w c = search needs

@@ -2,6 +2,7 @@ use Rattle.memory.specs.Memory.{cardOf}
 use native.Mathlib.Omega.{arith}
 use Rattle.replies.proofs.Laws.{notice-fits, part-fits, decoded, says-told}
 use Rattle.replies.specs.Reply.{replyTo}
+use Rattle.meaning.specs.Save.{saveLimit}
 use Rattle.meaning.specs.Notice.{notice}
 use mathlib.Core.List.{[]}
 use Rattle.words.specs.Words.{ascii}
@@ -40,7 +41,7 @@ slice-aggregate-put-event : tie.Need-slice-aggregate-put-event
 slice-aggregate-put-event c = search needs
 
 put-event-requires : tie.Need-put-event-requires
-put-event-requires c κs = (omega arith, part-fits _ 23343 (c .before .before .before .notice .ensures .0 []) (notice-fits _ _ _ _ _) (omega (arith, c .before .before .before .before .before .lent .ensures .1)), c .before .before .before .before .before .before .before .before .before .before .before .before .before .before .before .before .pre .1)
+put-event-requires c κs = (omega arith, part-fits _ saveLimit (c .before .before .before .notice .ensures .0 []) (notice-fits _ _ _ _ _) (omega (arith, c .before .before .before .before .before .lent .ensures .1)), c .before .before .before .before .before .before .before .before .before .before .before .before .before .before .before .before .pre .1)
 
 same-length : tie.Need-same-length
 same-length c = search needs

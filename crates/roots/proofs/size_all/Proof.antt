@@ -1,6 +1,7 @@
 use Prim.Native.Nat.{_*_, _-_, _≤_}
 use native.Mathlib.Omega.{arith}
 use mathlib.Core.Path.{_≡_, sym}
+use Rattle.meaning.specs.Wire.{recordLimit}
 use Rattle.meaning.specs.Events.{sumFrom}
 use Rattle.memory.specs.Memory.{cardOf}
 use Rattle.holders.specs.Move.{sizeOne, sizeAll}
@@ -11,7 +12,7 @@ use Rattle.roots.proofs.size_all.Statement.{statement}
 use Rattle.roots.proofs.size_all.Tie as tie
 
 abbrev Inv-loop : tie.InvT-loop
-Inv-loop numbers names root u n sum₀ i₀ sum i = (i ≤ n) × (sum ≤ i * 156) × (sum ≡ sumFrom (sizeOne root u) i 0 (cardOf numbers names))
+Inv-loop numbers names root u n sum₀ i₀ sum i = (i ≤ n) × (sum ≤ i * (2 * recordLimit)) × (sum ≡ sumFrom (sizeOne root u) i 0 (cardOf numbers names))
 
 abbrev μ-loop : tie.MeasureT-loop
 μ-loop numbers names root u n sum₀ i₀ sum i = n - i

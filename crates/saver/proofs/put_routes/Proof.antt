@@ -2,6 +2,7 @@
 use Prim.Native.Nat.{_-_, _<_}
 use native.Mathlib.Omega.{arith}
 use borrow.Author.Needs.{needs}
+use Rattle.meaning.specs.Save.{routeSize}
 use Rattle.memory.specs.Memory.{routeCount, routeIn}
 use Rattle.recorder.proofs.Rows.{Rows, rows-none, rows-room, rows-lent, rows-done}
 use Rattle.recorder.proofs.Sizes.{route-length}
@@ -27,7 +28,7 @@ add-e c =
     let a = s .args in
     let l = c .before .loop in
     let lt : l .i < routeCount (a .numbers .now) = omega (arith, c .before .before .route-count .ensures .0) in
-    omega (arith, rows-room (routes-lot (a .numbers .now) (a .names .now) (a .from) (a .out .now) (s .pre .2)) (l .i) (l .at) (l .out) (l .inv) 21 lt (route-length (routeIn (a .numbers .now) (a .names .now) (l .i))))
+    omega (arith, rows-room (routes-lot (a .numbers .now) (a .names .now) (a .from) (a .out .now) (s .pre .2)) (l .i) (l .at) (l .out) (l .inv) routeSize lt (route-length (routeIn (a .numbers .now) (a .names .now) (l .i))))
 
 sub-put-route : tie.Need-sub-put-route Inv-loop μ-loop
 sub-put-route c = search needs
@@ -41,7 +42,7 @@ part-put-route-end c =
     let a = s .args in
     let l = c .before .loop in
     let lt : l .i < routeCount (a .numbers .now) = omega (arith, c .before .before .route-count .ensures .0) in
-    rows-room (routes-lot (a .numbers .now) (a .names .now) (a .from) (a .out .now) (s .pre .2)) (l .i) (l .at) (l .out) (l .inv) 21 lt (route-length (routeIn (a .numbers .now) (a .names .now) (l .i)))
+    rows-room (routes-lot (a .numbers .now) (a .names .now) (a .from) (a .out .now) (s .pre .2)) (l .i) (l .at) (l .out) (l .inv) routeSize lt (route-length (routeIn (a .numbers .now) (a .names .now) (l .i)))
 
 put-route-requires : tie.Need-put-route-requires Inv-loop μ-loop
 put-route-requires c κs = (search needs, search needs, omega arith, search needs)
@@ -60,7 +61,7 @@ loop-again c =
     let a = s .args in
     let l = d .before .loop in
     let lt : l .i < routeCount (a .numbers .now) = omega (arith, d .before .before .route-count .ensures .0) in
-    rows-lent (routes-lot (a .numbers .now) (a .names .now) (a .from) (a .out .now) (s .pre .2)) (l .i) (l .at) (l .out) (l .inv) 21 _ lt (p .put-route .ensures) (route-length (routeIn (a .numbers .now) (a .names .now) (l .i)))
+    rows-lent (routes-lot (a .numbers .now) (a .names .now) (a .from) (a .out .now) (s .pre .2)) (l .i) (l .at) (l .out) (l .inv) routeSize _ lt (p .put-route .ensures) (route-length (routeIn (a .numbers .now) (a .names .now) (l .i)))
 
 same-length : tie.Need-same-length Inv-loop μ-loop
 same-length c = c .before .loop .inv .1

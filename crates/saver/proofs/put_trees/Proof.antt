@@ -2,7 +2,7 @@
 use Prim.Native.Nat.{_-_, _<_}
 use native.Mathlib.Omega.{arith}
 use mathlib.Core.Path.{ap, _∙_}
-use Rattle.meaning.specs.Save.{treeSaved}
+use Rattle.meaning.specs.Save.{treeSaved, treeSize}
 use Rattle.memory.proofs.Memory.{tree-at}
 use borrow.Author.Needs.{needs}
 use Rattle.memory.specs.Memory.{treeCount}
@@ -29,7 +29,7 @@ add-e c =
     let a = s .args in
     let l = c .before .loop in
     let lt : l .i < treeCount (a .numbers .now) = omega (arith, c .before .before .tree-count .ensures .0) in
-    omega (arith, rows-room (trees-lot (a .numbers .now) (a .names .now) (a .from) (a .out .now) (s .pre .2)) (l .i) (l .at) (l .out) (l .inv) 118 lt (tree-size (a .numbers .now) (a .names .now) (l .i) lt))
+    omega (arith, rows-room (trees-lot (a .numbers .now) (a .names .now) (a .from) (a .out .now) (s .pre .2)) (l .i) (l .at) (l .out) (l .inv) treeSize lt (tree-size (a .numbers .now) (a .names .now) (l .i) lt))
 
 sub-put-tree : tie.Need-sub-put-tree Inv-loop μ-loop
 sub-put-tree c = search needs
@@ -43,7 +43,7 @@ part-put-tree-end c =
     let a = s .args in
     let l = c .before .loop in
     let lt : l .i < treeCount (a .numbers .now) = omega (arith, c .before .before .tree-count .ensures .0) in
-    rows-room (trees-lot (a .numbers .now) (a .names .now) (a .from) (a .out .now) (s .pre .2)) (l .i) (l .at) (l .out) (l .inv) 118 lt (tree-size (a .numbers .now) (a .names .now) (l .i) lt)
+    rows-room (trees-lot (a .numbers .now) (a .names .now) (a .from) (a .out .now) (s .pre .2)) (l .i) (l .at) (l .out) (l .inv) treeSize lt (tree-size (a .numbers .now) (a .names .now) (l .i) lt)
 
 put-tree-requires : tie.Need-put-tree-requires Inv-loop μ-loop
 put-tree-requires c κs = (search needs, search needs, omega (arith, c .before .before .before .tree-count .ensures .0), omega arith, search needs)
@@ -62,7 +62,7 @@ loop-again c =
     let a = s .args in
     let l = d .before .loop in
     let lt : l .i < treeCount (a .numbers .now) = omega (arith, d .before .before .tree-count .ensures .0) in
-    rows-lent (trees-lot (a .numbers .now) (a .names .now) (a .from) (a .out .now) (s .pre .2)) (l .i) (l .at) (l .out) (l .inv) 118 _ lt (p .put-tree .ensures ∙ ap treeSaved (tree-at (a .numbers .now) (a .names .now) (l .i) lt)) (tree-size (a .numbers .now) (a .names .now) (l .i) lt)
+    rows-lent (trees-lot (a .numbers .now) (a .names .now) (a .from) (a .out .now) (s .pre .2)) (l .i) (l .at) (l .out) (l .inv) treeSize _ lt (p .put-tree .ensures ∙ ap treeSaved (tree-at (a .numbers .now) (a .names .now) (l .i) lt)) (tree-size (a .numbers .now) (a .names .now) (l .i) lt)
 
 same-length : tie.Need-same-length Inv-loop μ-loop
 same-length c = c .before .loop .inv .1
