@@ -8,13 +8,14 @@ use Rattle.meaning.specs.Octets.{pick, two, four}
 use Rattle.meaning.specs.Wire.{rootLimit}
 use Rattle.meaning.specs.Card.{Route, Tree, Use, mapped, awaiting, freeLabels}
 use Rattle.meaning.specs.Save.{spaced, nameSaved, marked, headSaved, routeSaved, foursOf, treeSaved, useSaved, nameSize, routeSize, leafPlace, branchPlace, treeSize, useSize}
+use Rattle.meaning.specs.SaveFields.{name-length}
 use Rattle.octets.specs.Part.{mid}
 use Rattle.octets.proofs.Tab.{tab-is}
 use Rattle.memory.specs.Memory.{cardOf, baseIn, routeCount, treeCount}
 use Rattle.memory.proofs.Memory.{routes-length, trees-length}
 use Rattle.texts.proofs.Parts.{laid-part, laid-then, laid-all, two-parts}
 use Rattle.recorder.proofs.Rows.{joined, all-joined, Lot, Stand, rows-lent, rows-done}
-use Rattle.texts.proofs.Sizes.{space-length, name-length}
+use Rattle.texts.proofs.Sizes.{space-length}
 use Rattle.recorder.proofs.Sizes.{fours-length}
 
 -- ---- records of two parts

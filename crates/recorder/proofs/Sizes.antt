@@ -6,28 +6,19 @@ use mathlib.Core.Bool.{true, false}
 use mathlib.Core.List.{List, [], _∷_, _++_}
 use lib.ListN.{length, length-append}
 use Rattle.meaning.specs.Octets.{two, four, count}
-use Rattle.meaning.specs.Wire.{rootLimit}
 use Rattle.meaning.specs.Lists.{by-test}
-use Rattle.meaning.specs.Card.{Route, Tree, Use, free, mapped, awaiting, Card, isFree}
-use Rattle.meaning.specs.Save.{nameSaved, marked, headSaved, routeSaved, foursOf, treeSaved, useSaved, usesSaved, headSize, routeSize, treeSize, useSize}
-use Rattle.texts.proofs.Sizes.{space-length, name-length}
+use Rattle.meaning.specs.Card.{Use, free, mapped, awaiting, Card, isFree}
+use Rattle.meaning.specs.Save.{nameSaved, marked, headSaved, foursOf, useSaved, usesSaved, headSize, useSize}
+use Rattle.meaning.specs.SaveFields.{name-length}
 
 pub head-length : (c : Card) → length (headSaved c) ≡ headSize
 unfolding headSaved marked four two
 head-length c = refl
 
-pub route-length : (r : Route) → length (routeSaved r) ≡ routeSize
-unfolding routeSaved marked
-route-length r = rw (space-length rootLimit (r .root)) refl
-
 pub fours-length : (ns : List ℕ) → length (foursOf ns) ≡ length ns * 4
 unfolding foursOf four
 fours-length [] = refl
 fours-length (n ∷ ns) = omega (arith, fours-length ns)
-
-pub tree-length : (t : Tree) → length (t .branches) ≡ 16 → length (treeSaved t) ≡ treeSize
-unfolding treeSaved marked
-tree-length t e = simp length-append (rw (name-length (t .name), fours-length (t .branches), e) refl)
 
 pub state-length : (l s n : ℕ) (a : List ℕ) → length (marked 4 (four l ++ (s ∷ n ∷ nameSaved a))) ≡ useSize
 unfolding marked four

@@ -10,6 +10,7 @@ use Rattle.meaning.specs.Card.{Card, Use, isFree, treeAt, freeLabels}
 use Rattle.meaning.specs.Save.{headSaved, routeSaved, treeSaved, useSaved, routesSaved, treesSaved, usesSaved, saved, save, headSize, routeSize, treeSize, useSize}
 use Rattle.meaning.specs.Events.{roomShort, refuse}
 use Rattle.meaning.specs.Calls.{over, Does}
+use Rattle.meaning.specs.SaveFields.{route-length, tree-length}
 use Rattle.octets.specs.Part.{mid, tab}
 use Rattle.octets.proofs.Laws.{mid-none}
 use Rattle.memory.specs.Memory.{cardOf, baseIn, routeCount, treeCount, routeIn, treeIn, labelIn}
@@ -18,7 +19,7 @@ use Rattle.memory.proofs.Laws.{branches-length}
 use Rattle.texts.specs.Laid.{laid}
 use Rattle.texts.proofs.Parts.{laid-part, laid-then}
 use Rattle.recorder.proofs.Rows.{joined, joined-first, joined-ext, joined-length, all-joined, Lot}
-use Rattle.recorder.proofs.Sizes.{head-length, route-length, tree-length, use-length, use-none, uses-length}
+use Rattle.recorder.proofs.Sizes.{head-length, use-length, use-none, uses-length}
 
 -- ---- rows
 

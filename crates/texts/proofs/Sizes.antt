@@ -1,12 +1,11 @@
--- What a text in its space has inside, and its size; the size of a name. Assumes nothing.
+-- What a text in its space has inside, and its size. Assumes nothing.
 use Prim.Native.Nat.{ℕ, zero, suc, _+_, _-_, _≤_, _<_}
 use native.Mathlib.Nat.{not-suc-le-zero, le-of-suc-le-suc}
 use native.Mathlib.Omega.{arith}
 use mathlib.Core.Path.{_≡_, refl}
 use mathlib.Core.List.{List, [], _∷_}
 use lib.ListN.{length, take, getD, length-append, length-replicate, getD-replicate}
-use Rattle.meaning.specs.Wire.{rootIn, opaqueIn, rootLimit}
-use Rattle.meaning.specs.Save.{padded, spaced, nameSaved, savedOpaque, nameSize}
+use Rattle.meaning.specs.Save.{padded, spaced}
 
 pub taken-le : (n : ℕ) (o : List ℕ) → length (take n o) ≤ n
 taken-le zero o = omega arith
@@ -29,9 +28,3 @@ padded-length n o = rw (length-append, length-replicate) (omega (arith, taken-le
 pub space-length : (n : ℕ) (o : List ℕ) → length (spaced n o) ≡ n + 1
 unfolding spaced
 space-length n o = omega (arith, padded-length n o)
-
--- ---- a name
-
-pub name-length : (a : List ℕ) → length (nameSaved a) ≡ nameSize
-unfolding nameSaved
-name-length a = rw (length-append, space-length rootLimit (rootIn a), space-length savedOpaque (opaqueIn a)) refl

@@ -5,7 +5,7 @@ use borrow.Author.Needs.{needs}
 use Rattle.meaning.specs.Save.{routeSize}
 use Rattle.memory.specs.Memory.{routeCount, routeIn}
 use Rattle.recorder.proofs.Rows.{Rows, rows-none, rows-room, rows-lent, rows-done}
-use Rattle.recorder.proofs.Sizes.{route-length}
+use Rattle.meaning.specs.SaveFields.{route-length}
 use Rattle.saver.proofs.Laws.{routeRow, routes-lot}
 use Rattle.saver.proofs.put_routes.Statement.{statement}
 use Rattle.saver.proofs.put_routes.Tie as tie
