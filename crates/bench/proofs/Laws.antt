@@ -8,8 +8,8 @@ use lib.ListN.{length, take, getD, set, length-append, length-set}
 use lib.Seq.{take-suc, take-suc-set}
 use borrow.Author.Tests.{lt-leb, eq-eqb, ne-eqb}
 use Rattle.meaning.specs.Card.{Card}
-use Rattle.verbs.specs.Line.{Said, orderOf}
-use Rattle.replies.specs.Reply.{Reply, replyTo, Answers}
+use Rattle.bench_verbs.specs.Line.{Said, orderOf}
+use Rattle.bench_replies.specs.Reply.{Reply, replyTo, Answers}
 use Rattle.bench.specs.Kept.{Keeps}
 use Rattle.bench.specs.Input.{Stand, nextNumber, replyHere, ended, longer, after, afterAll, Stands}
 

@@ -6,8 +6,8 @@ use lib.ListN.{length}
 use lib.Dec.{eqb}
 use Rattle.meaning.specs.Octets.{pick}
 use Rattle.meaning.specs.Card.{Card}
-use Rattle.verbs.specs.Line.{orderOf}
-use Rattle.replies.specs.Reply.{Reply, replyTo}
+use Rattle.bench_verbs.specs.Line.{orderOf}
+use Rattle.bench_replies.specs.Reply.{Reply, replyTo}
 use Rattle.bench.specs.Kept.{Keeps}
 
 -- number: of the last line that ended; octets: those of the line that goes on

@@ -4,13 +4,13 @@ ghost use mathlib.Core.List.{List, [], _∷_, _++_};
 ghost use Prim.Native.Nat.{ℕ, _≤_};
 ghost use lib.ListN.{length};
 ghost use Rattle.memory.specs.Memory.{cardOf};
-ghost use Rattle.verbs.specs.Line.{orderOf};
-ghost use Rattle.replies.specs.Reply.{replyTo, Answers};
+ghost use Rattle.bench_verbs.specs.Line.{orderOf};
+ghost use Rattle.bench_replies.specs.Reply.{replyTo, Answers};
 ghost use Rattle.bench.specs.Kept.{Keeps};
 ghost use Rattle.bench.specs.Input.{Stand, ended, after, afterAll, Stands};
-ghost use Rattle.lines.specs.Text.{textSpace};
-use answers::Answered;
-use lines::TEXT_SPACE;
+ghost use Rattle.bench_lines.specs.Text.{textSpace};
+use bench_answers::Answered;
+use bench_lines::TEXT_SPACE;
 use meaning::SAVE_LIMIT;
 use memory::NUMBER_COUNT;
 use memory::OCTET_COUNT;
@@ -54,10 +54,10 @@ fn reply(
 {
     let kept = state.kept;
     if kept <= line.len() {
-        return answers::answer(numbers, names, &line[..kept], number, state.room, text);
+        return bench_answers::answer(numbers, names, &line[..kept], number, state.room, text);
     }
     Answered {
-        length: lines::put_count(text, b"?", number),
+        length: bench_lines::put_count(text, b"?", number),
         room: state.room,
     }
 }

@@ -12,10 +12,10 @@ ghost use Rattle.meaning.specs.Calls.{Does, Hands};
 ghost use Rattle.memory.specs.Sizes.{Numbers, Names};
 ghost use Rattle.memory.specs.Memory.{cardOf};
 ghost use Rattle.card.specs.Calls.{onRead};
-ghost use Rattle.lookups.specs.Feed.{feedIn};
+ghost use Rattle.card_lookups.specs.Feed.{feedIn};
 use memory::NUMBER_COUNT;
 use memory::OCTET_COUNT;
-use reader::Read;
+use wire_reader::Read;
 
 // ---- start
 
@@ -24,14 +24,14 @@ pub fn start(numbers: &mut [u64; NUMBER_COUNT], base: u32) -> u32
     ensures { λ r. ⌜ (r ≡ start base .answer) × ((os : List ℕ) → cardOf (now (numbers .exit)) os ≡ start base .card) ⌝ }
 {
     if base < 16 {
-        rows::start_fresh(numbers, 16);
+        memory_rows::start_fresh(numbers, 16);
         return 17;
     }
     if 1048320 < base {
-        rows::start_fresh(numbers, 16);
+        memory_rows::start_fresh(numbers, 16);
         return 17;
     }
-    rows::start_fresh(numbers, base as u64);
+    memory_rows::start_fresh(numbers, base as u64);
     0
 }
 
@@ -52,13 +52,13 @@ fn on_message(
         (now (answer .exit)) r (now (out .entry)) (now (out .exit)) (cardOf (now (numbers .exit)) (now (names .exit))) ⌝ }
 {
     if kind == 0x0400 {
-        return mappings::map(numbers, names, n, name, label, out, answer);
+        return event_mapping::map(numbers, names, n, name, label, out, answer);
     }
     if kind == 0x0402 {
-        return withdrawals::withdraw(numbers, names, n, name, label, out, answer);
+        return event_withdraw::withdraw(numbers, names, n, name, label, out, answer);
     }
     if kind == 0x0403 {
-        withdrawals::release(numbers, names, n, name, label, answer);
+        event_withdraw::release(numbers, names, n, name, label, answer);
         return 0;
     }
     *answer = 3;
@@ -78,7 +78,7 @@ fn on_read(
     ensures { λ r. ⌜ Does (finish (length (now (out .entry))) (cardOf (now (numbers .entry)) (now (names .entry))) (onRead (cardOf (now (numbers .entry)) (now (names .entry))) n (now (message .entry))))
         (now (answer .exit)) r (now (out .entry)) (now (out .exit)) (cardOf (now (numbers .exit)) (now (names .exit))) ⌝ }
 {
-    match reader::read_message(message) {
+    match wire_reader::read_message(message) {
         Read::Refused(refusal) => {
             *answer = refusal;
             0
@@ -146,12 +146,12 @@ pub fn join_core(
     ensures { λ r. ⌜ Does (event (length (now (out .entry))) (cardOf (now (numbers .entry)) (now (names .entry))) (join (now (element .entry))))
         (now (answer .exit)) r (now (out .entry)) (now (out .exit)) (cardOf (now (numbers .exit)) (now (names .exit))) ⌝ }
 {
-    let refusal = reader::element_refusal(element);
+    let refusal = wire_reader::element_refusal(element);
     if refusal != 0 {
         *answer = refusal;
         return 0;
     }
-    leaves::join(numbers, names, element, out, answer)
+    event_leaf::join(numbers, names, element, out, answer)
 }
 
 pub fn join<'a>(
@@ -178,12 +178,12 @@ pub fn leave_core(
     ensures { λ r. ⌜ Does (event (length (now (out .entry))) (cardOf (now (numbers .entry)) (now (names .entry))) (leave (now (element .entry))))
         (now (answer .exit)) r (now (out .entry)) (now (out .exit)) (cardOf (now (numbers .exit)) (now (names .exit))) ⌝ }
 {
-    let refusal = reader::element_refusal(element);
+    let refusal = wire_reader::element_refusal(element);
     if refusal != 0 {
         *answer = refusal;
         return 0;
     }
-    leaves::leave(numbers, names, element, out, answer)
+    event_leaf::leave(numbers, names, element, out, answer)
 }
 
 pub fn leave<'a>(
@@ -231,7 +231,7 @@ pub fn route_core(
         *answer = 6;
         return 0;
     }
-    routes::change_route(numbers, names, root, via as u64, out, answer)
+    event_route::change_route(numbers, names, root, via as u64, out, answer)
 }
 
 pub fn route<'a>(
@@ -264,7 +264,7 @@ pub fn lookup_label_core(
 ) -> bool
     ensures { λ r. ⌜ ((os : List ℕ) → feedIn (now (branches .exit)) r ≡ lookupLabel label (cardOf (now (numbers .entry)) os)) ⌝ }
 {
-    lookups::find_label(numbers, label as u64, branches)
+    card_lookups::find_label(numbers, label as u64, branches)
 }
 
 pub fn lookup_label(numbers: &[u64; NUMBER_COUNT], label: u32) -> Feed
@@ -283,7 +283,7 @@ pub fn lookup_name_core(
 ) -> bool
     ensures { λ r. ⌜ feedIn (now (branches .exit)) r ≡ lookupName (now (element .entry)) (cardOf (now (numbers .entry)) (now (names .entry))) ⌝ }
 {
-    lookups::find_name(numbers, names, element, branches)
+    card_lookups::find_name(numbers, names, element, branches)
 }
 
 pub fn lookup_name(numbers: &[u64; NUMBER_COUNT], names: &[u8; OCTET_COUNT], element: &[u8]) -> Feed
@@ -297,5 +297,5 @@ pub fn lookup_name(numbers: &[u64; NUMBER_COUNT], names: &[u8; OCTET_COUNT], ele
 pub fn free_labels(numbers: &[u64; NUMBER_COUNT]) -> u32
     ensures { λ r. ⌜ ((os : List ℕ) → r ≡ freeLabels (cardOf (now (numbers .entry)) os)) ⌝ }
 {
-    labels::free_labels(numbers) as u32
+    memory_labels::free_labels(numbers) as u32
 }

@@ -7,7 +7,7 @@ use libc::STDOUT_FILENO;
 use meaning::NAME_LIMIT;
 use meaning::OPAQUE_LIMIT;
 use meaning::RECORD_LIMIT;
-use reader::Read;
+use wire_reader::Read;
 
 const LONGEST: u8 = OPAQUE_LIMIT as u8;
 // the longest record, and two octets behind it
@@ -87,7 +87,7 @@ fn is_framed(record: &[u8], sent: Sent) -> bool {
 }
 
 fn is_said(message: &[u8], sent: Sent, name: &[u8]) -> bool {
-    match reader::read_message(message) {
+    match wire_reader::read_message(message) {
         Read::Refused(_) => false,
         Read::Says {
             kind,
@@ -107,7 +107,7 @@ fn is_said(message: &[u8], sent: Sent, name: &[u8]) -> bool {
 }
 
 fn is_missized(message: &[u8]) -> bool {
-    match reader::read_message(message) {
+    match wire_reader::read_message(message) {
         Read::Refused(n) => n == 2,
         Read::Says {
             kind: _,
@@ -141,7 +141,7 @@ fn is_kept(sent: Sent, name: &[u8]) -> bool
     requires { ⌜ length (now name) ≤ nameLimit ⌝ }
 {
     let mut out = [0u8; ROOM];
-    let next = writer::send(sent.id, &mut out, 0, sent.to, sent.kind, sent.label, name);
+    let next = wire_writer::send(sent.id, &mut out, 0, sent.to, sent.kind, sent.label, name);
     if !is_next(sent.id, next) {
         return false;
     }

@@ -8,7 +8,7 @@ ghost use Rattle.meaning.specs.Card.{freeLabels, lookupLabel, lookupName};
 ghost use Rattle.meaning.specs.Events.{start, event, receive, join, leave, route};
 ghost use Rattle.meaning.specs.Calls.{Does};
 ghost use Rattle.memory.specs.Memory.{cardOf};
-ghost use Rattle.lookups.specs.Feed.{feedIn};
+ghost use Rattle.card_lookups.specs.Feed.{feedIn};
 use memory::NUMBER_COUNT;
 use memory::OCTET_COUNT;
 

@@ -1,4 +1,4 @@
--- A row of octets that are taken as a save, or refused by 19, and when it is right. The crate `saves` has tables of them.
+-- A row of octets that are taken as a save, or refused by 19, and when it is right. The crate `meaning_saves` has tables of them.
 -- Assumes nothing.
 use Prim.Native.Nat.{ℕ, suc}
 use mathlib.Core.Bool.{Bool, true, false, _&&_}

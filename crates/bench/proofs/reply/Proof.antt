@@ -2,9 +2,9 @@ use native.Mathlib.Omega.{arith}
 use mathlib.Core.Path.{refl, sym}
 use lib.Seq.{length-take-le}
 use Rattle.bench.proofs.Laws.{keeps-line, keeps-long}
-use Rattle.replies.proofs.Laws.{says-only}
-use Rattle.replies.specs.Reply.{only, replyTo}
-use Rattle.words.specs.Words.{ascii}
+use Rattle.bench_replies.proofs.Laws.{says-only}
+use Rattle.bench_replies.specs.Reply.{only, replyTo}
+use Rattle.bench_words.specs.Words.{ascii}
 use borrow.Author.Needs.{needs}
 use Rattle.bench.proofs.reply.Statement.{statement}
 use Rattle.bench.proofs.reply.Tie as tie

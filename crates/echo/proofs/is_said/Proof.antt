@@ -1,7 +1,7 @@
 -- `echo::is_said` meets its contract: where the name lies, as `read_message` ensures it, is a part of the message. Assumes nothing.
 use native.Mathlib.Omega.{arith}
 use mathlib.Core.Path.{subst}
-use Rattle.reader.specs.Read.{Reads}
+use Rattle.wire_reader.specs.Read.{Reads}
 use borrow.Author.Needs.{needs}
 use Rattle.echo.proofs.is_said.Statement.{statement}
 use Rattle.echo.proofs.is_said.Tie as tie

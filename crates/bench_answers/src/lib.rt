@@ -1,0 +1,163 @@
+// What a line is answered with: the order that it is, obeyed, and the line that tells of it, at the front of a lent text.
+ghost use mathlib.Core.Path.{_≡_};
+ghost use mathlib.Core.List.{List};
+ghost use Prim.Native.Nat.{ℕ, _≤_, _*_};
+ghost use lib.ListN.{length};
+ghost use Rattle.meaning.specs.Card.{Card};
+ghost use Rattle.meaning.specs.Save.{saveLimit};
+ghost use Rattle.bench_lines.specs.Text.{textSpace};
+ghost use Rattle.memory.specs.Memory.{cardOf};
+ghost use Rattle.bench_words.specs.Words.{octetsOf};
+ghost use Rattle.bench_verbs.specs.Line.{Said, orderOf};
+ghost use Rattle.bench_orders.specs.Tells.{meant, InLine};
+ghost use Rattle.bench_replies.specs.Reply.{replyTo, Says, Answers};
+use bench_orders::Order;
+use meaning::SAVE_LIMIT;
+use memory::NUMBER_COUNT;
+use memory::OCTET_COUNT;
+
+// ---- lookups
+
+// Where a label leads.
+fn on_label(numbers: &[u64; NUMBER_COUNT], label: u32, text: &mut [u8]) -> usize
+    requires { ⌜ textSpace ≤ length (now text) ⌝ }
+    ensures { λ r. ⌜ ((number room : ℕ) (os : List ℕ) → Says (replyTo number room (cardOf (now (numbers .entry)) os) (Said.label label))
+        r (now (text .exit)) (cardOf (now (numbers .entry)) os)) ⌝ }
+{
+    let mut branches = [0u64; 16];
+    let leaf = card::lookup_label_core(numbers, label, &mut branches);
+    bench_lines::put_feed(text, b"label", leaf, &branches)
+}
+
+// Where a name leads.
+fn on_tree(
+    numbers: &[u64; NUMBER_COUNT],
+    names: &[u8; OCTET_COUNT],
+    hex: &[u8],
+    text: &mut [u8],
+) -> usize
+    requires { ⌜ (length (now hex) ≤ 8192) × (textSpace ≤ length (now text)) ⌝ }
+    ensures { λ r. ⌜ ((number room : ℕ) → Says (replyTo number room (cardOf (now (numbers .entry)) (now (names .entry))) (Said.tree (octetsOf (now (hex .entry)))))
+        r (now (text .exit)) (cardOf (now (numbers .entry)) (now (names .entry)))) ⌝ }
+{
+    let mut element = bench_replies::input();
+    let n = bench_words::decode_hex(hex, &mut element);
+    let mut branches = [0u64; 16];
+    let leaf = card::lookup_name_core(numbers, names, &element[..n], &mut branches);
+    bench_lines::put_feed(text, b"tree", leaf, &branches)
+}
+
+// ---- saves
+
+// The longest save: 32 routes, 64 trees and 256 labels behind the head.
+fn longest_save() -> [u8; SAVE_LIMIT]
+    ensures { λ r. ⌜ saveLimit ≡ length r ⌝ }
+{
+    [0; SAVE_LIMIT]
+}
+
+// The table as octets, for a card swap.
+fn on_save(
+    numbers: &[u64; NUMBER_COUNT],
+    names: &[u8; OCTET_COUNT],
+    room: u32,
+    text: &mut [u8],
+) -> usize
+    requires { ⌜ textSpace ≤ length (now text) ⌝ }
+    ensures { λ r. ⌜ ((number : ℕ) → Says (replyTo number room (cardOf (now (numbers .entry)) (now (names .entry))) Said.save)
+        r (now (text .exit)) (cardOf (now (numbers .entry)) (now (names .entry)))) ⌝ }
+{
+    let mut out = longest_save();
+    let mut answer: u32 = 0;
+    let octets = save_writer::save(
+        numbers,
+        names,
+        bench_replies::lent(&mut out, room),
+        &mut answer,
+    );
+    bench_lines::put_event(text, b"save", answer, octets)
+}
+
+fn on_restore(
+    numbers: &mut [u64; NUMBER_COUNT],
+    names: &mut [u8; OCTET_COUNT],
+    hex: &[u8],
+    text: &mut [u8],
+) -> usize
+    requires { ⌜ (length (now hex) ≤ 2 * saveLimit) × (textSpace ≤ length (now text)) ⌝ }
+    ensures { λ r. ⌜ ((number room : ℕ) → Says (replyTo number room (cardOf (now (numbers .entry)) (now (names .entry))) (Said.restore (octetsOf (now (hex .entry)))))
+        r (now (text .exit)) (cardOf (now (numbers .exit)) (now (names .exit)))) ⌝ }
+{
+    let mut octets = longest_save();
+    let n = bench_words::decode_hex(hex, &mut octets);
+    let answer = save_reader::restore(numbers, names, &octets[..n]);
+    bench_lines::put_count(text, b"restore", answer as u64)
+}
+
+// ---- any order
+
+// Does what is ordered.
+fn obey(
+    numbers: &mut [u64; NUMBER_COUNT],
+    names: &mut [u8; OCTET_COUNT],
+    line: &[u8],
+    order: Order,
+    number: u64,
+    room: u32,
+    text: &mut [u8],
+) -> usize
+    requires { ⌜ InLine (now line) order × (textSpace ≤ length (now text)) ⌝ }
+    ensures { λ r. ⌜ Says (replyTo number room (cardOf (now (numbers .entry)) (now (names .entry))) (meant (now (line .entry)) order))
+        r (now (text .exit)) (cardOf (now (numbers .exit)) (now (names .exit))) ⌝ }
+{
+    match order {
+        Order::Blank => 0,
+        Order::Bad => bench_lines::put_count(text, b"?", number),
+        Order::Start(base) => bench_lines::put_count(
+            text,
+            b"start",
+            card::start(numbers, base) as u64,
+        ),
+        Order::Room(n) => bench_lines::put_count(text, b"room", n as u64),
+        Order::Label(label) => on_label(numbers, label, text),
+        Order::Tree { start, end } => on_tree(numbers, names, &line[start..end], text),
+        Order::Free => bench_lines::put_count(text, b"free", card::free_labels(numbers) as u64),
+        Order::Save => on_save(numbers, names, room, text),
+        Order::Restore { start, end } => on_restore(numbers, names, &line[start..end], text),
+        _ => bench_replies::on_event(numbers, names, line, order, room, text),
+    }
+}
+
+// What a line is answered with: a text's length, and the room from here on.
+pub struct Answered {
+    pub length: usize,
+    pub room: u32,
+}
+
+fn next_room(room: u32, order: Order) -> u32
+    ensures { λ r. ⌜ ((number : ℕ) (c : Card) (l : List ℕ) → r ≡ replyTo number room c (meant l order) .room) ⌝ }
+{
+    match order {
+        Order::Room(n) => n,
+        _ => room,
+    }
+}
+
+pub fn answer(
+    numbers: &mut [u64; NUMBER_COUNT],
+    names: &mut [u8; OCTET_COUNT],
+    line: &[u8],
+    number: u64,
+    room: u32,
+    text: &mut [u8],
+) -> Answered
+    requires { ⌜ textSpace ≤ length (now text) ⌝ }
+    ensures { λ r. ⌜ Answers (replyTo number room (cardOf (now (numbers .entry)) (now (names .entry))) (orderOf (now (line .entry))))
+        (r .length) (now (text .exit)) (cardOf (now (numbers .exit)) (now (names .exit))) (r .room) ⌝ }
+{
+    let order = bench_orders::read_order(line);
+    Answered {
+        length: obey(numbers, names, line, order, number, room, text),
+        room: next_room(room, order),
+    }
+}

@@ -1,0 +1,99 @@
+-- Laws of a text that goes on. Assumes nothing.
+use Prim.Native.Nat.{ℕ, suc, _+_, _≤_, _<_}
+use native.Mathlib.Numerals.{add-one}
+use native.Mathlib.Omega.{arith}
+use mathlib.Core.Path.{_≡_, refl, sym, ap, _∙_}
+use mathlib.Core.List.{List, [], _∷_, _++_, append-assoc}
+use lib.ListN.{length, take, drop, getD, length-append}
+use lib.Seq.{length-take-le, take-append-add, take-at, take-suc}
+use borrow.Author.Tests.{lt-ltb}
+use Rattle.meaning.specs.Lists.{append-nil, by-test}
+use Rattle.meaning.specs.Card.{Branch, isBranch, branchesFrom}
+use Rattle.bench_words.specs.Words.{ascii, numeral, hexOf, Puts}
+use Rattle.bench_lines.specs.Text.{recordsText, branchText, branchesText, orNothing, Adds}
+
+pub adds-none : (t : List ℕ) (at : ℕ) → Adds [] t t at at
+adds-none t at = record { count = omega arith; text = sym (append-nil (take at t)) }
+
+pub adds-then : {xs ys a b c : List ℕ} {p q r : ℕ} → Adds xs a b p q → Adds ys b c q r → Adds (xs ++ ys) a c p r
+adds-then {xs} {ys} {a} {b} {c} {p} {q} {r} f g = record {
+  count = let n = length-append xs ys in omega (arith, f .count, g .count);
+  text = g .text ∙ rw (f .text) (append-assoc (take p a) xs ys);
+}
+
+-- a part that was written at its front
+pub adds-part : {ys part new : List ℕ} {r : ℕ} (t rest : List ℕ) (at : ℕ) → at ≤ length t → Puts ys part new r → Adds ys t (take at t ++ (new ++ rest)) at (at + r)
+adds-part {ys} {part} {new} {r} t rest at h p = record {
+  count = rw (p .count) refl;
+  text =
+      let n : length (take at t) ≡ at = length-take-le at t h in
+      let w : new ++ rest ≡ ys ++ (drop r part ++ rest) = rw (p .whole) (append-assoc ys (drop r part) rest) in
+      ap (λ (m : ℕ). take (m + r) (take at t ++ (new ++ rest))) (sym n)
+      ∙ take-append-add (take at t) (new ++ rest) r
+      ∙ ap (λ (l : List ℕ). take at t ++ take r l) w
+      ∙ ap (λ (l : List ℕ). take at t ++ l) (take-at ys (drop r part ++ rest) r (sym (p .count)));
+}
+
+-- ---- records
+
+pub records-none : (l : List ℕ) → length l ≡ 0 → recordsText l ≡ []
+unfolding recordsText
+records-none [] e = refl
+records-none (o ∷ os) e = absurd (omega arith)
+
+pub records-some : (l : List ℕ) → (length l ≡ 0 → ⊥) → recordsText l ≡ 32 ∷ hexOf l
+unfolding recordsText
+records-some [] e = absurd (e refl)
+records-some (o ∷ os) e = refl
+
+-- ---- branches
+
+branches-after : (xs ys : List Branch) → branchesText (xs ++ ys) ≡ branchesText xs ++ branchesText ys
+unfolding branchesText
+branches-after [] ys = refl
+branches-after (b ∷ xs) ys = rw (branches-after xs ys) (sym (append-assoc (branchText b) (branchesText xs) (branchesText ys)))
+
+branches-snoc : (n : ℕ) (xs : List ℕ) (label : ℕ) → branchesFrom n (xs ++ (label ∷ [])) ≡ branchesFrom n xs ++ branchesFrom (n + length xs) (label ∷ [])
+unfolding branchesFrom
+branches-snoc n [] label = let e : n ≡ n + 0 = omega arith in ap (λ (m : ℕ). branchesFrom m (label ∷ [])) e
+branches-snoc n (x ∷ xs) label =
+    let e : suc n + length xs ≡ n + suc (length xs) = omega arith in
+    let later : branchesFrom (suc n) (xs ++ (label ∷ [])) ≡ branchesFrom (suc n) xs ++ branchesFrom (n + suc (length xs)) (label ∷ []) = rw e at (branches-snoc (suc n) xs label) in
+    by-test (isBranch x) (λ t. rw (t, later)) (λ t. rw (t, later))
+
+pub branches-more : (l : List ℕ) (i : ℕ) → i < length l → branchesText (branchesFrom 0 (take i l)) ++ branchesText (branchesFrom i (getD l i 0 ∷ [])) ≡ branchesText (branchesFrom 0 (take (i + 1) l))
+branches-more l i h =
+    let e : 0 + length (take i l) ≡ i = rw (length-take-le i l (omega arith)) (omega arith) in
+    sym (rw (add-one i, take-suc l i 0 h) (ap branchesText (branches-snoc 0 (take i l) (getD l i 0) ∙ rw e) ∙ branches-after (branchesFrom 0 (take i l)) (branchesFrom i (getD l i 0 ∷ []))))
+
+pub branch-none : (n label : ℕ) → label ≡ 0 → branchesText (branchesFrom n (label ∷ [])) ≡ []
+unfolding branchesFrom branchesText isBranch
+branch-none n label e = rw e refl
+
+pub branch-one : (n label : ℕ) → (label ≡ 0 → ⊥) → branchesText (branchesFrom n (label ∷ [])) ≡ 32 ∷ numeral n ++ (58 ∷ numeral label)
+unfolding branchesFrom branchesText branchText isBranch
+branch-one n label h = rw (lt-ltb 0 label (omega arith)) (append-nil (32 ∷ numeral n ++ (58 ∷ numeral label)))
+
+-- ---- a feed
+
+pub feed-none : (l : List ℕ) → length l ≡ 0 → l ++ ascii " nothing" ≡ orNothing l
+unfolding orNothing
+feed-none [] e = refl
+feed-none (c ∷ l) e = absurd (omega arith)
+
+pub feed-some : (l : List ℕ) → (length l ≡ 0 → ⊥) → orNothing l ≡ l
+unfolding orNothing
+feed-some [] e = absurd (e refl)
+feed-some (c ∷ l) e = refl
+
+module _ {word l m a b c d : List ℕ} {s p q : ℕ} (f : Adds word a b 0 s) (g : Adds l b c s p) (h : Adds m c d p q) where
+  pub feed-nothing : {e k : List ℕ} {u r : ℕ} → q ≡ s → Adds (ascii " nothing") d e q u → Adds (10 ∷ []) e k u r → Adds (word ++ (orNothing (l ++ m) ++ (10 ∷ []))) a k 0 r
+  feed-nothing z i j =
+      let both = adds-then g h in
+      adds-then f (adds-then (rw (feed-none (l ++ m) (omega (arith, both .count))) at (adds-then both i)) j)
+
+  pub feed-listed : {e : List ℕ} {r : ℕ} → (q ≡ s → ⊥) → Adds (10 ∷ []) d e q r → Adds (word ++ (orNothing (l ++ m) ++ (10 ∷ []))) a e 0 r
+  feed-listed z j =
+      let both = adds-then g h in
+      let some : length (l ++ m) ≡ 0 → ⊥ = λ n. z (omega (arith, both .count)) in
+      rw (feed-some (l ++ m) some) (adds-then f (adds-then both j))

@@ -1,0 +1,240 @@
+-- What an order says by its verb and the words behind it. Assumes nothing.
+use Prim.Native.Nat.{ℕ, _-_, _≤_, _*_}
+use native.Mathlib.Omega.{arith}
+use mathlib.Core.Path.{_≡_, refl, sym, _∙_}
+use mathlib.Core.Bool.{Bool, true, false}
+use mathlib.Core.List.{List, [], _∷_}
+use lib.ListN.{length, drop, length-drop}
+use lib.Seq.{length-take-le}
+use denote.Enum.Declared.{tagOf}
+use types.Run.{OneOf, miss}
+use Rattle.meaning.specs.Octets.{pick}
+use Rattle.meaning.specs.Save.{saveLimit}
+use Rattle.bench_words.specs.Words.{part, isHexTo, isHex, isNumber, octetsOf}
+use Rattle.bench_verbs.specs.Line.{isSaveHex, Said, withNumber, withHex, withSave, withNumberHex, withHexNumber, withNumbersHex, does}
+use Rattle.bench_orders.specs.Tells.{meant, Lies, SaveLies, Tells}
+use Rattle.bench_words.specs.Scan.{numberIn}
+use Rattle.bench_words.specs.declared.Number.{Number}
+use Rattle.bench_words.proofs.Laws.{number-value, number-none, hex-short}
+use Rattle.bench_orders.specs.Scan.{numbered, asNumber, withOctets, asHex}
+use Rattle.bench_verbs.specs.declared.Verb.{Verb}
+use Rattle.bench_orders.specs.declared.Order.{Order}
+use Rattle.bench_verbs.proofs.Verb.{the-type}
+
+-- ---- a number, or none
+
+pub one-number : (f : ℕ → Said) (w : List ℕ) (n : ℕ) (k : Number) → k ≡ numberIn w → k ≡ Number.Is n → f n ≡ withNumber f (w ∷ [])
+unfolding withNumber
+one-number f w n k e g = let v = number-value w n (sym e ∙ g) in rw (v .0, v .1)
+
+pub no-number : (f : ℕ → Said) (w : List ℕ) (k : Number) → k ≡ numberIn w → k ≡ Number.None → Said.bad ≡ withNumber f (w ∷ [])
+unfolding withNumber
+no-number f w k e g = rw (number-none w (sym e ∙ g))
+
+pub first-number : (f : ℕ → List ℕ → Said) (w : List ℕ) (ws : List (List ℕ)) (n : ℕ) (k : Number) → k ≡ numberIn w → k ≡ Number.Is n → withHex (f n) ws ≡ withNumberHex f (w ∷ ws)
+unfolding withNumberHex
+first-number f w ws n k e g = let v = number-value w n (sym e ∙ g) in rw (v .0, v .1)
+
+pub no-first-number : (f : ℕ → List ℕ → Said) (w : List ℕ) (ws : List (List ℕ)) (k : Number) → k ≡ numberIn w → k ≡ Number.None → Said.bad ≡ withNumberHex f (w ∷ ws)
+unfolding withNumberHex
+no-first-number f w ws k e g = rw (number-none w (sym e ∙ g))
+
+pub first-of-numbers : (f : ℕ → ℕ → List ℕ → Said) (w : List ℕ) (ws : List (List ℕ)) (n : ℕ) (k : Number) → k ≡ numberIn w → k ≡ Number.Is n → withNumberHex (f n) ws ≡ withNumbersHex f (w ∷ ws)
+unfolding withNumbersHex
+first-of-numbers f w ws n k e g = let v = number-value w n (sym e ∙ g) in rw (v .0, v .1)
+
+pub no-first-of-numbers : (f : ℕ → ℕ → List ℕ → Said) (w : List ℕ) (ws : List (List ℕ)) (k : Number) → k ≡ numberIn w → k ≡ Number.None → Said.bad ≡ withNumbersHex f (w ∷ ws)
+unfolding withNumbersHex
+no-first-of-numbers f w ws k e g = rw (number-none w (sym e ∙ g))
+
+-- ---- HEX, or none
+
+pub one-hex : (f : List ℕ → Said) (w : List ℕ) (b : Bool) → b ≡ isHex w → b ≡ true → f (octetsOf w) ≡ withHex f (w ∷ [])
+unfolding withHex
+one-hex f w b e g = rw (sym e ∙ g)
+
+pub no-hex : (f : List ℕ → Said) (w : List ℕ) (b : Bool) → b ≡ isHex w → b ≡ false → Said.bad ≡ withHex f (w ∷ [])
+unfolding withHex
+no-hex f w b e g = rw (sym e ∙ g)
+
+pub first-hex : (f : List ℕ → ℕ → Said) (w : List ℕ) (ws : List (List ℕ)) (b : Bool) → b ≡ isHex w → b ≡ true → withNumber (f (octetsOf w)) ws ≡ withHexNumber f (w ∷ ws)
+unfolding withHexNumber
+first-hex f w ws b e g = rw (sym e ∙ g)
+
+pub no-first-hex : (f : List ℕ → ℕ → Said) (w : List ℕ) (ws : List (List ℕ)) (b : Bool) → b ≡ isHex w → b ≡ false → Said.bad ≡ withHexNumber f (w ∷ ws)
+unfolding withHexNumber
+no-first-hex f w ws b e g = rw (sym e ∙ g)
+
+pub lies : (l : List ℕ) (s e : ℕ) (b : Bool) → s ≤ e → e ≤ length l → b ≡ isHex (part s e l) → b ≡ true → Lies l s e
+unfolding isHex
+lies l s e b h k p q = let n = length-take-le (e - s) (drop s l) (simp length-drop (omega arith)) in let m = hex-short 8192 (part s e l) (omega arith) (sym p ∙ q) in (h, k, omega arith)
+
+pub save-lies : (l : List ℕ) (s e : ℕ) (b : Bool) → s ≤ e → e ≤ length l → b ≡ isHexTo (2 * saveLimit) (part s e l) → b ≡ true → SaveLies l s e
+save-lies l s e b h k p q = let n = length-take-le (e - s) (drop s l) (simp length-drop (omega arith)) in let m = hex-short (2 * saveLimit) (part s e l) (omega arith) (sym p ∙ q) in (h, k, omega arith)
+
+pub one-save : (w : List ℕ) (b : Bool) → b ≡ isHexTo (2 * saveLimit) w → b ≡ true → Said.restore (octetsOf w) ≡ withSave (w ∷ [])
+unfolding withSave isSaveHex
+one-save w b e g = rw (sym e ∙ g)
+
+pub no-save : (w : List ℕ) (b : Bool) → b ≡ isHexTo (2 * saveLimit) w → b ≡ false → withSave (w ∷ []) ≡ Said.bad
+unfolding withSave isSaveHex
+no-save w b e g = rw (sym e ∙ g)
+
+-- ---- the other verbs
+
+pub tells-bad : (l : List ℕ) (s : Said) → s ≡ Said.bad → Tells l s Order.Bad
+unfolding meant
+tells-bad l s e = record { means = rw e; lies = tt }
+
+pub none-bad : (l : List ℕ) (v : Verb) → OneOf (0 ∷ 1 ∷ 2 ∷ 3 ∷ 4 ∷ 5 ∷ 6 ∷ 7 ∷ 9 ∷ 11 ∷ 12 ∷ []) (tagOf the-type v) → Tells l (does v []) Order.Bad
+unfolding does withNumber withHex withSave withNumberHex withHexNumber withNumbersHex
+none-bad l Verb.Start h = tells-bad l _ refl
+none-bad l Verb.Room h = tells-bad l _ refl
+none-bad l Verb.Take h = tells-bad l _ refl
+none-bad l Verb.Join h = tells-bad l _ refl
+none-bad l Verb.Leave h = tells-bad l _ refl
+none-bad l Verb.Route h = tells-bad l _ refl
+none-bad l Verb.Label h = tells-bad l _ refl
+none-bad l Verb.Tree h = tells-bad l _ refl
+none-bad l Verb.Free h = absurd (miss (0 ∷ 1 ∷ 2 ∷ 3 ∷ 4 ∷ 5 ∷ 6 ∷ 7 ∷ 9 ∷ 11 ∷ 12 ∷ []) 8 tt h)
+none-bad l Verb.Notice h = tells-bad l _ refl
+none-bad l Verb.Save h = absurd (miss (0 ∷ 1 ∷ 2 ∷ 3 ∷ 4 ∷ 5 ∷ 6 ∷ 7 ∷ 9 ∷ 11 ∷ 12 ∷ []) 10 tt h)
+none-bad l Verb.Restore h = tells-bad l _ refl
+none-bad l Verb.Other h = tells-bad l _ refl
+
+either : (b : Bool) (s : Said) → s ≡ Said.bad → pick b s Said.bad ≡ Said.bad
+either true s e = e
+either false s e = refl
+
+-- ---- one further word
+
+pub as-number : (v : Verb) (w : List ℕ) (n : ℕ) (k : Number) → k ≡ numberIn w → k ≡ Number.Is n → numbered v n ≡ asNumber v w
+unfolding asNumber
+as-number v w n k e g = let t = number-value w n (sym e ∙ g) in rw (t .0, t .1)
+
+pub no-as-number : (v : Verb) (w : List ℕ) (k : Number) → k ≡ numberIn w → k ≡ Number.None → asNumber v w ≡ Said.bad
+unfolding asNumber
+no-as-number v w k e g = rw (number-none w (sym e ∙ g))
+
+pub as-hex : (v : Verb) (w : List ℕ) (b : Bool) → b ≡ isHex w → b ≡ true → withOctets v (octetsOf w) ≡ asHex v w
+unfolding asHex
+as-hex v w b e g = rw (sym e ∙ g)
+
+pub no-as-hex : (v : Verb) (w : List ℕ) (b : Bool) → b ≡ isHex w → b ≡ false → asHex v w ≡ Said.bad
+unfolding asHex
+no-as-hex v w b e g = rw (sym e ∙ g)
+
+pub numbered-other : (v : Verb) (n : ℕ) → OneOf (2 ∷ 3 ∷ 4 ∷ 5 ∷ 7 ∷ 8 ∷ 9 ∷ 10 ∷ 11 ∷ 12 ∷ []) (tagOf the-type v) → numbered v n ≡ Said.bad
+unfolding numbered
+numbered-other Verb.Start n h = absurd (miss (2 ∷ 3 ∷ 4 ∷ 5 ∷ 7 ∷ 8 ∷ 9 ∷ 10 ∷ 11 ∷ 12 ∷ []) 0 tt h)
+numbered-other Verb.Room n h = absurd (miss (2 ∷ 3 ∷ 4 ∷ 5 ∷ 7 ∷ 8 ∷ 9 ∷ 10 ∷ 11 ∷ 12 ∷ []) 1 tt h)
+numbered-other Verb.Take n h = refl
+numbered-other Verb.Join n h = refl
+numbered-other Verb.Leave n h = refl
+numbered-other Verb.Route n h = refl
+numbered-other Verb.Label n h = absurd (miss (2 ∷ 3 ∷ 4 ∷ 5 ∷ 7 ∷ 8 ∷ 9 ∷ 10 ∷ 11 ∷ 12 ∷ []) 6 tt h)
+numbered-other Verb.Tree n h = refl
+numbered-other Verb.Free n h = refl
+numbered-other Verb.Notice n h = refl
+numbered-other Verb.Save n h = refl
+numbered-other Verb.Restore n h = refl
+numbered-other Verb.Other n h = refl
+
+pub octets-other : (v : Verb) (o : List ℕ) → OneOf (0 ∷ 1 ∷ 2 ∷ 5 ∷ 6 ∷ 8 ∷ 9 ∷ 10 ∷ 11 ∷ 12 ∷ []) (tagOf the-type v) → withOctets v o ≡ Said.bad
+unfolding withOctets
+octets-other Verb.Start o h = refl
+octets-other Verb.Room o h = refl
+octets-other Verb.Take o h = refl
+octets-other Verb.Join o h = absurd (miss (0 ∷ 1 ∷ 2 ∷ 5 ∷ 6 ∷ 8 ∷ 9 ∷ 10 ∷ 11 ∷ 12 ∷ []) 3 tt h)
+octets-other Verb.Leave o h = absurd (miss (0 ∷ 1 ∷ 2 ∷ 5 ∷ 6 ∷ 8 ∷ 9 ∷ 10 ∷ 11 ∷ 12 ∷ []) 4 tt h)
+octets-other Verb.Route o h = refl
+octets-other Verb.Label o h = refl
+octets-other Verb.Tree o h = absurd (miss (0 ∷ 1 ∷ 2 ∷ 5 ∷ 6 ∷ 8 ∷ 9 ∷ 10 ∷ 11 ∷ 12 ∷ []) 7 tt h)
+octets-other Verb.Free o h = refl
+octets-other Verb.Notice o h = refl
+octets-other Verb.Save o h = refl
+octets-other Verb.Restore o h = refl
+octets-other Verb.Other o h = refl
+
+pub one-number-does : (v : Verb) (w : List ℕ) → OneOf (0 ∷ 1 ∷ 6 ∷ []) (tagOf the-type v) → does v (w ∷ []) ≡ asNumber v w
+unfolding does withNumber asNumber numbered
+one-number-does Verb.Start w h = refl
+one-number-does Verb.Room w h = refl
+one-number-does Verb.Take w h = absurd (miss (0 ∷ 1 ∷ 6 ∷ []) 2 tt h)
+one-number-does Verb.Join w h = absurd (miss (0 ∷ 1 ∷ 6 ∷ []) 3 tt h)
+one-number-does Verb.Leave w h = absurd (miss (0 ∷ 1 ∷ 6 ∷ []) 4 tt h)
+one-number-does Verb.Route w h = absurd (miss (0 ∷ 1 ∷ 6 ∷ []) 5 tt h)
+one-number-does Verb.Label w h = refl
+one-number-does Verb.Tree w h = absurd (miss (0 ∷ 1 ∷ 6 ∷ []) 7 tt h)
+one-number-does Verb.Free w h = absurd (miss (0 ∷ 1 ∷ 6 ∷ []) 8 tt h)
+one-number-does Verb.Notice w h = absurd (miss (0 ∷ 1 ∷ 6 ∷ []) 9 tt h)
+one-number-does Verb.Save w h = absurd (miss (0 ∷ 1 ∷ 6 ∷ []) 10 tt h)
+one-number-does Verb.Restore w h = absurd (miss (0 ∷ 1 ∷ 6 ∷ []) 11 tt h)
+one-number-does Verb.Other w h = absurd (miss (0 ∷ 1 ∷ 6 ∷ []) 12 tt h)
+
+pub one-hex-does : (v : Verb) (w : List ℕ) → OneOf (2 ∷ 3 ∷ 4 ∷ 5 ∷ 7 ∷ 8 ∷ 9 ∷ 10 ∷ 12 ∷ []) (tagOf the-type v) → does v (w ∷ []) ≡ asHex v w
+unfolding does withNumber withHex withSave withNumberHex withHexNumber withNumbersHex asHex withOctets
+one-hex-does Verb.Start w h = absurd (miss (2 ∷ 3 ∷ 4 ∷ 5 ∷ 7 ∷ 8 ∷ 9 ∷ 10 ∷ 12 ∷ []) 0 tt h)
+one-hex-does Verb.Room w h = absurd (miss (2 ∷ 3 ∷ 4 ∷ 5 ∷ 7 ∷ 8 ∷ 9 ∷ 10 ∷ 12 ∷ []) 1 tt h)
+one-hex-does Verb.Take w h = either (isNumber w) Said.bad refl ∙ sym (either (isHex w) Said.bad refl)
+one-hex-does Verb.Join w h = refl
+one-hex-does Verb.Leave w h = refl
+one-hex-does Verb.Route w h = refl
+one-hex-does Verb.Label w h = absurd (miss (2 ∷ 3 ∷ 4 ∷ 5 ∷ 7 ∷ 8 ∷ 9 ∷ 10 ∷ 12 ∷ []) 6 tt h)
+one-hex-does Verb.Tree w h = refl
+one-hex-does Verb.Free w h = sym (either (isHex w) Said.bad refl)
+one-hex-does Verb.Notice w h = either (isNumber w) Said.bad refl ∙ sym (either (isHex w) Said.bad refl)
+one-hex-does Verb.Save w h = sym (either (isHex w) Said.bad refl)
+one-hex-does Verb.Restore w h = absurd (miss (2 ∷ 3 ∷ 4 ∷ 5 ∷ 7 ∷ 8 ∷ 9 ∷ 10 ∷ 12 ∷ []) 11 tt h)
+one-hex-does Verb.Other w h = sym (either (isHex w) Said.bad refl)
+
+-- ---- two further words, and more
+
+pub two-bad : (l : List ℕ) (v : Verb) (w x : List ℕ) → OneOf (0 ∷ 1 ∷ 3 ∷ 4 ∷ 6 ∷ 7 ∷ 8 ∷ 9 ∷ 10 ∷ 11 ∷ 12 ∷ []) (tagOf the-type v) → Tells l (does v (w ∷ x ∷ [])) Order.Bad
+unfolding does withNumber withHex withSave withNumberHex withHexNumber withNumbersHex
+two-bad l Verb.Start w x h = tells-bad l _ refl
+two-bad l Verb.Room w x h = tells-bad l _ refl
+two-bad l Verb.Take w x h = absurd (miss (0 ∷ 1 ∷ 3 ∷ 4 ∷ 6 ∷ 7 ∷ 8 ∷ 9 ∷ 10 ∷ 11 ∷ 12 ∷ []) 2 tt h)
+two-bad l Verb.Join w x h = tells-bad l _ refl
+two-bad l Verb.Leave w x h = tells-bad l _ refl
+two-bad l Verb.Route w x h = absurd (miss (0 ∷ 1 ∷ 3 ∷ 4 ∷ 6 ∷ 7 ∷ 8 ∷ 9 ∷ 10 ∷ 11 ∷ 12 ∷ []) 5 tt h)
+two-bad l Verb.Label w x h = tells-bad l _ refl
+two-bad l Verb.Tree w x h = tells-bad l _ refl
+two-bad l Verb.Free w x h = tells-bad l _ refl
+two-bad l Verb.Notice w x h = tells-bad l _ (either (isNumber w) _ (either (isNumber x) Said.bad refl))
+two-bad l Verb.Save w x h = tells-bad l _ refl
+two-bad l Verb.Restore w x h = tells-bad l _ refl
+two-bad l Verb.Other w x h = tells-bad l _ refl
+
+-- three further words, and four or more
+pub three-bad : (l : List ℕ) (v : Verb) (w x y : List ℕ) (ws : List (List ℕ)) → OneOf (0 ∷ 1 ∷ 2 ∷ 3 ∷ 4 ∷ 5 ∷ 6 ∷ 7 ∷ 8 ∷ 10 ∷ 11 ∷ 12 ∷ []) (tagOf the-type v) → Tells l (does v (w ∷ x ∷ y ∷ ws)) Order.Bad
+unfolding does withNumber withHex withSave withNumberHex withHexNumber
+three-bad l Verb.Start w x y ws h = tells-bad l _ refl
+three-bad l Verb.Room w x y ws h = tells-bad l _ refl
+three-bad l Verb.Take w x y ws h = tells-bad l _ (either (isNumber w) Said.bad refl)
+three-bad l Verb.Join w x y ws h = tells-bad l _ refl
+three-bad l Verb.Leave w x y ws h = tells-bad l _ refl
+three-bad l Verb.Route w x y ws h = tells-bad l _ (either (isHex w) Said.bad refl)
+three-bad l Verb.Label w x y ws h = tells-bad l _ refl
+three-bad l Verb.Tree w x y ws h = tells-bad l _ refl
+three-bad l Verb.Free w x y ws h = tells-bad l _ refl
+three-bad l Verb.Notice w x y ws h = absurd (miss (0 ∷ 1 ∷ 2 ∷ 3 ∷ 4 ∷ 5 ∷ 6 ∷ 7 ∷ 8 ∷ 10 ∷ 11 ∷ 12 ∷ []) 9 tt h)
+three-bad l Verb.Save w x y ws h = tells-bad l _ refl
+three-bad l Verb.Restore w x y ws h = tells-bad l _ refl
+three-bad l Verb.Other w x y ws h = tells-bad l _ refl
+
+pub more-bad : (l : List ℕ) (v : Verb) (w x y z : List ℕ) (ws : List (List ℕ)) → Tells l (does v (w ∷ x ∷ y ∷ z ∷ ws)) Order.Bad
+unfolding does withNumber withHex withSave withNumberHex withHexNumber withNumbersHex
+more-bad l Verb.Start w x y z ws = tells-bad l _ refl
+more-bad l Verb.Room w x y z ws = tells-bad l _ refl
+more-bad l Verb.Take w x y z ws = tells-bad l _ (either (isNumber w) Said.bad refl)
+more-bad l Verb.Join w x y z ws = tells-bad l _ refl
+more-bad l Verb.Leave w x y z ws = tells-bad l _ refl
+more-bad l Verb.Route w x y z ws = tells-bad l _ (either (isHex w) Said.bad refl)
+more-bad l Verb.Label w x y z ws = tells-bad l _ refl
+more-bad l Verb.Tree w x y z ws = tells-bad l _ refl
+more-bad l Verb.Free w x y z ws = tells-bad l _ refl
+more-bad l Verb.Notice w x y z ws = tells-bad l _ (either (isNumber w) _ (either (isNumber x) Said.bad refl))
+more-bad l Verb.Save w x y z ws = tells-bad l _ refl
+more-bad l Verb.Restore w x y z ws = tells-bad l _ refl
+more-bad l Verb.Other w x y z ws = tells-bad l _ refl

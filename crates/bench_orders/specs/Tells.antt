@@ -1,0 +1,54 @@
+-- What `read_order` answers. Assumes nothing.
+use Prim.Native.Nat.{ℕ, _+_, _≤_, _*_}
+use mathlib.Core.Path.{_≡_}
+use mathlib.Core.List.{List}
+use lib.ListN.{length}
+use Rattle.meaning.specs.Save.{saveLimit}
+use Rattle.bench_words.specs.Words.{part, octetsOf}
+use Rattle.bench_verbs.specs.Line.{Said, nothing, bad, start, room, take, join, leave, route, label, tree, free, notice, save, restore}
+use Rattle.bench_orders.specs.declared.Order.{Order}
+
+-- the order that the code hands on says so much, with the line it was read from
+unfoldable pub meant : List ℕ → Order → Said
+meant l Order.Blank = nothing
+meant l Order.Bad = bad
+meant l (Order.Start n) = start n
+meant l (Order.Room n) = room n
+meant l (Order.Take n s e) = take n (octetsOf (part s e l))
+meant l (Order.Join s e) = join (octetsOf (part s e l))
+meant l (Order.Leave s e) = leave (octetsOf (part s e l))
+meant l (Order.Route s e n) = route (octetsOf (part s e l)) n
+meant l (Order.Label n) = label n
+meant l (Order.Tree s e) = tree (octetsOf (part s e l))
+meant l Order.Free = free
+meant l (Order.Notice n k s e) = notice n k (octetsOf (part s e l))
+meant l Order.Save = save
+meant l (Order.Restore s e) = restore (octetsOf (part s e l))
+
+-- the word of HEX lies in the line
+abbrev pub Lies : List ℕ → ℕ → ℕ → Type 0
+Lies l s e = (s ≤ e) × (e ≤ length l) × (e ≤ s + 8192)
+
+abbrev pub SaveLies : List ℕ → ℕ → ℕ → Type 0
+SaveLies l s e = (s ≤ e) × (e ≤ length l) × (e ≤ s + 2 * saveLimit)
+
+abbrev pub InLine : List ℕ → Order → Type 0
+InLine l Order.Blank = Unit
+InLine l Order.Bad = Unit
+InLine l (Order.Start n) = Unit
+InLine l (Order.Room n) = Unit
+InLine l (Order.Take n s e) = Lies l s e
+InLine l (Order.Join s e) = Lies l s e
+InLine l (Order.Leave s e) = Lies l s e
+InLine l (Order.Route s e n) = Lies l s e
+InLine l (Order.Label n) = Unit
+InLine l (Order.Tree s e) = Lies l s e
+InLine l Order.Free = Unit
+InLine l (Order.Notice n k s e) = Lies l s e
+InLine l Order.Save = Unit
+InLine l (Order.Restore s e) = SaveLies l s e
+
+-- what is said is what the order means
+pub record Tells (l : List ℕ) (said : Said) (r : Order) : Type 0 where
+  pub means : meant l r ≡ said
+  pub lies : InLine l r

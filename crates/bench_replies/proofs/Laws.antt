@@ -1,0 +1,145 @@
+-- Laws by which what is written is the reply. Assumes nothing.
+use Prim.Native.Nat.{ℕ, _-_, _≤_, _*_}
+use native.Mathlib.Omega.{arith}
+use mathlib.Core.Path.{_≡_, refl, sym, ap, _∙_}
+use mathlib.Core.List.{List, [], _∷_}
+use lib.ListN.{length, take, drop, length-drop}
+use lib.Seq.{length-take-le, take-at}
+use borrow.Author.Tests.{ltb-false}
+use denote.Enum.Declared.{tagOf}
+use types.Run.{OneOf, miss}
+use Rattle.meaning.specs.Lists.{by-test}
+use Rattle.meaning.specs.Wire.{records}
+use Rattle.meaning.specs.Card.{Card, Feed}
+use Rattle.meaning.specs.Events.{Out, Outcome, refused, taken, refuse, accept, roomShort, noNeighbour, finish, Event, outcome, event}
+use Rattle.meaning.specs.Notice.{noticeDue, noticeRecord, notice}
+use Rattle.meaning.specs.Save.{saved, save, saveLimit}
+use Rattle.meaning.specs.Calls.{Hands}
+use Rattle.bench_words.specs.Words.{Puts}
+use Rattle.bench_orders.specs.Tells.{meant, Lies, SaveLies, InLine}
+use Rattle.bench_orders.specs.declared.Order.{Order}
+use Rattle.bench_orders.proofs.Order.{the-type}
+use Rattle.bench_lines.specs.Text.{countLine, eventLine, feedLine, textSpace}
+use Rattle.bench_replies.specs.Reply.{only, counted, told, replyTo, Says, WritesRecords}
+
+-- ---- octets that are no longer than the room
+
+finish-fits : (room : ℕ) (c : Card) (o : Outcome) → length (finish room c o .octets) ≤ room
+unfolding finish refuse accept roomShort
+finish-fits room c (refused n) = omega arith
+finish-fits room c (taken ms d) =
+    by-test (roomShort room (records (c .next) ms))
+    (λ e. rw e (omega arith))
+    (λ e. rw e (ltb-false room (length (records (c .next) ms)) e))
+
+pub event-fits : (room : ℕ) (c : Card) (e : Event) → length (event room c e .octets) ≤ room
+unfolding event
+event-fits room c e = finish-fits room c (outcome c e)
+
+pub notice-fits : (room : ℕ) (c : Card) (n number : ℕ) (s : List ℕ) → length (notice room c n number s .octets) ≤ room
+unfolding notice refuse accept roomShort
+notice-fits room c n number s =
+    by-test (noNeighbour n)
+    (λ e. rw e (omega arith))
+    (λ e. by-test (noticeDue number s)
+    (λ d. by-test (roomShort room (noticeRecord (c .next) n number s))
+    (λ f. rw (e, d, f) (omega arith))
+    (λ f. rw (e, d, f) (ltb-false room (length (noticeRecord (c .next) n number s)) f)))
+    (λ d. rw (e, d) (omega arith)))
+
+pub save-fits : (room : ℕ) (c : Card) → length (save room c .octets) ≤ room
+unfolding save refuse roomShort
+save-fits room c =
+    by-test (roomShort room (saved c))
+    (λ e. rw e (omega arith))
+    (λ e. rw e (ltb-false room (length (saved c)) e))
+
+-- of a part that a call handed back
+pub part-fits : {o : Out} {a : ℕ} {part : List ℕ} {card : Card} (room most : ℕ) → Hands o a part card → length (o .octets) ≤ room → room ≤ most → length part ≤ most
+part-fits room most h k l = rw (h .hands) (omega arith)
+
+-- ---- what was decoded
+
+pub decoded : {ys before after : List ℕ} {r : ℕ} → Puts ys before after r → take r after ≡ ys
+decoded {ys} {before} {r = r} p = rw (p .whole) (take-at ys (drop r before) r (sym (p .count)))
+
+-- ---- replies
+
+pub says-told : (f : ℕ → List ℕ → Out) {l m : ℕ} {s os : List ℕ} {a : ℕ} {part : List ℕ} {card : Card} (word text : List ℕ) (room r : ℕ) → l ≡ m → s ≡ os → Hands (f l s) a part card → r ≤ textSpace → take r text ≡ eventLine word a part → Says (told word (f m os) room) r text card
+unfolding told
+says-told f {a = a} {part} word text room r el es h k e = record {
+  short = k;
+  line = let g = rw (el, es) at h in e ∙ rw (g .answers, g .hands) refl;
+  leaves = rw (← el, ← es) (h .leaves);
+}
+
+pub says-counted : (o : Out) {a : ℕ} {card : Card} (word text : List ℕ) (room r : ℕ) → a ≡ o .answer → card ≡ o .card → r ≤ textSpace → take r text ≡ countLine word a → Says (counted word o room) r text card
+unfolding counted
+says-counted o word text room r ea ec k e = record { short = k; line = e ∙ ap (countLine word) ea; leaves = ec }
+
+pub says-only : (ys text : List ℕ) (c : Card) (room r : ℕ) → r ≤ textSpace → take r text ≡ ys → Says (only ys c room) r text c
+unfolding only
+says-only ys text c room r k e = record { short = k; line = e; leaves = refl }
+
+pub says-fed : {feed found : Feed} (word text : List ℕ) (c : Card) (room r : ℕ) → feed ≡ found → r ≤ textSpace → take r text ≡ feedLine word feed → Says (only (feedLine word found) c room) r text c
+says-fed word text c room r h k e = says-only _ text c room r k (e ∙ ap (feedLine word) h)
+
+-- ---- an order, by its variant
+
+pub lies : (l : List ℕ) (r o : Order) → InLine l r → r ≡ o → InLine l o
+lies l r o h e = rw e at h
+
+pub not-written : (o : Order) → OneOf (0 ∷ 1 ∷ 2 ∷ 3 ∷ 8 ∷ 9 ∷ 10 ∷ 12 ∷ 13 ∷ []) (tagOf the-type o) → WritesRecords o → ⊥
+not-written Order.Blank h w = w
+not-written Order.Bad h w = w
+not-written (Order.Start n) h w = w
+not-written (Order.Room n) h w = w
+not-written (Order.Take n s e) h w = miss (0 ∷ 1 ∷ 2 ∷ 3 ∷ 8 ∷ 9 ∷ 10 ∷ 12 ∷ 13 ∷ []) 4 tt h
+not-written (Order.Join s e) h w = miss (0 ∷ 1 ∷ 2 ∷ 3 ∷ 8 ∷ 9 ∷ 10 ∷ 12 ∷ 13 ∷ []) 5 tt h
+not-written (Order.Leave s e) h w = miss (0 ∷ 1 ∷ 2 ∷ 3 ∷ 8 ∷ 9 ∷ 10 ∷ 12 ∷ 13 ∷ []) 6 tt h
+not-written (Order.Route s e n) h w = miss (0 ∷ 1 ∷ 2 ∷ 3 ∷ 8 ∷ 9 ∷ 10 ∷ 12 ∷ 13 ∷ []) 7 tt h
+not-written (Order.Label n) h w = w
+not-written (Order.Tree s e) h w = w
+not-written Order.Free h w = w
+not-written (Order.Notice n k s e) h w = miss (0 ∷ 1 ∷ 2 ∷ 3 ∷ 8 ∷ 9 ∷ 10 ∷ 12 ∷ 13 ∷ []) 11 tt h
+not-written Order.Save h w = w
+not-written (Order.Restore s e) h w = w
+
+pub written : (o : Order) → OneOf (4 ∷ 5 ∷ 6 ∷ 7 ∷ 11 ∷ []) (tagOf the-type o) → WritesRecords o
+written Order.Blank h = miss (4 ∷ 5 ∷ 6 ∷ 7 ∷ 11 ∷ []) 0 tt h
+written Order.Bad h = miss (4 ∷ 5 ∷ 6 ∷ 7 ∷ 11 ∷ []) 1 tt h
+written (Order.Start n) h = miss (4 ∷ 5 ∷ 6 ∷ 7 ∷ 11 ∷ []) 2 tt h
+written (Order.Room n) h = miss (4 ∷ 5 ∷ 6 ∷ 7 ∷ 11 ∷ []) 3 tt h
+written (Order.Take n s f) h = tt
+written (Order.Join s f) h = tt
+written (Order.Leave s f) h = tt
+written (Order.Route s f n) h = tt
+written (Order.Label n) h = miss (4 ∷ 5 ∷ 6 ∷ 7 ∷ 11 ∷ []) 8 tt h
+written (Order.Tree s f) h = miss (4 ∷ 5 ∷ 6 ∷ 7 ∷ 11 ∷ []) 9 tt h
+written Order.Free h = miss (4 ∷ 5 ∷ 6 ∷ 7 ∷ 11 ∷ []) 10 tt h
+written (Order.Notice n k s f) h = tt
+written Order.Save h = miss (4 ∷ 5 ∷ 6 ∷ 7 ∷ 11 ∷ []) 12 tt h
+written (Order.Restore s f) h = miss (4 ∷ 5 ∷ 6 ∷ 7 ∷ 11 ∷ []) 13 tt h
+
+pub room-stays : (number room : ℕ) (c : Card) (l : List ℕ) (o : Order) → OneOf (0 ∷ 1 ∷ 2 ∷ 4 ∷ 5 ∷ 6 ∷ 7 ∷ 8 ∷ 9 ∷ 10 ∷ 11 ∷ 12 ∷ 13 ∷ []) (tagOf the-type o) → room ≡ replyTo number room c (meant l o) .room
+unfolding meant replyTo only counted told
+room-stays number room c l Order.Blank h = refl
+room-stays number room c l Order.Bad h = refl
+room-stays number room c l (Order.Start n) h = refl
+room-stays number room c l (Order.Room n) h = absurd (miss (0 ∷ 1 ∷ 2 ∷ 4 ∷ 5 ∷ 6 ∷ 7 ∷ 8 ∷ 9 ∷ 10 ∷ 11 ∷ 12 ∷ 13 ∷ []) 3 tt h)
+room-stays number room c l (Order.Take n s e) h = refl
+room-stays number room c l (Order.Join s e) h = refl
+room-stays number room c l (Order.Leave s e) h = refl
+room-stays number room c l (Order.Route s e n) h = refl
+room-stays number room c l (Order.Label n) h = refl
+room-stays number room c l (Order.Tree s e) h = refl
+room-stays number room c l Order.Free h = refl
+room-stays number room c l (Order.Notice n k s e) h = refl
+room-stays number room c l Order.Save h = refl
+room-stays number room c l (Order.Restore s e) h = refl
+
+pub short : (l : List ℕ) (s e : ℕ) → Lies l s e → length (take (e - s) (drop s l)) ≤ 8192
+short l s e h = let n = length-take-le (e - s) (drop s l) (simp length-drop (omega arith)) in omega arith
+
+pub save-short : (l : List ℕ) (s e : ℕ) → SaveLies l s e → length (take (e - s) (drop s l)) ≤ 2 * saveLimit
+save-short l s e h = let n = length-take-le (e - s) (drop s l) (simp length-drop (omega arith)) in omega arith

@@ -1,0 +1,86 @@
+-- What the bench program answers to a line: the text, the card after it and the room, from the definitions of `meaning`.
+-- Assumes nothing.
+use Prim.Native.Nat.{ℕ, _≤_, min}
+use mathlib.Core.Path.{_≡_}
+use mathlib.Core.List.{List, []}
+use lib.ListN.{take}
+use Rattle.meaning.specs.Card.{Card, freeLabels, lookupLabel, lookupName, sentLimit}
+use Rattle.meaning.specs.Events.{Out, start, event, receive, join, leave, route}
+use Rattle.meaning.specs.Notice.{notice}
+use Rattle.meaning.specs.Save.{save, restore, saveLimit}
+use Rattle.bench_words.specs.Words.{ascii}
+use Rattle.bench_verbs.specs.Line.{Said}
+use Rattle.bench_lines.specs.Text.{countLine, eventLine, feedLine, textSpace}
+use Rattle.bench_orders.specs.declared.Order.{Order}
+
+-- room: how many octets of output later events and saves are lent
+pub record Reply : Type 0 where
+  pub text : List ℕ
+  pub card : Card
+  pub room : ℕ
+
+-- a text, while the card stays
+unfoldable pub only : List ℕ → Card → ℕ → Reply
+only text c room = record { text = text; card = c; room = room }
+
+-- what a call hands back, behind a word: its answer; and its card
+unfoldable pub counted : List ℕ → Out → ℕ → Reply
+counted word o room = record { text = countLine word (o .answer); card = o .card; room = room }
+
+-- the same, with the octets that it wrote
+unfoldable pub told : List ℕ → Out → ℕ → Reply
+told word o room = record { text = eventLine word (o .answer) (o .octets); card = o .card; room = room }
+
+-- an event and a notice are lent 9984 octets and a save 23343, or the room where that is less
+abbrev pub eventRoom : ℕ → ℕ
+eventRoom room = min room sentLimit
+
+abbrev pub saveRoom : ℕ → ℕ
+saveRoom room = min room saveLimit
+
+-- THE REPLY to what a line says, by the number of the line, the room and the card. The room is another only after `room`.
+unfoldable pub replyTo : (number room : ℕ) → Card → Said → Reply
+replyTo number room c Said.nothing = only [] c room
+replyTo number room c Said.bad = only (countLine (ascii "?") number) c room
+replyTo number room c (Said.start base) = counted (ascii "start") (start base) room
+replyTo number room c (Said.room n) = only (countLine (ascii "room") n) c n
+replyTo number room c (Said.take n message) = told (ascii "take") (event (eventRoom room) c (receive n message)) room
+replyTo number room c (Said.join element) = told (ascii "join") (event (eventRoom room) c (join element)) room
+replyTo number room c (Said.leave element) = told (ascii "leave") (event (eventRoom room) c (leave element)) room
+replyTo number room c (Said.route root via) = told (ascii "route") (event (eventRoom room) c (route root via)) room
+replyTo number room c (Said.notice n refusal octets) = told (ascii "notice") (notice (eventRoom room) c n refusal octets) room
+replyTo number room c (Said.label n) = only (feedLine (ascii "label") (lookupLabel n c)) c room
+replyTo number room c (Said.tree element) = only (feedLine (ascii "tree") (lookupName element c)) c room
+replyTo number room c Said.free = only (countLine (ascii "free") (freeLabels c)) c room
+replyTo number room c Said.save = told (ascii "save") (save (saveRoom room) c) room
+replyTo number room c (Said.restore octets) = counted (ascii "restore") (restore octets c) room
+
+-- ---- what the functions state
+
+-- the first r octets of a text, no more than 47104, are the text of the reply, and the card is its card
+pub record Says (reply : Reply) (r : ℕ) (text : List ℕ) (card : Card) : Type 0 where
+  pub short : r ≤ textSpace
+  pub line : take r text ≡ reply .text
+  pub leaves : card ≡ reply .card
+
+-- the same, and the room from here on
+pub record Answers (reply : Reply) (r : ℕ) (text : List ℕ) (card : Card) (room : ℕ) : Type 0 where
+  pub says : Says reply r text card
+  pub next : room ≡ reply .room
+
+-- the orders that write records, but for a save
+abbrev pub WritesRecords : Order → Type 0
+WritesRecords Order.Blank = ⊥
+WritesRecords Order.Bad = ⊥
+WritesRecords (Order.Start n) = ⊥
+WritesRecords (Order.Room n) = ⊥
+WritesRecords (Order.Take n s e) = Unit
+WritesRecords (Order.Join s e) = Unit
+WritesRecords (Order.Leave s e) = Unit
+WritesRecords (Order.Route s e n) = Unit
+WritesRecords (Order.Label n) = ⊥
+WritesRecords (Order.Tree s e) = ⊥
+WritesRecords Order.Free = ⊥
+WritesRecords (Order.Notice n k s e) = Unit
+WritesRecords Order.Save = ⊥
+WritesRecords (Order.Restore s e) = ⊥

@@ -1,0 +1,56 @@
+use mathlib.Core.Path.{refl}
+use Rattle.bench_words.specs.Words.{ascii}
+use Rattle.bench_verbs.specs.Line.{requestedVerb}
+use Rattle.bench_verbs.proofs.Laws.{found, passed}
+use borrow.Author.Needs.{needs}
+use Rattle.bench_verbs.proofs.requested_verb.Statement.{statement}
+use Rattle.bench_verbs.proofs.requested_verb.Tie as tie
+
+slice-aggregate-equal : tie.Need-slice-aggregate-equal
+slice-aggregate-equal c = search needs
+
+equal-requires : tie.Need-equal-requires
+equal-requires c κs = search needs
+
+returns : tie.Need-returns
+unfolding requestedVerb ascii
+returns c = found _ _ (c .before .equal .ensures) (c .if1 .taken)
+
+slice-aggregate-equal-2 : tie.Need-slice-aggregate-equal-2
+slice-aggregate-equal-2 c = search needs
+
+equal-requires-2 : tie.Need-equal-requires-2
+equal-requires-2 c κs = search needs
+
+returns-2 : tie.Need-returns-2
+unfolding requestedVerb ascii
+returns-2 c = passed _ (c .before .before .before .before .equal .ensures) (c .before .before .before .if1 .left) (found _ _ (c .before .equal2 .ensures) (c .if2 .taken))
+
+slice-aggregate-equal-3 : tie.Need-slice-aggregate-equal-3
+slice-aggregate-equal-3 c = search needs
+
+equal-requires-3 : tie.Need-equal-requires-3
+equal-requires-3 c κs = search needs
+
+returns-3 : tie.Need-returns-3
+unfolding requestedVerb ascii
+returns-3 c = passed _ (c .before .before .before .before .before .before .before .equal .ensures) (c .before .before .before .before .before .before .if1 .left) (passed _ (c .before .before .before .before .equal2 .ensures) (c .before .before .before .if2 .left) (found _ _ (c .before .equal3 .ensures) (c .if3 .taken)))
+
+returns-4 : tie.Need-returns-4
+unfolding requestedVerb ascii
+returns-4 c = passed _ (c .before .before .before .before .before .before .before .equal .ensures) (c .before .before .before .before .before .before .if1 .left) (passed _ (c .before .before .before .before .equal2 .ensures) (c .before .before .before .if2 .left) (passed _ (c .before .equal3 .ensures) (c .if3 .left) refl))
+
+pub requested-verb-spec : {M : Type 1} → statement M
+requested-verb-spec =
+    tie.close
+    (tie.spec
+    slice-aggregate-equal
+    equal-requires
+    returns
+    slice-aggregate-equal-2
+    equal-requires-2
+    returns-2
+    slice-aggregate-equal-3
+    equal-requires-3
+    returns-3
+    returns-4)

@@ -1,0 +1,97 @@
+use mathlib.Core.Path.{sym}
+use mathlib.Core.Bool.{true}
+use mathlib.Core.List.{[]}
+use Prim.Native.Nat.{_<_}
+use lib.ListN.{length}
+use Rattle.meaning.specs.Card.{treeAt}
+use Rattle.memory.specs.Memory.{cardOf}
+use Rattle.memory.proofs.Memory.{trees-length}
+use Rattle.event_leaf.proofs.Laws.{join-standing, leaf-stands, leaf-full}
+use Rattle.event_tree.proofs.Laws.{no-records}
+use Rattle.event_tree.proofs.Standing.{standing-refused, standing-taken, standing-ends, settle-ready}
+use borrow.Author.Needs.{needs}
+use Rattle.event_leaf.proofs.join_standing.Statement.{statement}
+use Rattle.event_leaf.proofs.join_standing.Tie as tie
+
+leaf-holder-requires : tie.Need-leaf-holder-requires
+leaf-holder-requires c κs = search needs
+
+standing-refusal-requires : tie.Need-standing-refusal-requires
+standing-refusal-requires c κs = search needs
+
+same-length : tie.Need-same-length
+same-length c = search needs
+
+same-length-2 : tie.Need-same-length-2
+same-length-2 c = search needs
+
+returns : tie.Need-returns
+returns c =
+    let start = c .before .before .before .before .before .before .before .before .before .before in
+    let the-leaf-holder = c .before .before .before .before .leaf-holder in
+    let card = (cardOf (start .args .numbers .now) (start .args .names .now)) in
+    let within : start .args .i < length (card .trees) = rw trees-length (start .pre .2) in
+    let S = leaf-stands card (start .args .i) (start .pre .4) within _ true (the-leaf-holder .ensures .0) in
+    rw (join-standing card _ (start .args .i) (start .pre .4) within)
+    (standing-refused card [] _ _ _ S _ 0 _ (no-records _) (c .before .standing-refusal .ensures) (c .if1 .taken))
+
+next-id-requires : tie.Need-next-id-requires
+next-id-requires c κs = search needs
+
+set-leaf-requires : tie.Need-set-leaf-requires
+set-leaf-requires c κs = search needs
+
+settle-requires : tie.Need-settle-requires
+settle-requires c κs =
+    let start = c .before .before .before .before .before .before .before .before .before .before .before .before .before .before .before .before .before .before .before in
+    let the-leaf-holder = c .before .before .before .before .before .before .before .before .before .before .before .before .before .leaf-holder in
+    let the-standing-refusal = c .before .before .before .before .before .before .before .before .before .before .standing-refusal in
+    let the-if1 = c .before .before .before .before .before .before .before .before .before .if1 in
+    let the-set-leaf = c .before .before .before .before .before .set-leaf in
+    let card = (cardOf (start .args .numbers .now) (start .args .names .now)) in
+    let within : start .args .i < length (card .trees) = rw trees-length (start .pre .2) in
+    let S = leaf-stands card (start .args .i) (start .pre .4) within _ true (the-leaf-holder .ensures .0) in
+    let R = settle-ready card [] _ _ _ S (start .args .out .now) 0 _ (no-records _) (the-standing-refusal .ensures) (the-if1 .left) _ _ (the-set-leaf .ensures _) in
+    (search needs, search needs, R .0, search needs, search needs, search needs, R .1, R .2)
+
+same-length-3 : tie.Need-same-length-3
+same-length-3 c = search needs
+
+same-length-4 : tie.Need-same-length-4
+same-length-4 c = search needs
+
+same-length-5 : tie.Need-same-length-5
+same-length-5 c = search needs
+
+returns-2 : tie.Need-returns-2
+returns-2 c =
+    let start = c .before .before .before .before .before .before .before .before .before .before .before .before .before .before .before .before .before .before .before .before .before .before .before .before .before .before in
+    let the-leaf-holder = c .before .before .before .before .before .before .before .before .before .before .before .before .before .before .before .before .before .before .before .before .leaf-holder in
+    let the-standing-refusal = c .before .before .before .before .before .before .before .before .before .before .before .before .before .before .before .before .before .standing-refusal in
+    let the-if1 = c .before .before .before .before .before .before .before .before .before .before .before .before .before .before .before .before .if1 in
+    let the-next-id = c .before .before .before .before .before .before .before .before .before .before .before .before .before .before .next-id in
+    let the-set-leaf = c .before .before .before .before .before .before .before .before .before .before .before .before .set-leaf in
+    let the-settle = c .before .before .before .before .before .before .settle in
+    let card = (cardOf (start .args .numbers .now) (start .args .names .now)) in
+    let within : start .args .i < length (card .trees) = rw trees-length (start .pre .2) in
+    let S = leaf-stands card (start .args .i) (start .pre .4) within _ true (the-leaf-holder .ensures .0) in
+    rw (join-standing card _ (start .args .i) (start .pre .4) within)
+    (standing-taken card [] _ _ _ S (start .args .out .now) 0 _ (no-records _) (the-standing-refusal .ensures) (the-if1 .left) _ _ _
+    (standing-ends card [] _ _ _ S (start .args .out .now) _ _ _ _ _ _ (the-next-id .ensures _) (the-set-leaf .ensures _) (sym (leaf-full (treeAt (start .args .i) card))) (the-settle .ensures)))
+
+pub join-standing-spec : {M : Type 1} → statement M
+join-standing-spec =
+    tie.close
+    (tie.spec
+    leaf-holder-requires
+    standing-refusal-requires
+    same-length
+    same-length-2
+    returns
+    next-id-requires
+    set-leaf-requires
+    settle-requires
+    same-length-3
+    same-length-4
+    same-length-5
+    returns-2)

@@ -1,0 +1,133 @@
+// A leaf that joins a tree or leaves one. Each tests all its refusals, 16 too, before it changes the table or writes an octet.
+ghost use mathlib.Core.Path.{_≡_};
+ghost use Prim.Native.Nat.{_≤_, _<_};
+ghost use lib.ListN.{length};
+ghost use Rattle.meaning.specs.Wire.{nameLimit};
+ghost use Rattle.meaning.specs.Card.{treeAt, treePlace};
+ghost use Rattle.meaning.specs.Events.{finish};
+ghost use Rattle.meaning.specs.Calls.{Does};
+ghost use Rattle.memory.specs.Sizes.{Numbers, Names};
+ghost use Rattle.memory.specs.Memory.{cardOf, treeCount};
+ghost use Rattle.event_leaf.specs.Order.{joinOf, leaveOf};
+
+// A leaf joins the tree at place i.
+fn join_standing(
+    numbers: &mut [u64],
+    names: &mut [u8],
+    i: usize,
+    out: &mut [u8],
+    answer: &mut u32,
+) -> usize
+    requires { ⌜ Numbers (now numbers) × Names (now names) × (i < treeCount (now numbers)) × (i < 64)
+        × (i ≡ treePlace (treeAt i (cardOf (now numbers) (now names)) .name) (cardOf (now numbers) (now names))) ⌝ }
+    ensures { λ r. ⌜ Does (finish (length (now (out .entry))) (cardOf (now (numbers .entry)) (now (names .entry))) (joinOf (cardOf (now (numbers .entry)) (now (names .entry))) (treeAt i (cardOf (now (numbers .entry)) (now (names .entry))) .name)))
+        (now (answer .exit)) r (now (out .entry)) (now (out .exit)) (cardOf (now (numbers .exit)) (now (names .exit))) ⌝ }
+{
+    let u = event_tree::leaf_holder(numbers, names, i, true);
+    let refusal = event_tree::standing_refusal(numbers, names, i, u, 0, out.len());
+    if refusal != 0 {
+        *answer = refusal;
+        return 0;
+    }
+    let id = memory::next_id(numbers);
+    memory_trees::set_leaf(numbers, i, true);
+    *answer = 0;
+    event_tree::settle(numbers, names, i, u, false, out, 0, id)
+}
+
+// A leaf joins a tree that does not stand.
+fn join_new(
+    numbers: &mut [u64],
+    names: &mut [u8],
+    name: &[u8],
+    out: &mut [u8],
+    answer: &mut u32,
+) -> usize
+    requires { ⌜ Numbers (now numbers) × Names (now names) × (length (now name) ≤ nameLimit) × (treePlace (now name) (cardOf (now numbers) (now names)) ≡ treeCount (now numbers)) ⌝ }
+    ensures { λ r. ⌜ Does (finish (length (now (out .entry))) (cardOf (now (numbers .entry)) (now (names .entry))) (joinOf (cardOf (now (numbers .entry)) (now (names .entry))) (now (name .entry))))
+        (now (answer .exit)) r (now (out .entry)) (now (out .exit)) (cardOf (now (numbers .exit)) (now (names .exit))) ⌝ }
+{
+    let u = event_holder::upstream_of(numbers, names, name);
+    let refusal = event_tree::new_refusal(numbers, u, wire_writer::record_size(name), out.len());
+    if refusal != 0 {
+        *answer = refusal;
+        return 0;
+    }
+    let place = memory::tree_count(numbers);
+    let id = memory::next_id(numbers);
+    memory_rows::enter_tree(numbers, names, name);
+    memory_trees::set_leaf(numbers, place, true);
+    *answer = 0;
+    event_tree::grow(numbers, names, place, u, out, id)
+}
+
+pub fn join(
+    numbers: &mut [u64],
+    names: &mut [u8],
+    name: &[u8],
+    out: &mut [u8],
+    answer: &mut u32,
+) -> usize
+    requires { ⌜ Numbers (now numbers) × Names (now names) × (length (now name) ≤ nameLimit) ⌝ }
+    ensures { λ r. ⌜ Does (finish (length (now (out .entry))) (cardOf (now (numbers .entry)) (now (names .entry))) (joinOf (cardOf (now (numbers .entry)) (now (names .entry))) (now (name .entry))))
+        (now (answer .exit)) r (now (out .entry)) (now (out .exit)) (cardOf (now (numbers .exit)) (now (names .exit))) ⌝ }
+{
+    let i = memory_trees::tree_place(numbers, names, name);
+    if i < memory::tree_count(numbers) {
+        return join_standing(numbers, names, i, out, answer);
+    }
+    join_new(numbers, names, name, out, answer)
+}
+
+// The leaf of the tree at place i leaves.
+fn leave_standing(
+    numbers: &mut [u64],
+    names: &mut [u8],
+    i: usize,
+    out: &mut [u8],
+    answer: &mut u32,
+) -> usize
+    requires { ⌜ Numbers (now numbers) × Names (now names) × (i < treeCount (now numbers)) × (i < 64)
+        × (i ≡ treePlace (treeAt i (cardOf (now numbers) (now names)) .name) (cardOf (now numbers) (now names))) ⌝ }
+    ensures { λ r. ⌜ Does (finish (length (now (out .entry))) (cardOf (now (numbers .entry)) (now (names .entry))) (leaveOf (cardOf (now (numbers .entry)) (now (names .entry))) (treeAt i (cardOf (now (numbers .entry)) (now (names .entry))) .name)))
+        (now (answer .exit)) r (now (out .entry)) (now (out .exit)) (cardOf (now (numbers .exit)) (now (names .exit))) ⌝ }
+{
+    let empty = !memory_trees::any_branch(numbers, i, 16, 0, 16);
+    let u = event_tree::leaf_holder(numbers, names, i, false);
+    if !memory_trees::is_leaf(numbers, i) {
+        *answer = if event_holder::labels_short(numbers, i, u) {
+            12
+        } else {
+            14
+        };
+        return 0;
+    }
+    let refusal = event_tree::standing_refusal(numbers, names, i, u, 0, out.len());
+    if refusal != 0 {
+        *answer = refusal;
+        return 0;
+    }
+    let id = memory::next_id(numbers);
+    memory_trees::set_leaf(numbers, i, false);
+    *answer = 0;
+    event_tree::settle(numbers, names, i, u, empty, out, 0, id)
+}
+
+pub fn leave(
+    numbers: &mut [u64],
+    names: &mut [u8],
+    name: &[u8],
+    out: &mut [u8],
+    answer: &mut u32,
+) -> usize
+    requires { ⌜ Numbers (now numbers) × Names (now names) ⌝ }
+    ensures { λ r. ⌜ Does (finish (length (now (out .entry))) (cardOf (now (numbers .entry)) (now (names .entry))) (leaveOf (cardOf (now (numbers .entry)) (now (names .entry))) (now (name .entry))))
+        (now (answer .exit)) r (now (out .entry)) (now (out .exit)) (cardOf (now (numbers .exit)) (now (names .exit))) ⌝ }
+{
+    let i = memory_trees::tree_place(numbers, names, name);
+    if i < memory::tree_count(numbers) {
+        return leave_standing(numbers, names, i, out, answer);
+    }
+    *answer = 14;
+    0
+}

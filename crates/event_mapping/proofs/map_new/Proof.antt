@@ -1,0 +1,139 @@
+use Rattle.event_mapping.proofs.Laws.{mapped-new, mapping-new}
+use Rattle.event_tree.proofs.Laws.{zero-free, count-is}
+use Rattle.event_tree.proofs.Newcomer.{new-refused, few-trees-stand, snoc-length, grow-ready, grown-done, entered-changed}
+use mathlib.Core.Path.{refl, sym, _∙_}
+use native.Mathlib.Omega.{arith}
+use Rattle.meaning.specs.Card.{withBranch}
+use Rattle.memory.specs.Memory.{cardOf}
+use Rattle.memory.proofs.Memory.{trees-length}
+use borrow.Author.Needs.{needs}
+use Rattle.event_mapping.proofs.map_new.Statement.{statement}
+use Rattle.event_mapping.proofs.map_new.Tie as tie
+
+new-holder-requires : tie.Need-new-holder-requires
+new-holder-requires c κs = search needs
+
+record-size-requires : tie.Need-record-size-requires
+record-size-requires c κs = search needs
+
+new-refusal-requires : tie.Need-new-refusal-requires
+new-refusal-requires c κs = search needs
+
+same-length : tie.Need-same-length
+same-length c = search needs
+
+same-length-2 : tie.Need-same-length-2
+same-length-2 c = search needs
+
+returns : tie.Need-returns
+returns c =
+    let start = c .before .before .before .before .before .before .before .before .before .before .before in
+    let the-new-holder = c .before .before .before .before .new-holder in
+    let the-record-size = c .before .before .record-size in
+    let card = (cardOf (start .args .numbers .now) (start .args .names .now)) in
+    let last = start .pre .5 ∙ sym (trees-length _ _) in
+    let N = mapped-new card (start .args .name .now) _ _ refl last (zero-free _ _) (start .args .n) (start .args .label) (start .pre .2) (omega (arith, start .pre .3)) (the-new-holder .ensures .0 (start .args .label) (omega (arith, start .pre .3))) in
+    rw (← (mapping-new card (start .args .name .now) _ refl last (start .args .n) (start .args .label))) (new-refused card _ (start .args .name .now) _ _ N (start .args .out .now) _ _ (the-record-size .ensures) (c .before .new-refusal .ensures _) (c .if1 .taken))
+
+tree-count-requires : tie.Need-tree-count-requires
+tree-count-requires c κs = search needs
+
+next-id-requires : tie.Need-next-id-requires
+next-id-requires c κs = search needs
+
+enter-tree-requires : tie.Need-enter-tree-requires
+enter-tree-requires c κs =
+    let start = c .before .before .before .before .before .before .before .before .before .before .before .before .before .before .before .before .before in
+    let the-new-holder = c .before .before .before .before .before .before .before .before .before .before .new-holder in
+    let the-record-size = c .before .before .before .before .before .before .before .before .record-size in
+    let the-new-refusal = c .before .before .before .before .before .before .before .new-refusal in
+    let the-if1 = c .before .before .before .before .before .before .if1 in
+    let card = (cardOf (start .args .numbers .now) (start .args .names .now)) in
+    let last = start .pre .5 ∙ sym (trees-length _ _) in
+    let N = mapped-new card (start .args .name .now) _ _ refl last (zero-free _ _) (start .args .n) (start .args .label) (start .pre .2) (omega (arith, start .pre .3)) (the-new-holder .ensures .0 (start .args .label) (omega (arith, start .pre .3))) in
+    let few = few-trees-stand card _ (start .args .name .now) _ _ N (start .args .out .now) _ _ (the-record-size .ensures) (the-new-refusal .ensures _) (the-if1 .left) in
+    (search needs, search needs, rw trees-length at few, search needs)
+
+set-branch-requires : tie.Need-set-branch-requires
+set-branch-requires c κs =
+    let start = c .before .before .before .before .before .before .before .before .before .before .before .before .before .before .before .before .before .before .before .before .before .before .before in
+    let the-new-holder = c .before .before .before .before .before .before .before .before .before .before .before .before .before .before .before .before .new-holder in
+    let the-record-size = c .before .before .before .before .before .before .before .before .before .before .before .before .before .before .record-size in
+    let the-new-refusal = c .before .before .before .before .before .before .before .before .before .before .before .before .before .new-refusal in
+    let the-if1 = c .before .before .before .before .before .before .before .before .before .before .before .before .if1 in
+    let the-enter-tree = c .before .before .before .before .before .enter-tree in
+    let the-tree-count = c .before .before .before .before .before .before .before .before .before .before .tree-count in
+    let card = (cardOf (start .args .numbers .now) (start .args .names .now)) in
+    let last = start .pre .5 ∙ sym (trees-length _ _) in
+    let N = mapped-new card (start .args .name .now) _ _ refl last (zero-free _ _) (start .args .n) (start .args .label) (start .pre .2) (omega (arith, start .pre .3)) (the-new-holder .ensures .0 (start .args .label) (omega (arith, start .pre .3))) in
+    let few = few-trees-stand card _ (start .args .name .now) _ _ N (start .args .out .now) _ _ (the-record-size .ensures) (the-new-refusal .ensures _) (the-if1 .left) in
+    let grown-by-one = count-is _ _ _ (the-enter-tree .ensures) ∙ snoc-length card (start .args .name .now) in
+    let n = the-tree-count .ensures .0 ∙ sym (trees-length _ (start .args .names .now)) in
+    (search needs, omega (arith, grown-by-one, n), omega (arith, few, n), search needs)
+
+grow-requires : tie.Need-grow-requires
+grow-requires c κs =
+    let start = c .before .before .before .before .before .before .before .before .before .before .before .before .before .before .before .before .before .before .before .before .before .before .before .before .before .before .before .before .before in
+    let the-tree-count = c .before .before .before .before .before .before .before .before .before .before .before .before .before .before .before .before .tree-count in
+    let the-new-holder = c .before .before .before .before .before .before .before .before .before .before .before .before .before .before .before .before .before .before .before .before .before .before .new-holder in
+    let the-set-branch = c .before .before .before .before .before .set-branch in
+    let the-enter-tree = c .before .before .before .before .before .before .before .before .before .before .before .enter-tree in
+    let the-record-size = c .before .before .before .before .before .before .before .before .before .before .before .before .before .before .before .before .before .before .before .before .record-size in
+    let the-new-refusal = c .before .before .before .before .before .before .before .before .before .before .before .before .before .before .before .before .before .before .before .new-refusal in
+    let the-if1 = c .before .before .before .before .before .before .before .before .before .before .before .before .before .before .before .before .before .before .if1 in
+    let card = (cardOf (start .args .numbers .now) (start .args .names .now)) in
+    let here = the-tree-count .ensures .0 ∙ sym (start .pre .5) in
+    let last = the-tree-count .ensures .0 ∙ sym (trees-length _ _) in
+    let N = mapped-new card (start .args .name .now) _ _ here last (zero-free _ _) (start .args .n) (start .args .label) (start .pre .2) (omega (arith, start .pre .3)) (the-new-holder .ensures .0 (start .args .label) (omega (arith, start .pre .3))) in
+    let changed = the-set-branch .ensures _ ∙ entered-changed card _ (start .args .name .now) _ (withBranch (start .args .n) (start .args .label)) last (the-enter-tree .ensures) in
+    let R = grow-ready card _ (start .args .name .now) _ _ N (start .args .out .now) _ _ (the-record-size .ensures) (the-new-refusal .ensures _) (the-if1 .left) _ _ _ changed in
+    let few = few-trees-stand card _ (start .args .name .now) _ _ N (start .args .out .now) _ _ (the-record-size .ensures) (the-new-refusal .ensures _) (the-if1 .left) in
+    (search needs, search needs, R .0, omega (arith, few, last), search needs, search needs, R .1, R .2)
+
+same-length-3 : tie.Need-same-length-3
+same-length-3 c = search needs
+
+same-length-4 : tie.Need-same-length-4
+same-length-4 c = search needs
+
+same-length-5 : tie.Need-same-length-5
+same-length-5 c = search needs
+
+returns-2 : tie.Need-returns-2
+returns-2 c =
+    let start = c .before .before .before .before .before .before .before .before .before .before .before .before .before .before .before .before .before .before .before .before .before .before .before .before .before .before .before .before .before .before .before .before .before .before .before .before in
+    let the-tree-count = c .before .before .before .before .before .before .before .before .before .before .before .before .before .before .before .before .before .before .before .before .before .before .before .tree-count in
+    let the-new-holder = c .before .before .before .before .before .before .before .before .before .before .before .before .before .before .before .before .before .before .before .before .before .before .before .before .before .before .before .before .before .new-holder in
+    let the-set-branch = c .before .before .before .before .before .before .before .before .before .before .before .before .set-branch in
+    let the-enter-tree = c .before .before .before .before .before .before .before .before .before .before .before .before .before .before .before .before .before .before .enter-tree in
+    let the-record-size = c .before .before .before .before .before .before .before .before .before .before .before .before .before .before .before .before .before .before .before .before .before .before .before .before .before .before .before .record-size in
+    let the-new-refusal = c .before .before .before .before .before .before .before .before .before .before .before .before .before .before .before .before .before .before .before .before .before .before .before .before .before .before .new-refusal in
+    let the-if1 = c .before .before .before .before .before .before .before .before .before .before .before .before .before .before .before .before .before .before .before .before .before .before .before .before .before .if1 in
+    let the-next-id = c .before .before .before .before .before .before .before .before .before .before .before .before .before .before .before .before .before .before .before .before .before .next-id in
+    let the-grow = c .before .before .before .before .before .before .grow in
+    let card = (cardOf (start .args .numbers .now) (start .args .names .now)) in
+    let here = the-tree-count .ensures .0 ∙ sym (start .pre .5) in
+    let last = the-tree-count .ensures .0 ∙ sym (trees-length _ _) in
+    let N = mapped-new card (start .args .name .now) _ _ here last (zero-free _ _) (start .args .n) (start .args .label) (start .pre .2) (omega (arith, start .pre .3)) (the-new-holder .ensures .0 (start .args .label) (omega (arith, start .pre .3))) in
+    let changed = the-set-branch .ensures _ ∙ entered-changed card _ (start .args .name .now) _ (withBranch (start .args .n) (start .args .label)) last (the-enter-tree .ensures) in
+    rw (← (mapping-new card (start .args .name .now) _ here last (start .args .n) (start .args .label))) (grown-done card _ (start .args .name .now) _ _ N (start .args .out .now) _ _ (the-record-size .ensures) (the-new-refusal .ensures _) (the-if1 .left) _ _ _ _ _ (the-next-id .ensures _) changed (the-grow .ensures))
+
+pub map-new-spec : {M : Type 1} → statement M
+map-new-spec =
+    tie.close
+    (tie.spec
+    new-holder-requires
+    record-size-requires
+    new-refusal-requires
+    same-length
+    same-length-2
+    returns
+    tree-count-requires
+    next-id-requires
+    enter-tree-requires
+    set-branch-requires
+    grow-requires
+    same-length-3
+    same-length-4
+    same-length-5
+    returns-2)

@@ -1,0 +1,72 @@
+use native.Mathlib.Omega.{arith}
+use mathlib.Core.Path.{ap}
+use lib.ListN.{length}
+use Rattle.event_move.proofs.Steps.{free-place, gave}
+use borrow.Author.Needs.{needs}
+use Rattle.event_move.proofs.give.Statement.{statement}
+use Rattle.event_move.proofs.give.Tie as tie
+
+lowest-free-requires : tie.Need-lowest-free-requires
+lowest-free-requires c κs = search needs
+
+base-requires : tie.Need-base-requires
+base-requires c κs = search needs
+
+add-label : tie.Need-add-label
+add-label c = search needs
+
+tree-name-requires : tie.Need-tree-name-requires
+tree-name-requires c κs = search needs
+
+add-end : tie.Need-add-end
+add-end c = search needs
+
+add-end-2 : tie.Need-add-end-2
+add-end-2 c = search needs
+
+send-requires : tie.Need-send-requires
+send-requires c κs =
+    let s = c .before .before .before .before .before .before .before .before .before .before in
+    (omega (arith, ap length (c .before .tree-name .ensures .0 _ (s .pre .2)), s .pre .6), omega arith)
+
+map-label-requires : tie.Need-map-label-requires
+map-label-requires c κs =
+    let f = c .before .before .before .before .before .before .before .before .before .before in
+    let s = f .before .before .before .before .before in
+    let p = free-place _ (s .args .names .now) _ (f .lowest-free .ensures .0 _) (s .pre .5) in
+    (s .pre .0, s .pre .1, p, s .pre .2, s .pre .3, s .pre .4, f .lowest-free .ensures .2 p)
+
+same-length : tie.Need-same-length
+same-length c = search needs
+
+same-length-2 : tie.Need-same-length-2
+same-length-2 c = search needs
+
+same-length-3 : tie.Need-same-length-3
+same-length-3 c = search needs
+
+returns : tie.Need-returns
+returns c =
+    let w = c .before .before .before .before .before .before .before .before .before in
+    let n = w .before .before in
+    let b = n .before .before in
+    let f = b .before .before in
+    let s = f .before .before .before .before .before in
+    gave (s .args .i) (s .args .u) _ _ (s .args .id) (s .args .at) _ _ _ (s .args .names .now) _ _ _ _ (b .base .ensures .0) (s .pre .5) (f .lowest-free .ensures .0 _) (n .tree-name .ensures .0 _ (s .pre .2)) (w .send .ensures .0) (w .send .ensures .1) (c .before .before .before .before .map-label .ensures)
+
+pub give-spec : {M : Type 1} → statement M
+give-spec =
+    tie.close
+    (tie.spec
+    lowest-free-requires
+    base-requires
+    add-label
+    tree-name-requires
+    add-end
+    add-end-2
+    send-requires
+    map-label-requires
+    same-length
+    same-length-2
+    same-length-3
+    returns)

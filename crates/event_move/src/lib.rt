@@ -1,0 +1,147 @@
+// The rule of labels, in memory and on the wire: a tree gives up its label and is given one, and the records say so.
+ghost use mathlib.Core.Path.{_≡_};
+ghost use Prim.Native.Nat.{_+_, _-_, _≤_, _<_};
+ghost use lib.ListN.{length};
+ghost use Rattle.meaning.specs.Wire.{records};
+ghost use Rattle.meaning.specs.Card.{treeAt, freeLabels};
+ghost use Rattle.meaning.specs.Events.{giveUp, give, letGo, takeUp, moveLabel, relabel, needMove, need};
+ghost use Rattle.memory.specs.Sizes.{Numbers, Names};
+ghost use Rattle.memory.specs.Memory.{cardOf, treeCount};
+ghost use Rattle.event_holder.specs.Move.{Wrote, moveSize, relabelSize};
+
+// Where the next record goes, and its identifier.
+pub struct Written {
+    pub at: usize,
+    pub id: u32,
+}
+
+// ---- one tree
+
+fn give_up(
+    numbers: &mut [u64],
+    names: &[u8],
+    i: usize,
+    out: &mut [u8],
+    at: usize,
+    id: u32,
+) -> Written
+    requires { ⌜ Numbers (now numbers) × Names (now names) × (i < treeCount (now numbers)) × (i < 64)
+        × (treeAt i (cardOf (now numbers) (now names)) .label ≡ 0 → ⊥)
+        × (at + (24 + length (treeAt i (cardOf (now numbers) (now names)) .name)) ≤ length (now out)) ⌝ }
+    ensures { λ r. ⌜ Wrote (giveUp i (cardOf (now (numbers .entry)) (now (names .entry)))) id at (now (out .entry)) (now (out .exit)) (cardOf (now (numbers .exit)) (now (names .entry))) (r .at) (r .id)
+        × (freeLabels (cardOf (now (numbers .exit)) (now (names .entry))) ≡ freeLabels (cardOf (now (numbers .entry)) (now (names .entry)))) ⌝ }
+{
+    let to = memory_trees::held_for(numbers, i);
+    let label = memory_trees::tree_label(numbers, i);
+    let name = memory_trees::tree_name(names, i);
+    let end = at + (24 + name.len());
+    let next = wire_writer::send(id, out, at, to, 0x0402, label, name);
+    memory_trees::end_label(numbers, i);
+    Written { at: end, id: next }
+}
+
+fn let_go(
+    numbers: &mut [u64],
+    names: &[u8],
+    i: usize,
+    out: &mut [u8],
+    at: usize,
+    id: u32,
+) -> Written
+    requires { ⌜ Numbers (now numbers) × Names (now names) × (i < treeCount (now numbers)) × (i < 64)
+        × (at + length (records id (letGo i (cardOf (now numbers) (now names)) .sent)) ≤ length (now out)) ⌝ }
+    ensures { λ r. ⌜ Wrote (letGo i (cardOf (now (numbers .entry)) (now (names .entry)))) id at (now (out .entry)) (now (out .exit)) (cardOf (now (numbers .exit)) (now (names .entry))) (r .at) (r .id)
+        × (freeLabels (cardOf (now (numbers .exit)) (now (names .entry))) ≡ freeLabels (cardOf (now (numbers .entry)) (now (names .entry)))) ⌝ }
+{
+    if memory_trees::tree_label(numbers, i) == 0 {
+        return Written { at, id };
+    }
+    give_up(numbers, names, i, out, at, id)
+}
+
+fn give(
+    numbers: &mut [u64],
+    names: &mut [u8],
+    i: usize,
+    u: u64,
+    out: &mut [u8],
+    at: usize,
+    id: u32,
+) -> Written
+    requires { ⌜ Numbers (now numbers) × Names (now names) × (i < treeCount (now numbers)) × (i < 64) × (u < 16)
+        × (0 < freeLabels (cardOf (now numbers) (now names)))
+        × (at + (24 + length (treeAt i (cardOf (now numbers) (now names)) .name)) ≤ length (now out)) ⌝ }
+    ensures { λ r. ⌜ Wrote (give i u (cardOf (now (numbers .entry)) (now (names .entry)))) id at (now (out .entry)) (now (out .exit)) (cardOf (now (numbers .exit)) (now (names .exit))) (r .at) (r .id)
+        × (freeLabels (cardOf (now (numbers .exit)) (now (names .exit))) + 1 ≡ freeLabels (cardOf (now (numbers .entry)) (now (names .entry)))) ⌝ }
+{
+    let p = memory_labels::lowest_free(numbers);
+    let label = memory::base(numbers) + p as u64;
+    let name = memory_trees::tree_name(names, i);
+    let end = at + (24 + name.len());
+    let next = wire_writer::send(id, out, at, u, 0x0400, label, name);
+    memory_marks::map_label(numbers, names, p, i, u);
+    Written { at: end, id: next }
+}
+
+pub fn take_up(
+    numbers: &mut [u64],
+    names: &mut [u8],
+    i: usize,
+    u: u64,
+    out: &mut [u8],
+    at: usize,
+    id: u32,
+) -> Written
+    requires { ⌜ Numbers (now numbers) × Names (now names) × (i < treeCount (now numbers)) × (i < 64) × (u ≤ 17) × (u ≡ 16 → ⊥)
+        × (needMove u ≤ freeLabels (cardOf (now numbers) (now names)))
+        × (at + length (records id (takeUp i u (cardOf (now numbers) (now names)) .sent)) ≤ length (now out)) ⌝ }
+    ensures { λ r. ⌜ Wrote (takeUp i u (cardOf (now (numbers .entry)) (now (names .entry)))) id at (now (out .entry)) (now (out .exit)) (cardOf (now (numbers .exit)) (now (names .exit))) (r .at) (r .id)
+        × (freeLabels (cardOf (now (numbers .exit)) (now (names .exit))) + needMove u ≡ freeLabels (cardOf (now (numbers .entry)) (now (names .entry)))) ⌝ }
+{
+    if u == 17 {
+        return Written { at, id };
+    }
+    give(numbers, names, i, u, out, at, id)
+}
+
+pub fn move_label(
+    numbers: &mut [u64],
+    names: &mut [u8],
+    i: usize,
+    u: u64,
+    out: &mut [u8],
+    at: usize,
+    id: u32,
+) -> Written
+    requires { ⌜ Numbers (now numbers) × Names (now names) × (i < treeCount (now numbers)) × (i < 64) × (u ≤ 17) × (u ≡ 16 → ⊥)
+        × (needMove u ≤ freeLabels (cardOf (now numbers) (now names)))
+        × (at + moveSize (treeAt i (cardOf (now numbers) (now names))) u ≤ length (now out)) ⌝ }
+    ensures { λ r. ⌜ Wrote (moveLabel i u (cardOf (now (numbers .entry)) (now (names .entry)))) id at (now (out .entry)) (now (out .exit)) (cardOf (now (numbers .exit)) (now (names .exit))) (r .at) (r .id)
+        × (freeLabels (cardOf (now (numbers .exit)) (now (names .exit))) + needMove u ≡ freeLabels (cardOf (now (numbers .entry)) (now (names .entry)))) ⌝ }
+{
+    let w = let_go(numbers, names, i, out, at, id);
+    let end = w.at;
+    let next = w.id;
+    take_up(numbers, names, i, u, out, end, next)
+}
+
+// From now on the tree at place i holds a label for u, or none where u is 17.
+pub fn relabel(
+    numbers: &mut [u64],
+    names: &mut [u8],
+    i: usize,
+    u: u64,
+    out: &mut [u8],
+    at: usize,
+    id: u32,
+) -> Written
+    requires { ⌜ Numbers (now numbers) × Names (now names) × (i < treeCount (now numbers)) × (i < 64) × (u ≤ 17) × (u ≡ 16 → ⊥)
+        × (need (cardOf (now numbers) (now names)) (treeAt i (cardOf (now numbers) (now names))) u ≤ freeLabels (cardOf (now numbers) (now names)))
+        × (at + relabelSize (cardOf (now numbers) (now names)) (treeAt i (cardOf (now numbers) (now names))) u ≤ length (now out)) ⌝ }
+    ensures { λ r. ⌜ Wrote (relabel i u (cardOf (now (numbers .entry)) (now (names .entry)))) id at (now (out .entry)) (now (out .exit)) (cardOf (now (numbers .exit)) (now (names .exit))) (r .at) (r .id) ⌝ }
+{
+    if memory_trees::held_for(numbers, i) == u {
+        return Written { at, id };
+    }
+    move_label(numbers, names, i, u, out, at, id)
+}

@@ -1,0 +1,183 @@
+-- The laws of the route order. Assumes nothing.
+use Prim.Native.Nat.{ℕ, zero, suc, _+_, _*_, _-_, _≤_, _<_, zero-le}
+use native.Mathlib.Omega.{arith}
+use mathlib.Core.Path.{_≡_, refl, sym, ap, ap₂, _∙_, subst}
+use mathlib.Core.Bool.{Bool, true, false, not, _&&_}
+use mathlib.Core.List.{List, [], _∷_, _++_}
+use lib.ListN.{getD, length}
+use lib.Dec.{eqb, leb, ltb}
+use borrow.Author.Tests.{eq-eqb, ne-eqb, eqb-true, eqb-false, le-leb, lt-leb, le-ltb, lt-ltb, ltb-true, ltb-false, leb-false}
+use Rattle.meaning.specs.Octets.{pick, place, put, cut, _when_else_}
+use Rattle.meaning.specs.Lists.{by-test, picked, getD-out}
+use Rattle.meaning.specs.Wire.{Sent, records, idsAfter}
+use Rattle.meaning.specs.Card.{Route, Tree, Card, Use, noRoute, withNext, withRoutes, withTrees, withLabels, isFor, routePlace, routeOf, treeAt, freeLabels}
+use Rattle.meaning.specs.Events.{Outcome, refused, taken, unless, finish, Moved, still, followedBy, setUse, setLabel, giveUp, give, letGo, takeUp, moveLabel, labelsShort, upstream, ofRoot, moveOne, moveFrom, moveAll, sumFrom, needOne, needAll, routesWith, routesFull, routeRefusal, reRoute}
+use Rattle.meaning.specs.RoutesStay.{all-routes}
+use Rattle.meaning.specs.Calls.{Does}
+use Rattle.octets.proofs.Laws.{mid-none}
+use Rattle.memory.specs.Memory.{cardOf, routeCount}
+use Rattle.memory.proofs.Memory.{routes-length}
+use Rattle.event_holder.specs.Move.{Wrote, sizeOne, sizeAll}
+use Rattle.event_move.proofs.Laws.{then-length, records-append}
+use Rattle.event_move.proofs.Trees.{one-other, one-many, one-size}
+use Rattle.event_tree.specs.End.{Ended}
+use Rattle.event_tree.proofs.Laws.{when-1, when-2, when-3, when-0, does-refused, does-short, does-ended, no-records}
+use Rattle.event_route.specs.Order.{movedTo, routeOrder}
+
+-- ---- what the moves of a root's trees write and leave
+
+module _ (r : List ℕ) (u : ℕ) where
+  sum-same : (f : Tree → ℕ) (n i : ℕ) (c d : Card) → ((j : ℕ) → i ≤ j → treeAt j d ≡ treeAt j c) → sumFrom f n i d ≡ sumFrom f n i c
+  unfolding sumFrom
+  sum-same f zero i c d h = refl
+  sum-same f (suc n) i c d h = ap₂ _+_ (ap f (h i (omega arith))) (sum-same f n (suc i) c d (λ j k. h j (omega arith)))
+
+  from-size : (n i id : ℕ) (c : Card) → i + n ≤ length (c .trees) → length (records id (moveFrom r u n i c .sent)) ≡ sumFrom (sizeOne r u) n i c
+  unfolding moveFrom sumFrom
+  from-size zero i id c h = unfold still records in refl
+  from-size (suc n) i id c h =
+      then-length (moveOne r u i c) (moveFrom r u n (suc i)) id
+      ∙ ap₂ _+_ (one-size r u i id c (omega arith))
+      (from-size n (suc i) _ (moveOne r u i c .card) (rw (one-many r u i c (omega arith)) (omega arith))
+      ∙ sum-same (sizeOne r u) n (suc i) c (moveOne r u i c .card) (λ j k. one-other i j (λ e. omega arith) r u c))
+
+  pub all-size : (id : ℕ) (c : Card) → length (records id (moveAll r u c .sent)) ≡ sizeAll r u c
+  unfolding moveAll sizeAll
+  all-size id c = from-size (length (c .trees)) 0 id c (omega arith)
+
+-- ---- the routes alone
+
+pub same-place : (r : List ℕ) (c d : Card) → d .routes ≡ c .routes → routePlace r d ≡ routePlace r c
+unfolding routePlace
+same-place r c d e = rw e refl
+
+pub same-routes : (r : List ℕ) (via : ℕ) (c d : Card) → d .routes ≡ c .routes → routesWith d r via ≡ routesWith c r via
+unfolding routesWith routePlace
+same-routes r via c d e = rw e refl
+
+-- a root without an entry has no route
+pub no-entry : (r : List ℕ) (c : Card) → routePlace r c ≡ length (c .routes) → routeOf r c ≡ noRoute
+unfolding routeOf
+no-entry r c e = ap (λ (x : Route). x .via) (getD-out (c .routes) (routePlace r c) (record { root = r; via = noRoute }) (omega arith))
+
+pub gone-is : (c : Card) (r : List ℕ) (via i : ℕ) → i ≡ routePlace r c → via ≡ 17 → withRoutes (cut (c .routes) i) c ≡ withRoutes (routesWith c r via) c
+unfolding routesWith
+gone-is c r via i e z = rw (eq-eqb via 17 z, e) refl
+
+pub put-is : (c : Card) (r : List ℕ) (via i : ℕ) → (via ≡ 17 → ⊥) → withRoutes (put (c .routes) (routePlace r c) (record { root = r; via = via })) c ≡ withRoutes (routesWith c r via) c
+unfolding routesWith
+put-is c r via i z = rw (ne-eqb via 17 z) refl
+
+-- ---- the order by its cases
+
+pub full-is : (c : Card) (r : List ℕ) (via : ℕ) → (routeOf r c ≡ via → ⊥) → (eqb (routeOf r c) noRoute && leb 32 (length (c .routes))) ≡ routesFull c r via
+unfolding routesFull
+full-is c r via ne =
+    by-test (eqb (routeOf r c) noRoute)
+    (λ e. rw (e, ne-eqb via noRoute (λ z. ne (eqb-true _ _ e ∙ sym z))) refl)
+    (λ e. rw e refl)
+
+pub order-same : (c : Card) (r : List ℕ) (via : ℕ) (s : List ℕ) → routeOf r c ≡ via → Does (finish (length s) c (routeOrder c r via)) 0 0 s s c
+unfolding routeOrder
+order-same c r via s e =
+    rw (eq-eqb (routeOf r c) via e)
+    (does-ended c c [] s s c 0 (unfold records in zero-le) (record { leaves = unfold idsAfter withNext in refl; writes = unfold records in mid-none 0 s; ends = unfold records in refl }))
+
+module _ (c : Card) (r : List ℕ) (via : ℕ) (ne : routeOf r c ≡ via → ⊥) (s : List ℕ) (k : ℕ)
+    (ek : k ≡ 15 when routesFull c r via else 12 when labelsShort c (needAll r (upstream via) c) else 16 when ltb (length s) (sizeAll r (upstream via) c) else 0) where
+  order-is : routeOrder c r via ≡ unless (15 when routesFull c r via else 12 when labelsShort c (needAll r (upstream via) c) else 0) (taken (movedTo c r via .sent) (movedTo c r via .card))
+  unfolding routeOrder routeRefusal reRoute movedTo
+  order-is = rw (ne-eqb (routeOf r c) via ne) refl
+
+  written-size : length (records (c .next) (movedTo c r via .sent)) ≡ sizeAll r (upstream via) c
+  unfolding movedTo
+  written-size = all-size r (upstream via) (c .next) c
+
+  pub order-refused : (k ≡ 0 → ⊥) → Does (finish (length s) c (routeOrder c r via)) k 0 s s c
+  order-refused some =
+      by-test (routesFull c r via)
+      (λ x. rw (ek ∙ when-1 15 12 16 _ _ _ x, order-is, x) (unfold _when_else_ unless in does-refused c 15 s))
+      (λ x. by-test (labelsShort c (needAll r (upstream via) c))
+      (λ y. rw (ek ∙ when-2 15 12 16 _ _ _ x y, order-is, x, y) (unfold _when_else_ unless in does-refused c 12 s))
+      (λ y. by-test (ltb (length s) (sizeAll r (upstream via) c))
+      (λ z. rw (ek ∙ when-3 15 12 16 _ _ _ x y z, order-is, x, y) (unfold _when_else_ unless in does-short c _ _ s (rw written-size (ltb-true _ _ z))))
+      (λ z. absurd (some (ek ∙ when-0 15 12 16 _ _ _ x y z)))))
+
+  passes : k ≡ 0 → (routesFull c r via ≡ false) × (labelsShort c (needAll r (upstream via) c) ≡ false) × (sizeAll r (upstream via) c ≤ length s)
+  passes q =
+      by-test (routesFull c r via)
+      (λ x. absurd (omega (arith, ek, when-1 15 12 16 _ (labelsShort c (needAll r (upstream via) c)) (ltb (length s) (sizeAll r (upstream via) c)) x)))
+      (λ x. by-test (labelsShort c (needAll r (upstream via) c))
+      (λ y. absurd (omega (arith, ek, when-2 15 12 16 _ _ (ltb (length s) (sizeAll r (upstream via) c)) x y)))
+      (λ y. by-test (ltb (length s) (sizeAll r (upstream via) c))
+      (λ z. absurd (omega (arith, ek, when-3 15 12 16 _ _ _ x y z)))
+      (λ z. (x, y, ltb-false _ _ z))))
+
+  -- what `re_route` asks
+  pub order-ready : k ≡ 0 → (routePlace r c ≡ length (c .routes) → (via ≡ 17 → ⊥) × (length (c .routes) < 32)) × (needAll r (upstream via) c ≤ freeLabels c) × (sizeAll r (upstream via) c ≤ length s)
+  order-ready q =
+      let p = passes q in
+      ((λ e. let none = no-entry r c e in ((λ z. ne (none ∙ sym z)), few none (p .0))), ltb-false _ _ (unfold labelsShort in p .1), p .2)
+    where
+      few : routeOf r c ≡ noRoute → routesFull c r via ≡ false → length (c .routes) < 32
+      few none full = leb-false 32 (length (c .routes)) (rw (eq-eqb (routeOf r c) noRoute none) at (full-is c r via ne ∙ full))
+
+  pub order-done : k ≡ 0 → (s' : List ℕ) (e : Card) (end : ℕ) → Ended (movedTo c r via) (c .next) 0 s s' e end → Does (finish (length s) c (routeOrder c r via)) 0 end s s' e
+  order-done q s' e end w =
+      let p = passes q in
+      rw (order-is, p .0, p .1) (unfold _when_else_ unless in does-ended c _ _ s s' e end (rw written-size (p .2)) w)
+
+-- the trees have moved, and then the entry
+pub moved-ends : (c d e : Card) (r : List ℕ) (via u : ℕ) (id : ℕ) (s s' : List ℕ) (end next : ℕ) → id ≡ c .next → u ≡ upstream via → Wrote (moveAll r u c) id 0 s s' d end next
+    → e ≡ withNext next (withRoutes (routesWith d r via) d) → Ended (movedTo c r via) (c .next) 0 s s' e end
+moved-ends c d e r via u id s s' end next ei eu w q =
+    subst (λ (n : ℕ). Ended (movedTo c r via) n 0 s s' e end) ei (unfold movedTo in
+    subst (λ (v : ℕ). Ended (record { sent = moveAll r v c .sent; card = withRoutes (routesWith c r via) (moveAll r v c .card) }) id 0 s s' e end) eu
+    (record {
+      leaves = q ∙ ap₂ (λ (n : ℕ) (x : Card). withNext n (withRoutes (routesWith x r via) x)) (w .counts) (w .leaves)
+          ∙ ap (λ (rs : List Route). withNext (idsAfter id (moveAll r u c .sent)) (withRoutes rs (moveAll r u c .card))) (same-routes r via c (moveAll r u c .card) (all-routes r u c));
+      writes = w .writes;
+      ends = w .ends;
+    }))
+
+-- ---- small tests
+
+pub via-near : (via : ℕ) → via < 16 → via ≡ upstream via
+unfolding upstream
+via-near via h = rw (lt-ltb via 16 h) refl
+
+pub via-none : (via : ℕ) → 16 ≤ via → 17 ≡ upstream via
+unfolding upstream
+via-none via h = rw (le-ltb via 16 h) refl
+
+pub labels-short : (c : Card) (r : List ℕ) (via u k : ℕ) → u ≡ upstream via → k ≡ needAll r u c → labelsShort c k ≡ labelsShort c (needAll r (upstream via) c)
+labels-short c r via u k eu ek = ap (labelsShort c) (ek ∙ ap (λ (v : ℕ). needAll r v c) eu)
+
+module _ (c : Card) (r : List ℕ) (via u n k : ℕ) (eu : u ≡ upstream via) where
+  pub room-short : k ≡ sizeAll r u c → n < k → ltb n (sizeAll r (upstream via) c) ≡ true
+  room-short ek h = lt-ltb n (sizeAll r (upstream via) c) (rw (← eu, ← ek) h)
+
+  pub room-enough : k ≡ sizeAll r u c → k ≤ n → ltb n (sizeAll r (upstream via) c) ≡ false
+  room-enough ek h = le-ltb n (sizeAll r (upstream via) c) (rw (← eu, ← ek) h)
+
+-- a root's entry that goes is there
+pub stands-below : (ns os : List ℕ) (r : List ℕ) (i via : ℕ) → i ≡ routePlace r (cardOf ns os) → i ≤ routeCount ns
+    → (routePlace r (cardOf ns os) ≡ length (cardOf ns os .routes) → (via ≡ 17 → ⊥) × (length (cardOf ns os .routes) < 32)) → via ≡ 17 → i < routeCount ns
+stands-below ns os r i via e h p z =
+    by-test (ltb i (routeCount ns))
+    (λ t. ltb-true _ _ t)
+    (λ t. let at-end : i ≡ routeCount ns = omega (arith, ltb-false i (routeCount ns) t) in absurd (p (sym e ∙ at-end ∙ sym (routes-length ns os)) .0 z))
+
+-- a root's entry that comes has a place
+pub room-for-it : (ns os : List ℕ) (r : List ℕ) (i via : ℕ) → i ≡ routePlace r (cardOf ns os) → i ≤ routeCount ns
+    → (routePlace r (cardOf ns os) ≡ length (cardOf ns os .routes) → (via ≡ 17 → ⊥) × (length (cardOf ns os .routes) < 32)) → routeCount ns ≤ routePlace r (cardOf ns os) → routeCount ns < 32
+room-for-it ns os r i via e h p k = rw (routes-length ns os) at (p (omega (arith, routes-length ns os)) .1)
+
+-- the entry's place is that of before the move
+pub moved-room : (c d : Card) (r : List ℕ) (u via : ℕ) → d ≡ moveAll r u c .card → (routePlace r c ≡ length (c .routes) → (via ≡ 17 → ⊥) × (length (c .routes) < 32))
+    → routePlace r d ≡ length (d .routes) → (via ≡ 17 → ⊥) × (length (d .routes) < 32)
+moved-room c d r u via e p q =
+    let same : d .routes ≡ c .routes = ap (λ (x : Card). x .routes) e ∙ all-routes r u c in
+    let long : length (d .routes) ≡ length (c .routes) = ap (λ (l : List Route). length l) same in
+    let ok = p (sym (same-place r c d same) ∙ q ∙ long) in
+    (ok .0, rw long (ok .1))

@@ -1,0 +1,269 @@
+-- What becomes of a tree that does not stand, by the cases of the code. Assumes nothing.
+use Prim.Native.Nat.{ℕ, zero, suc, _+_, _*_, _≤_, _<_, zero-le}
+use native.Mathlib.Omega.{arith}
+use mathlib.Core.Path.{_≡_, refl, sym, ap, ap₂, _∙_, subst}
+use mathlib.Core.Bool.{Bool, true, false}
+use mathlib.Core.List.{List, [], _∷_, _++_}
+use lib.ListN.{getD, length, set, replicate, length-append}
+use lib.Dec.{eqb, leb, ltb}
+use borrow.Author.Tests.{eq-eqb, ne-eqb, eqb-true, eqb-false, le-leb, lt-leb, le-ltb, lt-ltb, ltb-true, ltb-false, leb-true, leb-false}
+use Rattle.meaning.specs.Octets.{pick, any, cut, _when_else_}
+use Rattle.meaning.specs.Lists.{append-nil, by-test}
+use Rattle.meaning.specs.Wire.{Sent, records, rootIn}
+use Rattle.meaning.specs.Card.{Tree, Card, free, noRoute, withTrees, bare, treePlace, treeOf, treeAt, stands, isBranch, isEmpty, notHeld, leadsOn, mappedTo, useOf, heldFor, freeLabels, treeLimit, routeOf}
+use Rattle.meaning.specs.Events.{Outcome, taken, unless, finish, Moved, still, followedBy, letGo, takeUp, moveLabel, relabel, needMove, need, labelsShort, upstream, holder, upstreamOf, entered, swept, treesFull, treeRefusal, enter, become}
+use Rattle.meaning.specs.Calls.{Does}
+use Rattle.octets.proofs.Tab.{put-end, cut-end}
+use Rattle.event_move.proofs.Laws.{take-up-stays, take-up-size, alike-empty}
+use Rattle.memory.specs.Memory.{cardOf, treeCount}
+use Rattle.event_tree.specs.End.{Ended}
+use Rattle.event_tree.proofs.Laws.{not-standing, does-refused, does-short, enter-is, does-ended, when-1, when-2, when-3, when-0, count-is, any-zeros}
+
+pub none-stands : (c : Card) (a : List ℕ) (i : ℕ) → i ≡ treePlace a c → i ≡ length (c .trees) → treeOf a c ≡ bare a
+none-stands c a i ei h = not-standing c a (rw (← ei) (omega arith))
+
+getD-zeros : (k n : ℕ) → _≡_ {A = ℕ} (getD (replicate k 0) n 0) 0
+getD-zeros zero n = refl
+getD-zeros (suc k) zero = refl
+getD-zeros (suc k) (suc n) = getD-zeros k n
+
+pub bare-branch : (a : List ℕ) (n : ℕ) → getD (bare a .branches) n 0 ≡ 0
+unfolding bare
+bare-branch a n = getD-zeros 16 n
+
+pub entered-new : (c : Card) (t : Tree) (i : ℕ) → i ≡ treePlace (t .name) c → i ≡ length (c .trees) → entered c t ≡ withTrees (c .trees ++ (t ∷ [])) c
+unfolding entered
+entered-new c t i ei h = rw (← ei) (ap (λ (l : List Tree). withTrees l c) (put-end (c .trees) i t h))
+
+zero-held : (c : Card) (t : Tree) → useOf 0 c ≡ free → t .label ≡ 0 → heldFor c t ≡ noRoute
+unfolding heldFor mappedTo
+zero-held c t z e = ap (λ (l : ℕ). mappedTo (useOf l c)) e ∙ ap mappedTo z
+
+need-none : (c : Card) (t : Tree) (u : ℕ) → useOf 0 c ≡ free → t .label ≡ 0 → need c t u ≡ needMove u
+unfolding need needMove
+need-none c t u z e =
+    rw (zero-held c t z e)
+    (by-test (eqb u noRoute)
+    (λ k. rw (k, eq-eqb noRoute u (sym (eqb-true u noRoute k))) refl)
+    (λ k. rw (k, ne-eqb noRoute u (λ q. eqb-false u noRoute k (sym q))) refl))
+
+-- a tree with no label has none to give up
+pub relabel-none : (i u : ℕ) (c : Card) → useOf 0 c ≡ free → treeAt i c .label ≡ 0 → relabel i u c ≡ takeUp i u c
+unfolding relabel moveLabel letGo takeUp followedBy
+relabel-none i u c z e =
+    rw (zero-held c (treeAt i c) z e, eq-eqb (treeAt i c .label) 0 e)
+    (by-test (eqb u noRoute)
+    (λ k. rw (k, eq-eqb noRoute u (sym (eqb-true u noRoute k))) refl)
+    (λ k. rw (k, ne-eqb noRoute u (λ q. eqb-false u noRoute k (sym q))) (unfold still in refl)))
+
+snoc-at : (l : List Tree) (t d : Tree) → getD (l ++ (t ∷ [])) (length l) d ≡ t
+snoc-at [] t d = refl
+snoc-at (x ∷ l) t d = snoc-at l t d
+
+pub new-at : (c : Card) (t : Tree) (i : ℕ) → i ≡ length (c .trees) → treeAt i (withTrees (c .trees ++ (t ∷ [])) c) ≡ t
+unfolding treeAt withTrees
+new-at c t i e = rw e (snoc-at (c .trees) t (bare []))
+
+pub new-within : (c : Card) (t : Tree) (i : ℕ) → i ≡ length (c .trees) → i < length (withTrees (c .trees ++ (t ∷ [])) c .trees)
+unfolding withTrees
+new-within c t i e = rw (length-append (c .trees) (t ∷ [])) (omega arith)
+
+module _ (c : Card) (first : List Sent) (t : Tree) (i u : ℕ) (ei : i ≡ treePlace (t .name) c) (h : i ≡ length (c .trees)) (z : useOf 0 c ≡ free) (el : t .label ≡ 0) (eu : u ≡ upstreamOf c t) where
+  grown : Card
+  grown = withTrees (c .trees ++ (t ∷ [])) c
+
+  grown-zero : useOf 0 grown ≡ free
+  unfolding grown useOf withTrees
+  grown-zero = z
+
+  grown-is : enter c first t ≡ taken (first ++ takeUp i u (withTrees (c .trees ++ (t ∷ [])) c) .sent) (swept i (takeUp i u (withTrees (c .trees ++ (t ∷ [])) c) .card))
+  unfolding grown
+  grown-is =
+      enter-is c grown first t i u ei eu (entered-new c t i ei h)
+      ∙ ap (λ (m : Moved). taken (first ++ m .sent) (swept i (m .card))) (relabel-none i u grown grown-zero (ap (λ (s : Tree). s .label) (new-at c t i h) ∙ el))
+
+  full-new : isEmpty t ≡ false → treesFull c t ≡ leb treeLimit (length (c .trees))
+  unfolding treesFull stands
+  full-new e = rw (← ei, e, le-ltb i (length (c .trees)) (omega arith)) refl
+
+  pub become-new : isEmpty t ≡ false
+      → become c first t
+      ≡ unless (11 when leb treeLimit (length (c .trees)) else 12 when labelsShort c (needMove u) else 0)
+      (taken (first ++ takeUp i u (withTrees (c .trees ++ (t ∷ [])) c) .sent) (takeUp i u (withTrees (c .trees ++ (t ∷ [])) c) .card))
+  unfolding become treeRefusal
+  become-new e =
+      ap₂ (λ (b : Bool) (n : ℕ). unless (11 when b else 12 when labelsShort c n else 0) (enter c first t)) (full-new e) (rw (← eu) (need-none c t u z el))
+      ∙ ap (unless (11 when leb treeLimit (length (c .trees)) else 12 when labelsShort c (needMove u) else 0)) (grown-is ∙ ap (λ (d : Card). taken (first ++ takeUp i u (withTrees (c .trees ++ (t ∷ [])) c) .sent) d) kept)
+    where
+      kept : swept i (takeUp i u (withTrees (c .trees ++ (t ∷ [])) c) .card) ≡ takeUp i u (withTrees (c .trees ++ (t ∷ [])) c) .card
+      kept = unfold swept in rw (alike-empty _ _ (take-up-stays i (withTrees (c .trees ++ (t ∷ [])) c) (new-within c t i h) u .tree), new-at c t i h, e) refl
+
+bare-upstream : (c : Card) (a : List ℕ) → noRoute ≡ upstreamOf c (bare a)
+unfolding upstreamOf holder leadsOn notHeld bare
+bare-upstream c a = rw (any-zeros 16 (upstream (routeOf (rootIn a) c))) refl
+
+-- it becomes nothing: only what goes first is left
+pub bare-refusal : (c : Card) (a : List ℕ) → useOf 0 c ≡ free → treeRefusal c (bare a) ≡ 0
+bare-refusal c a z = unfold treeRefusal in rw (never-full, no-need) (unfold labelsShort _when_else_ in rw (le-ltb (freeLabels c) 0 zero-le) refl)
+  where
+    no-upstream : noRoute ≡ upstreamOf c (bare a)
+    no-upstream = bare-upstream c a
+
+    no-need : need c (bare a) (upstreamOf c (bare a)) ≡ 0
+    no-need = rw (← no-upstream) (need-none c (bare a) noRoute z (unfold bare in refl) ∙ unfold needMove in refl)
+
+    never-full : treesFull c (bare a) ≡ false
+    never-full = unfold treesFull bare isEmpty any isBranch in refl
+
+pub become-nothing : (c : Card) (first : List Sent) (a : List ℕ) → treePlace a c ≡ length (c .trees) → useOf 0 c ≡ free → become c first (bare a) ≡ taken first c
+unfolding become unless
+become-nothing c first a e z = ap₂ (λ (n : ℕ) (o : Outcome). unless n o) (bare-refusal c a z) entered-swept
+  where
+    no-upstream : noRoute ≡ upstreamOf c (bare a)
+    no-upstream = bare-upstream c a
+
+    gone : pick (isEmpty (bare a)) (withTrees (cut (withTrees (c .trees ++ (bare a ∷ [])) c .trees) (treePlace a c)) (withTrees (c .trees ++ (bare a ∷ [])) c)) (withTrees (c .trees ++ (bare a ∷ [])) c) ≡ c
+    gone = unfold isEmpty bare any isBranch withTrees in ap (λ (l : List Tree). withTrees l c) (cut-end (c .trees) (bare a) (treePlace a c) e)
+
+    shrunk : swept (treePlace a c) (withTrees (c .trees ++ (bare a ∷ [])) c) ≡ c
+    shrunk = unfold swept in rw (new-at c (bare a) (treePlace a c) e) gone
+
+    entered-swept : enter c first (bare a) ≡ taken first c
+    entered-swept =
+        grown-is c first (bare a) (treePlace a c) noRoute (unfold bare in refl) e z (unfold bare in refl) no-upstream
+        ∙ unfold takeUp still in ap₂ taken (append-nil first) shrunk
+
+-- ---- a new tree t, which is not empty
+
+module _ (c : Card) (t : Tree) (i u : ℕ) (ei : i ≡ treePlace (t .name) c) (h : i ≡ length (c .trees)) (z : useOf 0 c ≡ free) (el : t .label ≡ 0) (eu : u ≡ upstreamOf c t) (full : isEmpty t ≡ false) (s : List ℕ) where
+  abbrev larger : Card
+  larger = withTrees (c .trees ++ (t ∷ [])) c
+
+  pub larger-size : (id : ℕ) → length (records id (takeUp i u larger .sent)) ≡ needMove u * (24 + length (t .name))
+  larger-size id = take-up-size id i larger u ∙ rw (new-at c t i h) refl
+
+  pub new-full : 64 ≤ length (c .trees) → Does (finish (length s) c (become c [] t)) 11 0 s s c
+  new-full k = rw (become-new c [] t i u ei h z el eu full, le-leb 64 (length (c .trees)) k) (unfold _when_else_ unless in does-refused c 11 s)
+
+  pub new-labels : length (c .trees) < 64 → freeLabels c < needMove u → Does (finish (length s) c (become c [] t)) 12 0 s s c
+  new-labels k l = rw (become-new c [] t i u ei h z el eu full, lt-leb 64 (length (c .trees)) k) (unfold _when_else_ labelsShort in rw (lt-ltb (freeLabels c) (needMove u) l) (unfold unless in does-refused c 12 s))
+
+  taken-new : length (c .trees) < 64 → needMove u ≤ freeLabels c → become c [] t ≡ taken (takeUp i u larger .sent) (takeUp i u larger .card)
+  taken-new k l =
+      become-new c [] t i u ei h z el eu full
+      ∙ no-refusal (leb treeLimit (length (c .trees))) (labelsShort c (needMove u)) (lt-leb 64 (length (c .trees)) k) (unfold labelsShort in le-ltb (freeLabels c) (needMove u) l) _
+    where
+      no-refusal : (x y : Bool) → x ≡ false → y ≡ false → (o : Outcome) → unless (11 when x else 12 when y else 0) o ≡ o
+      no-refusal x y p q o = rw (p, q) (unfold _when_else_ unless in refl)
+
+  pub new-room : length (c .trees) < 64 → needMove u ≤ freeLabels c → length s < needMove u * (24 + length (t .name)) → Does (finish (length s) c (become c [] t)) 16 0 s s c
+  new-room k l m = rw (taken-new k l) (does-short c _ _ s (rw (larger-size (c .next)) m))
+
+  pub new-done : length (c .trees) < 64 → needMove u ≤ freeLabels c → needMove u * (24 + length (t .name)) ≤ length s
+      → (s' : List ℕ) (e : Card) (end : ℕ) → Ended (takeUp i u larger) (c .next) 0 s s' e end → Does (finish (length s) c (become c [] t)) 0 end s s' e
+  new-done k l m s' e end w = rw (taken-new k l) (does-ended c _ _ s s' e end (rw (larger-size (c .next)) m) w)
+
+-- ---- a new tree, by the number that `new_refusal` gives
+
+-- how the code tests them
+module _ (c : Card) (u size room n : ℕ) (e : n ≡ length (c .trees)) where
+  abbrev newNumber : ℕ
+  newNumber = 11 when leb 64 (length (c .trees)) else 12 when ltb (freeLabels c) (needMove u) else 16 when ltb room (needMove u * size) else 0
+
+  pub many-trees : 64 ≤ n → 11 ≡ newNumber
+  many-trees h = sym (when-1 11 12 16 _ (ltb (freeLabels c) (needMove u)) (ltb room (needMove u * size)) (le-leb 64 (length (c .trees)) (rw (← e) h)))
+
+  pub none-needed : n < 64 → u ≡ 17 → 0 ≡ newNumber
+  none-needed h z =
+      let q : needMove u ≡ 0 = unfold needMove in rw (eq-eqb u 17 z) refl in
+      sym (when-0 11 12 16 _ _ _ (lt-leb 64 (length (c .trees)) (rw (← e) h)) (le-ltb (freeLabels c) (needMove u) (omega arith)) (le-ltb room (needMove u * size) (rw q (omega arith))))
+
+  module _ (h : n < 64) (z : u ≡ 17 → ⊥) where
+    one-needed : needMove u ≡ 1
+    unfolding needMove
+    one-needed = rw (ne-eqb u 17 z) refl
+
+    few-trees : leb 64 (length (c .trees)) ≡ false
+    few-trees = lt-leb 64 (length (c .trees)) (rw (← e) h)
+
+    pub none-free : labelsShort c 1 ≡ true → 12 ≡ newNumber
+    unfolding labelsShort
+    none-free k = sym (when-2 11 12 16 _ _ (ltb room (needMove u * size)) few-trees (rw one-needed k))
+
+    module _ (k : labelsShort c 1 ≡ false) where
+      some-free : ltb (freeLabels c) (needMove u) ≡ false
+      unfolding labelsShort
+      some-free = rw one-needed k
+
+      pub no-room : room < size → 16 ≡ newNumber
+      no-room l = sym (when-3 11 12 16 _ _ _ few-trees some-free (lt-ltb room (needMove u * size) (rw one-needed (omega arith))))
+
+      pub all-fits : size ≤ room → 0 ≡ newNumber
+      all-fits l = sym (when-0 11 12 16 _ _ _ few-trees some-free (le-ltb room (needMove u * size) (rw one-needed (omega arith))))
+
+-- a new tree t is to hold a label for u
+pub record Newcomer (c : Card) (t : Tree) (a : List ℕ) (i u : ℕ) : Type 0 where
+  pub name : t .name ≡ a
+  pub place : i ≡ treePlace (t .name) c
+  pub last : i ≡ length (c .trees)
+  pub zero : useOf 0 c ≡ free
+  pub label : t .label ≡ 0
+  pub upstream : u ≡ upstreamOf c t
+  pub full : isEmpty t ≡ false
+
+module _ (c : Card) (t : Tree) (a : List ℕ) (i u : ℕ) (N : Newcomer c t a i u) (s : List ℕ) (size r : ℕ) (es : size ≡ 24 + length a)
+    (er : r ≡ 11 when leb 64 (length (c .trees)) else 12 when ltb (freeLabels c) (needMove u) else 16 when ltb (length s) (needMove u * size) else 0) where
+  sized : size ≡ 24 + length (t .name)
+  sized = es ∙ ap (λ (l : List ℕ). 24 + length l) (sym (N .name))
+
+  pub new-refused : (r ≡ 0 → ⊥) → Does (finish (length s) c (become c [] t)) r 0 s s c
+  new-refused some =
+      by-test (leb 64 (length (c .trees)))
+      (λ x. rw (er ∙ when-1 11 12 16 _ _ _ x) (new-full c t i u (N .place) (N .last) (N .zero) (N .label) (N .upstream) (N .full) s (leb-true _ _ x)))
+      (λ x. by-test (ltb (freeLabels c) (needMove u))
+      (λ y. rw (er ∙ when-2 11 12 16 _ _ _ x y) (new-labels c t i u (N .place) (N .last) (N .zero) (N .label) (N .upstream) (N .full) s (leb-false _ _ x) (ltb-true _ _ y)))
+      (λ y. by-test (ltb (length s) (needMove u * size))
+      (λ z. rw (er ∙ when-3 11 12 16 _ _ _ x y z) (new-room c t i u (N .place) (N .last) (N .zero) (N .label) (N .upstream) (N .full) s (leb-false _ _ x) (ltb-false _ _ y) (rw sized at (ltb-true (length s) (needMove u * size) z))))
+      (λ z. absurd (some (er ∙ when-0 11 12 16 _ _ _ x y z)))))
+
+  pub new-passes : r ≡ 0 → (length (c .trees) < 64) × (needMove u ≤ freeLabels c) × (needMove u * size ≤ length s)
+  new-passes q =
+      by-test (leb 64 (length (c .trees)))
+      (λ x. absurd (omega (arith, er, when-1 11 12 16 _ (ltb (freeLabels c) (needMove u)) (ltb (length s) (needMove u * size)) x)))
+      (λ x. by-test (ltb (freeLabels c) (needMove u))
+      (λ y. absurd (omega (arith, er, when-2 11 12 16 _ _ (ltb (length s) (needMove u * size)) x y)))
+      (λ y. by-test (ltb (length s) (needMove u * size))
+      (λ z. absurd (omega (arith, er, when-3 11 12 16 _ _ _ x y z)))
+      (λ z. (leb-false _ _ x, ltb-false _ _ y, ltb-false _ _ z))))
+
+  -- what `grow` asks, and what it does
+  pub few-trees-stand : r ≡ 0 → length (c .trees) < 64
+  few-trees-stand q = new-passes q .0
+
+  pub grow-ready : r ≡ 0 → (id : ℕ) (ns os : List ℕ) → cardOf ns os ≡ withTrees (c .trees ++ (t ∷ [])) c
+      → (i < treeCount ns) × (needMove u ≤ freeLabels (cardOf ns os)) × (length (records id (takeUp i u (cardOf ns os) .sent)) ≤ length s)
+  grow-ready q id ns os e =
+      let p = new-passes q in
+      (rw (count-is ns os _ e) (new-within c t i (N .last)), rw e (unfold freeLabels withTrees in p .1), rw (e, larger-size c t i u (N .place) (N .last) (N .zero) (N .label) (N .upstream) (N .full) s id) (rw sized at (p .2)))
+
+  pub grown-done : r ≡ 0 → (id : ℕ) (d : Card) (s' : List ℕ) (e : Card) (end : ℕ) → id ≡ c .next → d ≡ withTrees (c .trees ++ (t ∷ [])) c
+      → Ended (takeUp i u d) id 0 s s' e end → Does (finish (length s) c (become c [] t)) 0 end s s' e
+  grown-done q id d s' e end en ed w =
+      let p = new-passes q in
+      new-done c t i u (N .place) (N .last) (N .zero) (N .label) (N .upstream) (N .full) s (p .0) (p .1) (rw sized at (p .2)) s' e end
+      (subst (λ (n : ℕ). Ended (takeUp i u (withTrees (c .trees ++ (t ∷ [])) c)) n 0 s s' e end) en (subst (λ (x : Card). Ended (takeUp i u x) id 0 s s' e end) ed w))
+
+-- the tree that was entered bare gets its branch, or its leaf
+set-snoc : (l : List Tree) (x y : Tree) → set (l ++ (x ∷ [])) (length l) y ≡ l ++ (y ∷ [])
+set-snoc [] x y = refl
+set-snoc (z ∷ l) x y = ap (λ (k : List Tree). z ∷ k) (set-snoc l x y)
+
+pub entered-changed : (c d : Card) (a : List ℕ) (i : ℕ) (f : Tree → Tree) → i ≡ length (c .trees) → d ≡ withTrees (c .trees ++ (bare a ∷ [])) c
+    → withTrees (set (d .trees) i (f (treeAt i d))) d ≡ withTrees (c .trees ++ (f (bare a) ∷ [])) c
+entered-changed c d a i f h e =
+    rw (e, new-at c (bare a) i h)
+    (unfold withTrees in ap (λ (l : List Tree). withTrees l c) (rw h (set-snoc (c .trees) (bare a) (f (bare a)))))
+
+pub snoc-length : (c : Card) (a : List ℕ) → length (withTrees (c .trees ++ (bare a ∷ [])) c .trees) ≡ length (c .trees) + 1
+unfolding withTrees
+snoc-length c a = length-append (c .trees) (bare a ∷ [])

@@ -1,0 +1,138 @@
+// What the events of one tree share: for whom it is to hold a label, what refuses it, and how it ends.
+ghost use mathlib.Core.Path.{_≡_};
+ghost use mathlib.Core.List.{List};
+ghost use Prim.Native.Nat.{ℕ, _+_, _*_, _≤_, _<_};
+ghost use lib.ListN.{length};
+ghost use lib.Dec.{leb, ltb};
+ghost use Rattle.meaning.specs.Octets.{_when_else_};
+ghost use Rattle.meaning.specs.Wire.{records, recordLimit};
+ghost use Rattle.meaning.specs.Card.{treeAt, withBranch, withLeaf, bare, freeLabels};
+ghost use Rattle.meaning.specs.Events.{relabel, takeUp, needMove, need, labelsShort, upstreamOf};
+ghost use Rattle.memory.specs.Sizes.{Numbers, Names};
+ghost use Rattle.memory.specs.Memory.{cardOf, treeCount};
+ghost use Rattle.event_holder.specs.Move.{relabelSize};
+ghost use Rattle.event_tree.specs.End.{Ended, thenCut};
+
+// ---- for whom it is to hold a label
+
+// The neighbour that the tree at place i holds a label for, once neighbour n's branch is x; 17 for none.
+pub fn branch_holder(numbers: &[u64], names: &[u8], i: usize, n: usize, x: u64) -> u64
+    requires { ⌜ Numbers (now numbers) × Names (now names) × (i < treeCount (now numbers)) × (i < 64) ⌝ }
+    ensures { λ r. ⌜ (r ≡ upstreamOf (cardOf (now (numbers .entry)) (now (names .entry))) (withBranch n x (treeAt i (cardOf (now (numbers .entry)) (now (names .entry)))))) × (r ≤ 17) × (r ≡ 16 → ⊥) ⌝ }
+{
+    let u = event_holder::upstream_of(numbers, names, memory_trees::tree_name(names, i));
+    event_holder::holder_then(numbers, i, n, x, memory_trees::is_leaf(numbers, i), u)
+}
+
+// The same, once its leaf mark is `leaf`.
+pub fn leaf_holder(numbers: &[u64], names: &[u8], i: usize, leaf: bool) -> u64
+    requires { ⌜ Numbers (now numbers) × Names (now names) × (i < treeCount (now numbers)) × (i < 64) ⌝ }
+    ensures { λ r. ⌜ (r ≡ upstreamOf (cardOf (now (numbers .entry)) (now (names .entry))) (withLeaf leaf (treeAt i (cardOf (now (numbers .entry)) (now (names .entry)))))) × (r ≤ 17) × (r ≡ 16 → ⊥) ⌝ }
+{
+    let u = event_holder::upstream_of(numbers, names, memory_trees::tree_name(names, i));
+    event_holder::holder_then(numbers, i, 16, 0, leaf, u)
+}
+
+// The neighbour that a new tree holds a label for, whose only branch is that of neighbour n; 17 for none.
+pub fn new_holder(numbers: &[u64], names: &[u8], name: &[u8], n: usize) -> u64
+    requires { ⌜ Numbers (now numbers) × Names (now names) × (n < 16) ⌝ }
+    ensures { λ r. ⌜ ((l : ℕ) → 0 < l → r ≡ upstreamOf (cardOf (now (numbers .entry)) (now (names .entry))) (withBranch n l (bare (now (name .entry))))) × (r ≤ 17) × (r ≡ 16 → ⊥) ⌝ }
+{
+    let u = event_holder::upstream_of(numbers, names, name);
+    if u == n as u64 {
+        return 17;
+    }
+    u
+}
+
+// ---- what refuses it
+
+// 12 and 16 for the tree at place i, which is to hold a label for u; `first` octets are written before its own records.
+pub fn standing_refusal(
+    numbers: &[u64],
+    names: &[u8],
+    i: usize,
+    u: u64,
+    first: usize,
+    room: usize,
+) -> u32
+    requires { ⌜ Numbers (now numbers) × Names (now names) × (i < treeCount (now numbers)) × (i < 64) × (first ≤ recordLimit) ⌝ }
+    ensures { λ r. ⌜ r ≡ 12 when labelsShort (cardOf (now (numbers .entry)) (now (names .entry))) (need (cardOf (now (numbers .entry)) (now (names .entry))) (treeAt i (cardOf (now (numbers .entry)) (now (names .entry)))) u)
+        else 16 when ltb room (first + relabelSize (cardOf (now (numbers .entry)) (now (names .entry))) (treeAt i (cardOf (now (numbers .entry)) (now (names .entry)))) u) else 0 ⌝ }
+{
+    if event_holder::labels_short(numbers, i, u) {
+        return 12;
+    }
+    if room < first + event_holder::relabel_size(numbers, names, i, u) {
+        return 16;
+    }
+    0
+}
+
+// 11, 12 and 16 for a new tree that is to hold a label for u.
+pub fn new_refusal(numbers: &[u64], u: u64, size: usize, room: usize) -> u32
+    requires { ⌜ Numbers (now numbers) ⌝ }
+    ensures { λ r. ⌜ ((os : List ℕ) → r ≡ 11 when leb 64 (length (cardOf (now (numbers .entry)) os .trees))
+        else 12 when ltb (freeLabels (cardOf (now (numbers .entry)) os)) (needMove u) else 16 when ltb room (needMove u * size) else 0) ⌝ }
+{
+    if 64 <= memory::tree_count(numbers) {
+        return 11;
+    }
+    if u == 17 {
+        return 0;
+    }
+    if memory_labels::labels_short(numbers, 1) {
+        return 12;
+    }
+    if room < size { 16 } else { 0 }
+}
+
+// ---- how it ends
+
+// The tree at place i is as it is to be, but for its label; where it is empty it goes.
+pub fn settle(
+    numbers: &mut [u64],
+    names: &mut [u8],
+    i: usize,
+    u: u64,
+    empty: bool,
+    out: &mut [u8],
+    at: usize,
+    id: u32,
+) -> usize
+    requires { ⌜ Numbers (now numbers) × Names (now names) × (i < treeCount (now numbers)) × (i < 64) × (u ≤ 17) × (u ≡ 16 → ⊥)
+        × (need (cardOf (now numbers) (now names)) (treeAt i (cardOf (now numbers) (now names))) u ≤ freeLabels (cardOf (now numbers) (now names)))
+        × (at + relabelSize (cardOf (now numbers) (now names)) (treeAt i (cardOf (now numbers) (now names))) u ≤ length (now out)) ⌝ }
+    ensures { λ r. ⌜ Ended (thenCut empty i (relabel i u (cardOf (now (numbers .entry)) (now (names .entry))))) id at (now (out .entry)) (now (out .exit)) (cardOf (now (numbers .exit)) (now (names .exit))) r ⌝ }
+{
+    let w = event_move::relabel(numbers, names, i, u, out, at, id);
+    let next = w.id;
+    let end = w.at;
+    if empty {
+        memory_rows::remove_tree(numbers, names, i);
+        memory::set_next_id(numbers, next);
+        return end;
+    }
+    memory::set_next_id(numbers, next);
+    end
+}
+
+// The newest tree, at place i, is given its label.
+pub fn grow(
+    numbers: &mut [u64],
+    names: &mut [u8],
+    i: usize,
+    u: u64,
+    out: &mut [u8],
+    id: u32,
+) -> usize
+    requires { ⌜ Numbers (now numbers) × Names (now names) × (i < treeCount (now numbers)) × (i < 64) × (u ≤ 17) × (u ≡ 16 → ⊥)
+        × (needMove u ≤ freeLabels (cardOf (now numbers) (now names)))
+        × (length (records id (takeUp i u (cardOf (now numbers) (now names)) .sent)) ≤ length (now out)) ⌝ }
+    ensures { λ r. ⌜ Ended (takeUp i u (cardOf (now (numbers .entry)) (now (names .entry)))) id 0 (now (out .entry)) (now (out .exit)) (cardOf (now (numbers .exit)) (now (names .exit))) r ⌝ }
+{
+    let w = event_move::take_up(numbers, names, i, u, out, 0, id);
+    let next = w.id;
+    memory::set_next_id(numbers, next);
+    w.at
+}

@@ -1,0 +1,377 @@
+-- The card after a tree or a route has come or gone, and at the start. Assumes nothing.
+use Prim.Native.Nat.{ℕ, zero, suc, _+_, _*_, _-_, _/_, _%_, _≤_, _<_, suc-le-suc, zero-le}
+use native.Mathlib.Nat.{add-zero}
+use native.Mathlib.Omega.{arith}
+use mathlib.Core.Path.{_≡_, refl, sym, ap, _∙_}
+use mathlib.Core.Bool.{Bool, true}
+use mathlib.Core.List.{List, [], _∷_, _++_}
+use lib.ListN.{length, getD, set, replicate, length-set, length-replicate}
+use lib.Seq.{getD-set-same, getD-set-other}
+use borrow.Author.Tests.{le-leb}
+use Rattle.meaning.specs.Octets.{place, put, cut}
+use Rattle.meaning.specs.Wire.{rootLimit, nameLimit}
+use Rattle.meaning.specs.Lists.{picked, place-finds, same-eq}
+use Rattle.meaning.specs.Card.{Route, Tree, Use, Card, free, labelCount, fresh, withRoutes, withTrees, withLabels, bare, isFor, routePlace, treeLimit, routeLimit}
+use Rattle.meaning.specs.Events.{baseOutside}
+use Rattle.octets.specs.Part.{tab}
+use Rattle.octets.proofs.Tab.{tab-length, tab-get, tab-ext, tab-set, tab-snoc, tab-cut, put-in, put-end}
+use Rattle.octets.proofs.Bits.{all-set}
+use Rattle.memory.specs.Sizes.{rootSpace, nameSpace, routeColumn, ownColumn, rowWidth, rowColumn, branchColumn, rowNumbers, markColumn, wordColumn, wordCount, labelNumbers, rootOctets, rootNames, Numbers}
+use Rattle.memory.specs.Memory.{upTo, textAt, treeName, rootName, baseIn, nextIn, routeCount, treeCount, routeIn, wordAt, isFreeAt, labelIn, ownPlace, ownLabel, treeIn, cardOf}
+use Rattle.memory.proofs.Memory.{upTo-le, upTo-in, Agree, base-same, next-same, route-same, routes-same, free-same, own-same, own-kept, tree-same, trees-same, label-same, labels-same, agree-refl, agree-set}
+use Rattle.memory.proofs.Marks.{label-free, not-far, own-none}
+use Rattle.memory_rows.specs.Parts.{Written, Closed, Lowered}
+use Rattle.memory_rows.proofs.Parts.{Carries, lower, text-carried, text-put}
+
+-- ---- the rest of the card
+
+module _ (ns ns' os os' : List ℕ) where
+  -- the memory of all but the trees and the labels is as it was
+  pub but-rows : (ts : List Tree) (ls : List Use) → Agree 0 3 ns ns' → Agree routeColumn routeLimit ns ns' → Agree rootNames rootOctets os os' → tab (treeCount ns') (treeIn ns' os') ≡ ts → tab labelCount (labelIn ns' os') ≡ ls → cardOf ns' os' ≡ withTrees ts (withLabels ls (cardOf ns os))
+  unfolding cardOf withTrees withLabels
+  but-rows ts ls head vias roots trees labels =
+      let b : baseIn ns' ≡ baseIn ns = base-same ns ns' os os' (λ j x y. head j (omega arith) (omega arith)) in
+      let n : nextIn ns' ≡ nextIn ns = next-same ns ns' os os' (λ j x y. head j (omega arith) (omega arith)) in
+      let r : tab (routeCount ns') (routeIn ns' os') ≡ tab (routeCount ns) (routeIn ns os) = routes-same ns ns' os os' (λ j x y. head j (omega arith) (omega arith)) vias roots in
+      cc
+
+  -- of all but the trees
+  pub but-trees : (ts : List Tree) → Agree 0 3 ns ns' → Agree routeColumn routeLimit ns ns' → Agree rootNames rootOctets os os' → ((p : ℕ) → p < 256 → labelIn ns' os' p ≡ labelIn ns os p) → tab (treeCount ns') (treeIn ns' os') ≡ ts → cardOf ns' os' ≡ withTrees ts (cardOf ns os)
+  but-trees ts head vias roots labels trees =
+      but-rows ts (tab labelCount (labelIn ns os)) head vias roots trees (tab-ext labelCount (labelIn ns' os') (labelIn ns os) labels) ∙ unfold cardOf withTrees withLabels in refl
+
+  -- and of all but the routes
+  but-routes : (rs : List Route) → Agree 0 2 ns ns' → Agree 3 1 ns ns' → Agree ownColumn (treeLimit + rowNumbers + labelNumbers) ns ns' → Agree 0 rootNames os os' → tab (routeCount ns') (routeIn ns' os') ≡ rs → cardOf ns' os' ≡ withRoutes rs (cardOf ns os)
+  unfolding cardOf withRoutes
+  but-routes rs head count rows names routes =
+      let b : baseIn ns' ≡ baseIn ns = base-same ns ns' os os' (λ j x y. head j (omega arith) (omega arith)) in
+      let n : nextIn ns' ≡ nextIn ns = next-same ns ns' os os' (λ j x y. head j (omega arith) (omega arith)) in
+      let t : tab (treeCount ns') (treeIn ns' os') ≡ tab (treeCount ns) (treeIn ns os) = trees-same ns ns' os os' (λ j x y. head j (omega arith) (omega arith)) count (λ j x y. rows j (omega arith) (omega arith)) (λ j x y. rows j (omega arith) (omega arith)) (λ j x y. rows j (omega arith) (omega arith)) (λ j x y. names j (omega arith) (omega arith)) in
+      let l : tab labelCount (labelIn ns' os') ≡ tab labelCount (labelIn ns os) = labels-same ns ns' os os' (λ j x y. rows j (omega arith) (omega arith)) (λ j x y. names j (omega arith) (omega arith)) in
+      cc
+
+  -- ---- rows that stand at another place
+
+  route-carried : (i j : ℕ) → Carries (routeColumn + i) (routeColumn + j) 1 ns ns' → Carries (rootNames + i * rootSpace) (rootNames + j * rootSpace) rootSpace os os' → routeIn ns' os' j ≡ routeIn ns os i
+  unfolding routeIn rootName
+  route-carried i j v r =
+      let via : getD ns' (routeColumn + j) 0 ≡ getD ns (routeColumn + i) 0 = simp add-zero at (v 0 (omega arith)) in
+      let root : textAt rootLimit os' (rootNames + j * rootSpace) ≡ textAt rootLimit os (rootNames + i * rootSpace) = text-carried rootLimit (rootNames + i * rootSpace) (rootNames + j * rootSpace) os os' r in
+      cc
+
+  tree-carried : (i j : ℕ) → ownLabel ns' j (ownPlace ns' j) ≡ ownLabel ns i (ownPlace ns i) → Carries (rowColumn + i * rowWidth) (rowColumn + j * rowWidth) rowWidth ns ns' → Carries (i * nameSpace) (j * nameSpace) nameSpace os os' → treeIn ns' os' j ≡ treeIn ns os i
+  unfolding treeIn treeName
+  tree-carried i j l r n =
+      let name : textAt nameLimit os' (j * nameSpace) ≡ textAt nameLimit os (i * nameSpace) = text-carried nameLimit (i * nameSpace) (j * nameSpace) os os' n in
+      let branches : tab 16 (λ k. getD ns' (branchColumn + j * rowWidth + k) 0) ≡ tab 16 (λ k. getD ns (branchColumn + i * rowWidth + k) 0) =
+      tab-ext 16 _ _ (λ k lt.
+      let x : branchColumn + j * rowWidth + k ≡ rowColumn + j * rowWidth + (1 + k) = omega arith in
+      let y : rowColumn + i * rowWidth + (1 + k) ≡ branchColumn + i * rowWidth + k = omega arith in
+      ap (λ (m : ℕ). getD ns' m 0) x ∙ r (1 + k) (omega arith) ∙ ap (λ (m : ℕ). getD ns m 0) y) in
+      let leaf : getD ns' (rowColumn + j * rowWidth) 0 ≡ getD ns (rowColumn + i * rowWidth) 0 = simp add-zero at (r 0 (omega arith)) in
+      cc
+
+-- ---- the start
+
+zeros : (n m : ℕ) → _≡_ {A = ℕ} (getD (replicate n 0) m 0) 0
+zeros zero m = refl
+zeros (suc n) zero = refl
+zeros (suc n) (suc m) = zeros n m
+
+tab-replicate : {A : Type 0} (n : ℕ) (f : ℕ → A) (v : A) → ((i : ℕ) → i < n → f i ≡ v) → tab n f ≡ replicate n v
+unfolding tab
+tab-replicate zero f v h = refl
+tab-replicate (suc n) f v h = cc (h zero (suc-le-suc zero-le), tab-replicate n (λ i. f (suc i)) v (λ i k. h (suc i) (suc-le-suc k)))
+
+base-in : (ns : List ℕ) (b : ℕ) → getD ns 0 0 ≡ b → 16 ≤ b → b ≤ 1048320 → baseIn ns ≡ b
+unfolding baseIn baseOutside
+base-in ns b e l h = rw (e, le-leb 16 b l, le-leb b 1048320 h) refl
+
+no-rows : (ns os : List ℕ) → getD ns 2 0 ≡ 0 → getD ns 3 0 ≡ 0 → (tab (routeCount ns) (routeIn ns os) ≡ []) × (tab (treeCount ns) (treeIn ns os) ≡ [])
+unfolding tab routeCount treeCount upTo
+no-rows ns os r t = (rw r refl, rw t refl)
+
+-- the four words alike
+words : (ns : List ℕ) (v : ℕ) → wordAt ns 0 ≡ v → wordAt ns 1 ≡ v → wordAt ns 2 ≡ v → wordAt ns 3 ≡ v → (w : ℕ) → w < wordCount → wordAt ns w ≡ v
+words ns v a b c d zero h = a
+words ns v a b c d (suc zero) h = b
+words ns v a b c d (suc (suc zero)) h = c
+words ns v a b c d (suc (suc (suc zero))) h = d
+words ns v a b c d (suc (suc (suc (suc w)))) h = absurd (omega arith)
+
+-- all set: every label is free
+all-free : (ns : List ℕ) → ((w : ℕ) → w < wordCount → wordAt ns w ≡ 18446744073709551615) → (p : ℕ) → p < 256 → isFreeAt ns p ≡ true
+unfolding isFreeAt
+all-free ns h p lt = rw (h (p / 64) (omega arith)) (all-set (p % 64) (omega arith))
+
+abbrev pub full : ℕ → List ℕ → List ℕ
+full v ns = set (set (set (set ns wordColumn v) (wordColumn + 1) v) (wordColumn + 2) v) (wordColumn + 3) v
+
+full-word : (ns : List ℕ) (v : ℕ) → Numbers ns → (w : ℕ) → w < wordCount → wordAt (full v ns) w ≡ v
+full-word ns v l =
+    words (full v ns) v
+    (getD-set-other c (wordColumn + 3) wordColumn v 0 (λ q. omega arith) ∙ getD-set-other b (wordColumn + 2) wordColumn v 0 (λ q. omega arith) ∙ getD-set-other a (wordColumn + 1) wordColumn v 0 (λ q. omega arith) ∙ getD-set-same ns wordColumn v 0 (omega arith))
+    (getD-set-other c (wordColumn + 3) (wordColumn + 1) v 0 (λ q. omega arith) ∙ getD-set-other b (wordColumn + 2) (wordColumn + 1) v 0 (λ q. omega arith) ∙ getD-set-same a (wordColumn + 1) v 0 (simp length-set (omega arith)))
+    (getD-set-other c (wordColumn + 3) (wordColumn + 2) v 0 (λ q. omega arith) ∙ getD-set-same b (wordColumn + 2) v 0 (simp length-set (omega arith)))
+    (getD-set-same c (wordColumn + 3) v 0 (simp length-set (omega arith)))
+  where
+    a : List ℕ
+    a = set ns wordColumn v
+
+    b : List ℕ
+    b = set a (wordColumn + 1) v
+
+    c : List ℕ
+    c = set b (wordColumn + 2) v
+
+full-rest : (ns : List ℕ) (v j : ℕ) → j < wordColumn → getD (full v ns) j 0 ≡ getD ns j 0
+full-rest ns v j h =
+    getD-set-other (set (set (set ns wordColumn v) (wordColumn + 1) v) (wordColumn + 2) v) (wordColumn + 3) j v 0 (λ q. omega arith)
+    ∙ getD-set-other (set (set ns wordColumn v) (wordColumn + 1) v) (wordColumn + 2) j v 0 (λ q. omega arith)
+    ∙ getD-set-other (set ns wordColumn v) (wordColumn + 1) j v 0 (λ q. omega arith)
+    ∙ getD-set-other ns wordColumn j v 0 (λ q. omega arith)
+
+pub start-fresh : (ns zs os : List ℕ) (base : ℕ) → Numbers ns → 16 ≤ base → base ≤ 1048320 → zs ≡ replicate (length ns) 0 → cardOf (full 18446744073709551615 (set (set zs 0 base) 1 1)) os ≡ fresh base
+unfolding cardOf fresh nextIn
+start-fresh ns zs os base h lo hi e =
+    let long : Numbers zs = rw e (length-replicate (length ns) 0 ∙ h) in
+    let b : baseIn ms ≡ base = base-in ms base (full-rest ks v 0 (omega arith) ∙ getD-set-other (set zs 0 base) 1 0 1 0 (λ q. omega arith) ∙ getD-set-same zs 0 base 0 (omega arith)) lo hi in
+    let n : getD ms 1 0 ≡ 1 = full-rest ks v 1 (omega arith) ∙ getD-set-same (set zs 0 base) 1 1 0 (rw length-set (omega arith)) in
+    let none = no-rows ms os (rest 2 (omega arith) (omega arith)) (rest 3 (omega arith) (omega arith)) in
+    let r : tab (routeCount ms) (routeIn ms os) ≡ [] = none .0 in
+    let t : tab (treeCount ms) (treeIn ms os) ≡ [] = none .1 in
+    let l : tab labelCount (labelIn ms os) ≡ replicate labelCount free = tab-replicate labelCount (labelIn ms os) free (λ p lt. label-free ms p os (all-free ms (full-word ks v (simp length-set long)) p lt)) in
+    cc
+  where
+    v : ℕ
+    v = 18446744073709551615
+
+    ks : List ℕ
+    ks = set (set zs 0 base) 1 1
+
+    ms : List ℕ
+    ms = full v ks
+
+    rest : (j : ℕ) → 2 ≤ j → j < wordColumn → getD ms j 0 ≡ 0
+    rest j k h = full-rest ks v j h ∙ getD-set-other (set zs 0 base) 1 j 1 0 (λ q. omega arith) ∙ getD-set-other zs 0 j base 0 (λ q. omega arith) ∙ ap (λ (l : List ℕ). getD l j 0) e ∙ zeros (length ns) j
+
+-- ---- a row goes
+
+pub remove-route : (ns vs os qs : List ℕ) (i n : ℕ) → Numbers ns → n ≡ routeCount ns → i < n
+    → Closed (routeColumn + i) (routeColumn + n) 1 ns vs → Closed (rootNames + i * rootSpace) (rootNames + n * rootSpace) rootSpace os qs
+    → cardOf (set vs 2 (n - 1)) qs ≡ withRoutes (cut (cardOf ns os .routes) i) (cardOf ns os)
+unfolding routeCount cardOf
+remove-route ns vs os qs i n hl hn hi cv cr =
+    but-routes ns ms os qs _
+    (λ j x y. keep j (λ e. omega arith) (λ u v. omega arith))
+    (λ j x y. keep j (λ e. omega arith) (λ u v. omega arith))
+    (λ j x y. keep j (λ e. omega arith) (λ u v. omega (arith, limit)))
+    (λ j x y. cr .rest j (λ u v. omega arith))
+    (rw (count, ← hn)
+    (tab-cut n i (routeIn ns os) (routeIn ms qs) (record { root = []; via = 0 }) hi
+    (λ j lt. route-same ns ms os qs j (λ k x y. keep k (λ e. omega arith) (λ u v. omega arith)) (λ k x y. cr .rest k (λ u v. omega arith)))
+    (λ j le lt. route-carried ns ms os qs (j + 1) j (λ k h. getD-set-other vs 2 (routeColumn + j + k) (n - 1) 0 (λ e. omega arith) ∙ lower (routeColumn + i) (routeColumn + n) 1 (4 + (j + 1)) (routeColumn + j) 1 ns vs cv (omega arith) (omega arith) (omega arith) k h)
+    (lower (rootNames + i * rootSpace) (rootNames + n * rootSpace) rootSpace (rootNames + (j + 1) * rootSpace) (rootNames + j * rootSpace) rootSpace os qs cr (omega arith) (omega arith) (omega arith)))))
+  where
+    ms : List ℕ
+    ms = set vs 2 (n - 1)
+
+    limit : n ≤ 32
+    limit = omega (arith, upTo-le 32 (getD ns 2 0))
+
+    count : upTo 32 (getD ms 2 0) ≡ n - 1
+    count = ap (upTo 32) (getD-set-same vs 2 (n - 1) 0 (omega (arith, cv .long))) ∙ upTo-in 32 (n - 1) (omega (arith, limit))
+
+    keep : (j : ℕ) → (j ≡ 2 → ⊥) → (routeColumn + i ≤ j → j < routeColumn + n → ⊥) → getD ms j 0 ≡ getD ns j 0
+    keep j ne out = getD-set-other vs 2 j (n - 1) 0 ne ∙ cv .rest j out
+
+pub remove-tree : (ns ks ls rs os qs : List ℕ) (i n : ℕ) → Numbers ns → n ≡ treeCount ns → i < n → Lowered i (n - 1) ns ks
+    → Closed (ownColumn + i) (ownColumn + n) 1 ks ls → Closed (rowColumn + i * rowWidth) (rowColumn + n * rowWidth) rowWidth ls rs → Closed (i * nameSpace) (n * nameSpace) nameSpace os qs
+    → cardOf (set rs 3 (n - 1)) qs ≡ withTrees (cut (cardOf ns os .trees) i) (cardOf ns os)
+unfolding treeCount cardOf
+remove-tree ns ks ls rs os qs i n hl hn hi lo cl cr cn =
+    but-trees ns ms os qs _
+    (λ j x y. keep j (λ e. omega arith) (λ u v. omega arith) (λ u v. omega arith) (λ u v. omega arith))
+    (λ j x y. keep j (λ e. omega arith) (λ u v. omega arith) (λ u v. omega arith) (λ u v. omega arith))
+    (λ j x y. cn .rest j (λ u v. omega (arith, limit)))
+    (λ p h. label-same ks ms os qs p (behind (markColumn + p) (omega arith)) (frees p h) (λ j x y. cn .rest j (λ u v. omega (arith, limit))) ∙ lo .uses os p h)
+    (rw (count, ← hn) (tab-cut n i (treeIn ns os) (treeIn ms qs) (bare []) hi low high))
+  where
+    ms : List ℕ
+    ms = set rs 3 (n - 1)
+
+    limit : n ≤ 64
+    limit = omega (arith, upTo-le 64 (getD ns 3 0))
+
+    count : upTo 64 (getD ms 3 0) ≡ n - 1
+    count = ap (upTo 64) (getD-set-same rs 3 (n - 1) 0 (omega (arith, lo .long, cl .long, cr .long))) ∙ upTo-in 64 (n - 1) (omega (arith, limit))
+
+    -- outside the gaps and the count: what was made ready
+    ready : (j : ℕ) → (j ≡ 3 → ⊥) → (ownColumn + i ≤ j → j < ownColumn + n → ⊥) → (rowColumn + i * rowWidth ≤ j → j < rowColumn + n * rowWidth → ⊥) → getD ms j 0 ≡ getD ks j 0
+    ready j ne out off = getD-set-other rs 3 j (n - 1) 0 ne ∙ cr .rest j off ∙ cl .rest j out
+
+    behind : (j : ℕ) → markColumn ≤ j → getD ms j 0 ≡ getD ks j 0
+    behind j h = ready j (λ e. omega arith) (λ u v. omega (arith, limit)) (λ u v. omega (arith, limit))
+
+    frees : (p : ℕ) → p < 256 → isFreeAt ms p ≡ isFreeAt ks p
+    frees = free-same ks ms os os (λ j x y. behind j (omega arith))
+
+    keep : (j : ℕ) → (j ≡ 3 → ⊥) → (ownColumn ≤ j → j < rowColumn → ⊥) → (markColumn ≤ j → j < wordColumn → ⊥) → (rowColumn + i * rowWidth ≤ j → j < rowColumn + n * rowWidth → ⊥) → getD ms j 0 ≡ getD ns j 0
+    keep j ne own mark off = ready j ne (λ u v. own (omega arith) (omega (arith, limit))) off ∙ lo .rest j own mark
+
+    -- the label that a tree carries, by the place that it has for its own
+    carried : (j p : ℕ) → ownLabel ms j p ≡ ownLabel ks j p
+    carried j p = own-same ks ms os os j p (λ k x y. ready k (λ e. omega arith) (λ u v. omega arith) (λ u v. omega arith)) (λ h. behind (markColumn + p) (omega arith)) (λ h. frees p h)
+
+    low : (j : ℕ) → j < i → treeIn ms qs j ≡ treeIn ns os j
+    low j lt =
+        let o : ownPlace ms j ≡ ownPlace ks j = ready (ownColumn + j) (λ e. omega arith) (λ u v. omega arith) (λ u v. omega (arith, limit)) in
+        tree-same ns ms os qs j
+        (rw o (carried j (ownPlace ks j) ∙ lo .before j lt (omega (arith, limit))))
+        (λ k x y. keep k (λ e. omega arith) (λ u v. omega arith) (λ u v. omega (arith, limit)) (λ u v. omega arith))
+        (λ k x y. cn .rest k (λ u v. omega arith))
+
+    high : (j : ℕ) → i ≤ j → j + 1 < n → treeIn ms qs j ≡ treeIn ns os (j + 1)
+    high j le lt =
+        let o : ownPlace ms j ≡ ownPlace ks (j + 1) =
+        getD-set-other rs 3 (ownColumn + j) (n - 1) 0 (λ e. omega arith) ∙ cr .rest (ownColumn + j) (λ u v. omega (arith, limit))
+        ∙ cl .down (ownColumn + j) (omega arith) (omega arith) ∙ ap (λ (k : ℕ). getD ks k 0) (let e : ownColumn + j + 1 ≡ ownColumn + (j + 1) = omega arith in e) in
+        tree-carried ns ms os qs (j + 1) j
+        (rw o (carried j (ownPlace ks (j + 1)) ∙ lo .moved j le (omega arith)))
+        (λ k h. getD-set-other rs 3 (rowColumn + j * rowWidth + k) (n - 1) 0 (λ e. omega arith)
+        ∙ lower (rowColumn + i * rowWidth) (rowColumn + n * rowWidth) rowWidth (rowColumn + (j + 1) * rowWidth) (rowColumn + j * rowWidth) rowWidth ls rs cr (omega arith) (omega arith) (omega arith) k h
+        ∙ cl .rest (rowColumn + (j + 1) * rowWidth + k) (λ u v. omega (arith, limit))
+        ∙ lo .rest (rowColumn + (j + 1) * rowWidth + k) (λ u v. omega arith) (λ u v. omega (arith, limit)))
+        (lower (i * nameSpace) (n * nameSpace) nameSpace ((j + 1) * nameSpace) (j * nameSpace) nameSpace os qs cn (omega arith) (omega arith) (omega arith))
+
+-- ---- a row comes
+
+new-tree : (ns os qs o : List ℕ) (n : ℕ) → length o ≤ nameLimit → getD ns (ownColumn + n) 0 ≡ 256 → ((j : ℕ) → j < rowWidth → getD ns (rowColumn + n * rowWidth + j) 0 ≡ 0) → Written (n * nameSpace) (length o ∷ o) os qs → treeIn ns qs n ≡ bare o
+unfolding treeIn treeName bare
+new-tree ns os qs o n h l r w =
+    let label : ownLabel ns n (getD ns (ownColumn + n) 0) ≡ 0 = own-none ns n (getD ns (ownColumn + n) 0) (not-far ns n (getD ns (ownColumn + n) 0) (omega arith)) in
+    let name : textAt nameLimit qs (n * nameSpace) ≡ o = text-put nameLimit (n * nameSpace) o os qs h w in
+    let branches : tab 16 (λ k. getD ns (branchColumn + n * rowWidth + k) 0) ≡ replicate 16 0 =
+    tab-replicate 16 _ 0 (λ k lt. let x : branchColumn + n * rowWidth + k ≡ rowColumn + n * rowWidth + (1 + k) = omega arith in ap (λ (m : ℕ). getD ns m 0) x ∙ r (1 + k) (omega arith)) in
+    let leaf : getD ns (rowColumn + n * rowWidth) 0 ≡ 0 = simp add-zero at (r 0 (omega arith)) in
+    cc
+
+pub enter-tree : (ns zs os qs o : List ℕ) (n : ℕ) → Numbers ns → n ≡ treeCount ns → n < 64 → length o ≤ nameLimit
+    → Written (rowColumn + n * rowWidth) (replicate rowWidth 0) ns zs → Written (n * nameSpace) (length o ∷ o) os qs
+    → cardOf (set (set zs (ownColumn + n) 256) 3 (n + 1)) qs ≡ withTrees (cardOf ns os .trees ++ (bare o ∷ [])) (cardOf ns os)
+unfolding treeCount cardOf
+enter-tree ns zs os qs o n hl hn h64 ho wr wn =
+    but-trees ns ms os qs _
+    (λ j x y. keep j (λ e. omega arith) (λ e. omega arith) (λ u v. omega arith))
+    (λ j x y. keep j (λ e. omega arith) (λ e. omega arith) (λ u v. omega arith))
+    (λ j x y. wn .rest j (λ u v. omega arith))
+    (λ p h. label-same ns ms os qs p
+    (keep (markColumn + p) (λ e. omega arith) (λ e. omega arith) (λ u v. omega arith))
+    (free-same ns ms os os (λ j x y. keep j (λ e. omega arith) (λ e. omega arith) (λ u v. omega arith)) p h)
+    (λ j x y. wn .rest j (λ u v. omega arith)))
+    (rw (count, ← hn) (tab-snoc n (treeIn ns os) (treeIn ms qs) (bare o) low new))
+  where
+    ms : List ℕ
+    ms = set (set zs (ownColumn + n) 256) 3 (n + 1)
+
+    count : upTo 64 (getD ms 3 0) ≡ n + 1
+    count = ap (upTo 64) (getD-set-same (set zs (ownColumn + n) 256) 3 (n + 1) 0 (rw length-set (omega (arith, wr .long)))) ∙ upTo-in 64 (n + 1) (omega arith)
+
+    keep : (j : ℕ) → (j ≡ 3 → ⊥) → (j ≡ ownColumn + n → ⊥) → (rowColumn + n * rowWidth ≤ j → j < rowColumn + n * rowWidth + rowWidth → ⊥) → getD ms j 0 ≡ getD ns j 0
+    keep j ne me out = getD-set-other (set zs (ownColumn + n) 256) 3 j (n + 1) 0 ne ∙ getD-set-other zs (ownColumn + n) j 256 0 me ∙ wr .rest j out
+
+    low : (j : ℕ) → j < n → treeIn ms qs j ≡ treeIn ns os j
+    low j lt =
+        tree-same ns ms os qs j
+        (own-kept ns ms os os j
+        (λ k x y. keep k (λ e. omega arith) (λ e. omega arith) (λ u v. omega arith))
+        (λ k x y. keep k (λ e. omega arith) (λ e. omega arith) (λ u v. omega arith))
+        (λ k x y. keep k (λ e. omega arith) (λ e. omega arith) (λ u v. omega arith)))
+        (λ k x y. keep k (λ e. omega arith) (λ e. omega arith) (λ u v. omega arith))
+        (λ k x y. wn .rest k (λ u v. omega arith))
+
+    new : treeIn ms qs n ≡ bare o
+    new =
+        new-tree ms os qs o n ho
+        (getD-set-other (set zs (ownColumn + n) 256) 3 (ownColumn + n) (n + 1) 0 (λ e. omega arith) ∙ getD-set-same zs (ownColumn + n) 256 0 (omega (arith, wr .long)))
+        (λ j lt. getD-set-other (set zs (ownColumn + n) 256) 3 (rowColumn + n * rowWidth + j) (n + 1) 0 (λ e. omega arith) ∙ getD-set-other zs (ownColumn + n) (rowColumn + n * rowWidth + j) 256 0 (λ e. omega arith) ∙ wr .here j lt ∙ zeros 17 j)
+        wn
+
+-- ---- a root's route
+
+place-le {ℓ} : {A : Type ℓ} (t : A → Bool) (l : List A) → place t l ≤ length l
+unfolding place
+place-le t [] = omega arith
+place-le t (x ∷ l) = picked (λ (k : ℕ). k ≤ suc (length l)) (t x) (λ _. omega arith) (λ _. suc-le-suc (place-le t l))
+
+-- what the search found
+found-root : (ns os o : List ℕ) (i : ℕ) → i ≡ routePlace o (cardOf ns os) → i < routeCount ns → rootName os i ≡ o
+unfolding routePlace cardOf isFor routeIn
+found-root ns os o i e h =
+    let none : Route = record { root = []; via = 0 } in
+    let lt : place (isFor o) (tab (routeCount ns) (routeIn ns os)) < length (tab (routeCount ns) (routeIn ns os)) = rw (tab-length, ← e) h in
+    let found = place-finds (isFor o) (tab (routeCount ns) (routeIn ns os)) none lt in
+    same-eq _ _ (rw (← e, tab-get (routeCount ns) (routeIn ns os) i none h) at found)
+
+-- a route, by its two parts
+route-is : (ns os o : List ℕ) (i via : ℕ) → rootName os i ≡ o → getD ns (routeColumn + i) 0 ≡ via → _≡_ {A = Route} (routeIn ns os i) (record { root = o; via = via })
+unfolding routeIn
+route-is ns os o i via r v = cc
+
+pub set-route : (ns os o : List ℕ) (i via : ℕ) → Numbers ns → i ≡ routePlace o (cardOf ns os) → i < routeCount ns
+    → cardOf (set ns (routeColumn + i) via) os ≡ withRoutes (put (cardOf ns os .routes) (routePlace o (cardOf ns os)) (record { root = o; via = via })) (cardOf ns os)
+unfolding routeCount cardOf
+set-route ns os o i via hl e h =
+    rw (← e)
+    (but-routes ns ms os os _
+    (agree-set 0 2 ns (routeColumn + i) via (λ u v. omega arith))
+    (agree-set 3 1 ns (routeColumn + i) via (λ u v. omega arith))
+    (agree-set ownColumn (treeLimit + rowNumbers + labelNumbers) ns (routeColumn + i) via (λ u v. omega (arith, limit)))
+    (agree-refl 0 rootNames os)
+    (rw (count, put-in (tab (routeCount ns) (routeIn ns os)) i (record { root = o; via = via }) (rw tab-length h))
+    (tab-set (routeCount ns) (routeIn ns os) (routeIn ms os) i _ h
+    (route-is ms os o i via (found-root ns os o i e h) (getD-set-same ns (routeColumn + i) via 0 (omega (arith, limit))))
+    (λ j ne lt. route-same ns ms os os j (agree-set (routeColumn + j) 1 ns (routeColumn + i) via (λ u v. ne (omega arith))) (agree-refl (rootNames + j * rootSpace) rootSpace os)))))
+  where
+    ms : List ℕ
+    ms = set ns (routeColumn + i) via
+
+    limit : i < 32
+    limit = omega (arith, upTo-le 32 (getD ns 2 0))
+
+    count : getD ms 2 0 ≡ getD ns 2 0
+    count = getD-set-other ns (routeColumn + i) 2 via 0 (λ e. omega arith)
+
+-- one behind the others
+pub append-route : (ns os qs o : List ℕ) (n via : ℕ) → Numbers ns → n ≡ routeCount ns → n < 32 → length o ≤ rootLimit
+    → Written (rootNames + n * rootSpace) (length o ∷ o) os qs
+    → cardOf (set (set ns (routeColumn + n) via) 2 (n + 1)) qs ≡ withRoutes (cardOf ns os .routes ++ (record { root = o; via = via } ∷ [])) (cardOf ns os)
+unfolding routeCount cardOf rootName
+append-route ns os qs o n via hl hn h32 ho w =
+    but-routes ns ms os qs _
+    (λ j x y. keep j (λ e. omega arith) (λ e. omega arith))
+    (λ j x y. keep j (λ e. omega arith) (λ e. omega arith))
+    (λ j x y. keep j (λ e. omega arith) (λ e. omega arith))
+    (λ j x y. w .rest j (λ u v. omega arith))
+    (rw (count, ← hn)
+    (tab-snoc n (routeIn ns os) (routeIn ms qs) _
+    (λ j lt. route-same ns ms os qs j (λ k x y. keep k (λ e. omega arith) (λ e. omega arith)) (λ k x y. w .rest k (λ u v. omega arith)))
+    (route-is ms qs o n via (text-put rootLimit (rootNames + n * rootSpace) o os qs ho w)
+    (getD-set-other (set ns (routeColumn + n) via) 2 (routeColumn + n) (n + 1) 0 (λ e. omega arith) ∙ getD-set-same ns (routeColumn + n) via 0 (omega arith)))))
+  where
+    ms : List ℕ
+    ms = set (set ns (routeColumn + n) via) 2 (n + 1)
+
+    count : upTo 32 (getD ms 2 0) ≡ n + 1
+    count = ap (upTo 32) (getD-set-same (set ns (routeColumn + n) via) 2 (n + 1) 0 (rw length-set (omega arith))) ∙ upTo-in 32 (n + 1) (omega arith)
+
+    keep : (j : ℕ) → (j ≡ 2 → ⊥) → (j ≡ routeColumn + n → ⊥) → getD ms j 0 ≡ getD ns j 0
+    keep j ne me = getD-set-other (set ns (routeColumn + n) via) 2 j (n + 1) 0 ne ∙ getD-set-other ns (routeColumn + n) j via 0 me
+
+-- no entry yet: that is where it is put
+pub add-route : (ns os o : List ℕ) (c : Card) (i n via : ℕ) → i ≡ routePlace o (cardOf ns os) → n ≡ routeCount ns → n ≤ i
+    → c ≡ withRoutes (cardOf ns os .routes ++ (record { root = o; via = via } ∷ [])) (cardOf ns os)
+    → c ≡ withRoutes (put (cardOf ns os .routes) (routePlace o (cardOf ns os)) (record { root = o; via = via })) (cardOf ns os)
+unfolding routePlace cardOf
+add-route ns os o c i n via e hn le h =
+    h ∙ ap (λ (rs : List Route). withRoutes rs (cardOf ns os)) (sym (put-end (tab (routeCount ns) (routeIn ns os)) (place (isFor o) (tab (routeCount ns) (routeIn ns os))) (record { root = o; via = via }) (omega (arith, tab-length (routeCount ns) (routeIn ns os), place-le (isFor o) (tab (routeCount ns) (routeIn ns os))))))

@@ -1,0 +1,61 @@
+use Rattle.memory_rows.proofs.Rows.{append-route}
+use lib.ListN.{length-set}
+use native.Mathlib.Omega.{arith}
+use borrow.Author.Needs.{needs}
+use Rattle.memory_rows.proofs.append_route.Statement.{statement}
+use Rattle.memory_rows.proofs.append_route.Tie as tie
+
+route-count-requires : tie.Need-route-count-requires
+route-count-requires c κs = search needs
+
+mul-put-text : tie.Need-mul-put-text
+mul-put-text c = search needs
+
+add-put-text : tie.Need-add-put-text
+add-put-text c = search needs
+
+put-text-requires : tie.Need-put-text-requires
+put-text-requires c κs = search needs
+
+add-numbers : tie.Need-add-numbers
+add-numbers c = search needs
+
+mul-numbers : tie.Need-mul-numbers
+mul-numbers c = search needs
+
+slice-write-numbers : tie.Need-slice-write-numbers
+slice-write-numbers c = search needs
+
+add-numbers-2 : tie.Need-add-numbers-2
+add-numbers-2 c = search needs
+
+slice-write-numbers-2 : tie.Need-slice-write-numbers-2
+slice-write-numbers-2 c = simp length-set (omega arith)
+
+same-length : tie.Need-same-length
+same-length c = search needs
+
+same-length-2 : tie.Need-same-length-2
+same-length-2 c = search needs
+
+returns : tie.Need-returns
+returns c =
+    let s = c .before .before .before .before .before .before .before .before .before in
+    append-route _ _ _ _ _ _ (s .pre .0) (c .before .before .before .before .route-count .ensures .0) (omega (arith, c .before .before .before .before .route-count .ensures .0)) (s .pre .3) (c .before .before .put-text .ensures)
+
+pub append-route-spec : {M : Type 1} → statement M
+append-route-spec =
+    tie.close
+    (tie.spec
+    route-count-requires
+    mul-put-text
+    add-put-text
+    put-text-requires
+    add-numbers
+    mul-numbers
+    slice-write-numbers
+    add-numbers-2
+    slice-write-numbers-2
+    same-length
+    same-length-2
+    returns)

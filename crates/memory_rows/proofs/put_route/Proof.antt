@@ -1,0 +1,57 @@
+use Rattle.memory_rows.proofs.Rows.{set-route, add-route}
+use native.Mathlib.Omega.{arith}
+use borrow.Author.Needs.{needs}
+use Rattle.memory_rows.proofs.put_route.Statement.{statement}
+use Rattle.memory_rows.proofs.put_route.Tie as tie
+
+route-count-requires : tie.Need-route-count-requires
+route-count-requires c κs = search needs
+
+add-numbers : tie.Need-add-numbers
+add-numbers c = search needs
+
+mul-numbers : tie.Need-mul-numbers
+mul-numbers c = search needs
+
+slice-write-numbers : tie.Need-slice-write-numbers
+slice-write-numbers c = search needs
+
+same-length : tie.Need-same-length
+same-length c = search needs
+
+returns : tie.Need-returns
+returns c =
+    let s = c .before .before .before .before .before .before in
+    set-route _ _ _ _ _ (s .pre .0) (s .pre .3) (omega (arith, c .before .route-count .ensures .0))
+
+append-route-requires : tie.Need-append-route-requires
+append-route-requires c κs =
+    let s = c .before .before .before .before .before .before .before .before in
+    let room = s .pre .4 (omega arith) in
+    (s .pre .0, s .pre .1, omega arith, s .pre .2)
+
+same-length-2 : tie.Need-same-length-2
+same-length-2 c = search needs
+
+same-length-3 : tie.Need-same-length-3
+same-length-3 c = search needs
+
+returns-2 : tie.Need-returns-2
+returns-2 c =
+    let s = c .before .before .before .before .before .before .before .before .before .before .before .before .before in
+    add-route _ _ _ _ _ _ _ (s .pre .3) (c .before .before .before .before .before .before .before .before .route-count .ensures .0) (c .before .before .before .before .before .before .before .if1 .left) (c .before .before .before .before .append-route .ensures)
+
+pub put-route-spec : {M : Type 1} → statement M
+put-route-spec =
+    tie.close
+    (tie.spec
+    route-count-requires
+    add-numbers
+    mul-numbers
+    slice-write-numbers
+    same-length
+    returns
+    append-route-requires
+    same-length-2
+    same-length-3
+    returns-2)

@@ -1,0 +1,55 @@
+use Prim.Native.Nat.{_+_, _-_}
+use native.Mathlib.Omega.{arith}
+use mathlib.Core.Path.{_∙_}
+use lib.ListN.{length, length-set}
+use Rattle.memory_rows.proofs.Parts.{text-written}
+use borrow.Author.Needs.{needs}
+use Rattle.memory_rows.proofs.put_text.Statement.{statement}
+use Rattle.memory_rows.proofs.put_text.Tie as tie
+
+cast-names : tie.Need-cast-names
+cast-names c = search needs
+
+slice-write-names : tie.Need-slice-write-names
+slice-write-names c = search needs
+
+add-f : tie.Need-add-f
+add-f c = search needs
+
+add-e : tie.Need-add-e
+add-e c = search needs
+
+sub-copy : tie.Need-sub-copy
+sub-copy c = search needs
+
+part-copy-start : tie.Need-part-copy-start
+part-copy-start c = search needs
+
+part-copy-end : tie.Need-part-copy-end
+part-copy-end c = search needs
+
+copy-requires : tie.Need-copy-requires
+copy-requires c κs = search needs
+
+same-length : tie.Need-same-length
+same-length c = c .before .names .given .1 ∙ simp length-set
+
+returns : tie.Need-returns
+returns c =
+    let s = c .before .before .before .before .before .before in
+    text-written (s .args .at) (s .args .at + 1 + length (s .args .text .now) - (s .args .at + 1)) _ _ _ (s .pre .0) (omega arith) (c .before .before .copy .ensures)
+
+pub put-text-spec : {M : Type 1} → statement M
+put-text-spec =
+    tie.close
+    (tie.spec
+    cast-names
+    slice-write-names
+    add-f
+    add-e
+    sub-copy
+    part-copy-start
+    part-copy-end
+    copy-requires
+    same-length
+    returns)

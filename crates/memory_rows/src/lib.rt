@@ -1,0 +1,182 @@
+// Trees and routes that come and go in the card's memory, and the fresh card.
+ghost use mathlib.Core.Path.{_≡_};
+ghost use mathlib.Core.List.{List, [], _∷_, _++_};
+ghost use Prim.Native.Nat.{ℕ, _+_, _-_, _≤_, _<_};
+ghost use lib.ListN.{length, replicate};
+ghost use Rattle.meaning.specs.Octets.{put, cut};
+ghost use Rattle.meaning.specs.Wire.{rootLimit, nameLimit};
+ghost use Rattle.meaning.specs.Card.{fresh, withTrees, withRoutes, bare, routePlace};
+ghost use Rattle.memory.specs.Sizes.{Numbers, Names};
+ghost use Rattle.memory.specs.Memory.{cardOf, treeCount, routeCount};
+ghost use Rattle.memory_rows.specs.Parts.{Written, Closed, Lowered, LoweredOne};
+use memory::FOURTH_WORD;
+use memory::MARK_COLUMN;
+use memory::NAME_SPACE;
+use memory::OWN_COLUMN;
+use memory::ROOT_NAMES;
+use memory::ROOT_SPACE;
+use memory::ROUTE_COLUMN;
+use memory::ROW_COLUMN;
+use memory::ROW_WIDTH;
+use memory::SECOND_WORD;
+use memory::THIRD_WORD;
+use memory::WORD_COLUMN;
+
+// ---- parts of the memory
+
+fn close_numbers(numbers: &mut [u64], a: usize, e: usize, w: usize)
+    requires { ⌜ (a + w ≤ e) × (e ≤ length (now numbers)) ⌝ }
+    ensures { λ _. ⌜ Closed a e w (now (numbers .entry)) (now (numbers .exit)) ⌝ }
+{
+    octets::shift_numbers(&mut numbers[a..e], w);
+}
+
+fn close_octets(names: &mut [u8], a: usize, e: usize, w: usize)
+    requires { ⌜ (a + w ≤ e) × (e ≤ length (now names)) ⌝ }
+    ensures { λ _. ⌜ Closed a e w (now (names .entry)) (now (names .exit)) ⌝ }
+{
+    octets::shift_octets(&mut names[a..e], w);
+}
+
+fn clear(numbers: &mut [u64], a: usize, k: usize)
+    requires { ⌜ a + k ≤ length (now numbers) ⌝ }
+    ensures { λ _. ⌜ Written a (replicate k 0) (now (numbers .entry)) (now (numbers .exit)) ⌝ }
+{
+    let e = a + k;
+    octets::zero(&mut numbers[a..e]);
+}
+
+// A text in its slot: its length, and then its octets.
+pub fn put_text(names: &mut [u8], at: usize, text: &[u8])
+    requires { ⌜ (at + 1 + length (now text) ≤ length (now names)) × (length (now text) < 256) ⌝ }
+    ensures { λ _. ⌜ Written at (length (now (text .entry)) ∷ now (text .entry)) (now (names .entry)) (now (names .exit)) ⌝ }
+{
+    names[at] = text.len() as u8;
+    let f = at + 1;
+    let e = f + text.len();
+    octets::copy(&mut names[f..e], text);
+}
+
+// ---- trees
+
+// A tree comes, with neither branch nor leaf nor label: the newest.
+pub fn enter_tree(numbers: &mut [u64], names: &mut [u8], name: &[u8])
+    requires { ⌜ Numbers (now numbers) × Names (now names) × (treeCount (now numbers) < 64) × (length (now name) ≤ nameLimit) ⌝ }
+    ensures { λ _. ⌜ cardOf (now (numbers .exit)) (now (names .exit))
+        ≡ withTrees (cardOf (now (numbers .entry)) (now (names .entry)) .trees ++ (bare (now (name .entry)) ∷ [])) (cardOf (now (numbers .entry)) (now (names .entry))) ⌝ }
+{
+    let n = memory::tree_count(numbers);
+    clear(numbers, ROW_COLUMN + n * ROW_WIDTH, ROW_WIDTH);
+    put_text(names, n * NAME_SPACE, name);
+    numbers[OWN_COLUMN + n] = 256;
+    numbers[3] = (n + 1) as u64;
+}
+
+// The tree at place j + 1 is to stand at place j: the mark of its label names that place. Where it does not carry the label that
+// it has for its own it has none from now on, so that it cannot come to carry that one.
+fn lower_one(numbers: &mut [u64], j: usize)
+    requires { ⌜ Numbers (now numbers) × (j + 1 < 64) ⌝ }
+    ensures { λ _. ⌜ LoweredOne j (now (numbers .entry)) (now (numbers .exit)) ⌝ }
+{
+    let t = j + 1;
+    if memory_trees::carries_own(numbers, t) {
+        let k = MARK_COLUMN + numbers[OWN_COLUMN + t] as usize;
+        numbers[k] = numbers[k] - 256;
+        return;
+    }
+    numbers[OWN_COLUMN + t] = 256;
+}
+
+// Each of the n trees that stands behind place i is to stand one place lower.
+fn lower_behind(numbers: &mut [u64], i: usize, n: usize)
+    requires { ⌜ Numbers (now numbers) × (i < n) × (n ≤ 64) ⌝ }
+    ensures { λ _. ⌜ Lowered i (n - 1) (now (numbers .entry)) (now (numbers .exit)) ⌝ }
+{
+    let mut j = i;
+    while j + 1 < n {
+        lower_one(numbers, j);
+        j += 1;
+    }
+}
+
+// A tree goes, and the gap is closed.
+pub fn remove_tree(numbers: &mut [u64], names: &mut [u8], i: usize)
+    requires { ⌜ Numbers (now numbers) × Names (now names) × (i < treeCount (now numbers)) × (i < 64) ⌝ }
+    ensures { λ _. ⌜ cardOf (now (numbers .exit)) (now (names .exit))
+        ≡ withTrees (cut (cardOf (now (numbers .entry)) (now (names .entry)) .trees) i) (cardOf (now (numbers .entry)) (now (names .entry))) ⌝ }
+{
+    let n = memory::tree_count(numbers);
+    lower_behind(numbers, i, n);
+    close_numbers(numbers, OWN_COLUMN + i, OWN_COLUMN + n, 1);
+    close_numbers(
+        numbers,
+        ROW_COLUMN + i * ROW_WIDTH,
+        ROW_COLUMN + n * ROW_WIDTH,
+        ROW_WIDTH,
+    );
+    close_octets(names, i * NAME_SPACE, n * NAME_SPACE, NAME_SPACE);
+    numbers[3] = (n - 1) as u64;
+}
+
+// ---- routes
+
+// A route comes, behind the others.
+pub fn append_route(numbers: &mut [u64], names: &mut [u8], root: &[u8], via: u64)
+    requires { ⌜ Numbers (now numbers) × Names (now names) × (routeCount (now numbers) < 32) × (length (now root) ≤ rootLimit) ⌝ }
+    ensures { λ _. ⌜ cardOf (now (numbers .exit)) (now (names .exit))
+        ≡ withRoutes (cardOf (now (numbers .entry)) (now (names .entry)) .routes ++ (record { root = now (root .entry); via = via } ∷ [])) (cardOf (now (numbers .entry)) (now (names .entry))) ⌝ }
+{
+    let n = memory::route_count(numbers);
+    put_text(names, ROOT_NAMES + n * ROOT_SPACE, root);
+    numbers[ROUTE_COLUMN + n] = via;
+    numbers[2] = (n + 1) as u64;
+}
+
+// The route of the root whose place is i: its entry, or a new one behind the others.
+pub fn put_route(numbers: &mut [u64], names: &mut [u8], i: usize, root: &[u8], via: u64)
+    requires { ⌜ Numbers (now numbers) × Names (now names) × (length (now root) ≤ rootLimit)
+        × (i ≡ routePlace (now root) (cardOf (now numbers) (now names)))
+        × (routeCount (now numbers) ≤ routePlace (now root) (cardOf (now numbers) (now names)) → routeCount (now numbers) < 32) ⌝ }
+    ensures { λ _. ⌜ cardOf (now (numbers .exit)) (now (names .exit))
+        ≡ withRoutes (put (cardOf (now (numbers .entry)) (now (names .entry)) .routes) (routePlace (now (root .entry)) (cardOf (now (numbers .entry)) (now (names .entry)))) (record { root = now (root .entry); via = via })) (cardOf (now (numbers .entry)) (now (names .entry))) ⌝ }
+{
+    let n = memory::route_count(numbers);
+    if i < n {
+        numbers[ROUTE_COLUMN + i] = via;
+        return;
+    }
+    append_route(numbers, names, root, via);
+}
+
+// A root's entry goes, and the gap is closed.
+pub fn remove_route(numbers: &mut [u64], names: &mut [u8], i: usize)
+    requires { ⌜ Numbers (now numbers) × Names (now names) × (i < routeCount (now numbers)) × (i < 32) ⌝ }
+    ensures { λ _. ⌜ cardOf (now (numbers .exit)) (now (names .exit))
+        ≡ withRoutes (cut (cardOf (now (numbers .entry)) (now (names .entry)) .routes) i) (cardOf (now (numbers .entry)) (now (names .entry))) ⌝ }
+{
+    let n = memory::route_count(numbers);
+    close_numbers(numbers, ROUTE_COLUMN + i, ROUTE_COLUMN + n, 1);
+    close_octets(
+        names,
+        ROOT_NAMES + i * ROOT_SPACE,
+        ROOT_NAMES + n * ROOT_SPACE,
+        ROOT_SPACE,
+    );
+    numbers[2] = (n - 1) as u64;
+}
+
+// ---- the start
+
+// A fresh card, whatever the memory held.
+pub fn start_fresh(numbers: &mut [u64], base: u64)
+    requires { ⌜ Numbers (now numbers) × (16 ≤ base) × (base ≤ 1048320) ⌝ }
+    ensures { λ _. ⌜ ((os : List ℕ) → cardOf (now (numbers .exit)) os ≡ fresh base) ⌝ }
+{
+    octets::zero(numbers);
+    numbers[0] = base;
+    numbers[1] = 1;
+    numbers[WORD_COLUMN] = 0xffff_ffff_ffff_ffff;
+    numbers[SECOND_WORD] = 0xffff_ffff_ffff_ffff;
+    numbers[THIRD_WORD] = 0xffff_ffff_ffff_ffff;
+    numbers[FOURTH_WORD] = 0xffff_ffff_ffff_ffff;
+}

@@ -1,0 +1,27 @@
+use borrow.Author.Needs.{needs}
+use Rattle.memory.proofs.Laws.{branch-at}
+use Rattle.memory_trees.proofs.branch.Statement.{statement}
+use Rattle.memory_trees.proofs.branch.Tie as tie
+
+mul-result : tie.Need-mul-result
+mul-result c = search needs
+
+add-result : tie.Need-add-result
+add-result c = search needs
+
+add-result-2 : tie.Need-add-result-2
+add-result-2 c = search needs
+
+mul-result-2 : tie.Need-mul-result-2
+mul-result-2 c = search needs
+
+shared-slice-read-result : tie.Need-shared-slice-read-result
+shared-slice-read-result c = search needs
+
+returns : tie.Need-returns
+returns c = λ os. let s = c .before in branch-at (s .args .numbers .now) os (s .args .i) (s .pre .1) (s .args .n) (s .pre .3)
+
+pub branch-spec : {M : Type 1} → statement M
+branch-spec =
+    tie.close
+    (tie.spec mul-result add-result add-result-2 mul-result-2 shared-slice-read-result returns)

@@ -1,0 +1,37 @@
+use borrow.Author.Needs.{needs}
+use Rattle.memory.proofs.Laws.{route-some, route-none}
+use Rattle.memory_trees.proofs.route_of.Statement.{statement}
+use Rattle.memory_trees.proofs.route_of.Tie as tie
+
+route-place-requires : tie.Need-route-place-requires
+route-place-requires c κs = search needs
+
+route-count-requires : tie.Need-route-count-requires
+route-count-requires c κs = search needs
+
+add-result : tie.Need-add-result
+add-result c = search needs
+
+mul-result : tie.Need-mul-result
+mul-result c = search needs
+
+shared-slice-read-result : tie.Need-shared-slice-read-result
+shared-slice-read-result c = search needs
+
+returns : tie.Need-returns
+returns c = route-some _ _ _ _ _ (c .before .before .before .route-place .ensures .0) (c .before .before .route-count .ensures .0) (c .before .if1 .taken)
+
+returns-2 : tie.Need-returns-2
+returns-2 c = route-none _ _ _ _ _ (c .before .before .route-place .ensures .0) (c .before .route-count .ensures .0) (c .if1 .left)
+
+pub route-of-spec : {M : Type 1} → statement M
+route-of-spec =
+    tie.close
+    (tie.spec
+    route-place-requires
+    route-count-requires
+    add-result
+    mul-result
+    shared-slice-read-result
+    returns
+    returns-2)

@@ -1,0 +1,254 @@
+// Trees and routes in the card's memory: what is asked of them, and what changes in one place.
+ghost use mathlib.Core.Path.{_≡_};
+ghost use mathlib.Core.Bool.{true, false};
+ghost use mathlib.Core.List.{List};
+ghost use Prim.Native.Nat.{ℕ, _+_, _-_, _≤_, _<_};
+ghost use lib.ListN.{length, getD, set};
+ghost use Rattle.meaning.specs.Octets.{place, any};
+ghost use Rattle.meaning.specs.Wire.{nameLimit};
+ghost use Rattle.meaning.specs.Card.{withTrees, withBranch, withLeaf, treePlace, treeAt, isBranch, useOf, heldFor, routePlace, routeOf, carries};
+ghost use Rattle.meaning.specs.Events.{setUse, setLabel, ended};
+ghost use Rattle.memory.specs.Sizes.{Numbers, Names};
+ghost use Rattle.memory.specs.Memory.{cardOf, baseIn, treeCount, routeCount, treeName, rootName, routeIn, carriesAt, ownPlace};
+use meaning::NAME_LIMIT;
+use meaning::ROOT_LIMIT;
+use memory::BRANCH_COLUMN;
+use memory::MARK_COLUMN;
+use memory::NAME_SPACE;
+use memory::OWN_COLUMN;
+use memory::ROOT_NAMES;
+use memory::ROOT_SPACE;
+use memory::ROUTE_COLUMN;
+use memory::ROW_COLUMN;
+use memory::ROW_WIDTH;
+
+// ---- marks
+
+// Whether the tree at place i carries the label at place p.
+fn carries_at(numbers: &[u64], i: usize, p: u64) -> bool
+    requires { ⌜ Numbers (now numbers) ⌝ }
+    ensures { λ r. ⌜ r ≡ carriesAt (now (numbers .entry)) i p ⌝ }
+{
+    if 256 <= p {
+        return false;
+    }
+    let k = p as usize;
+    if memory_labels::mapped_at(numbers, k) == 17 {
+        return false;
+    }
+    numbers[MARK_COLUMN + k] / 256 == i as u64
+}
+
+// ---- trees
+
+// Whether the tree at place i carries the label that it has for its own.
+pub fn carries_own(numbers: &[u64], i: usize) -> bool
+    requires { ⌜ Numbers (now numbers) × (i < 64) ⌝ }
+    ensures { λ r. ⌜ r ≡ carriesAt (now (numbers .entry)) i (ownPlace (now (numbers .entry)) i) ⌝ }
+{
+    carries_at(numbers, i, numbers[OWN_COLUMN + i])
+}
+
+pub fn tree_label(numbers: &[u64], i: usize) -> u64
+    requires { ⌜ Numbers (now numbers) × (i < treeCount (now numbers)) × (i < 64) ⌝ }
+    ensures { λ r. ⌜ ((os : List ℕ) → r ≡ treeAt i (cardOf (now (numbers .entry)) os) .label) ⌝ }
+{
+    if carries_own(numbers, i) {
+        memory::base(numbers) + numbers[OWN_COLUMN + i]
+    } else {
+        0
+    }
+}
+
+pub fn is_leaf(numbers: &[u64], i: usize) -> bool
+    requires { ⌜ Numbers (now numbers) × (i < treeCount (now numbers)) × (i < 64) ⌝ }
+    ensures { λ r. ⌜ ((os : List ℕ) → r ≡ treeAt i (cardOf (now (numbers .entry)) os) .leaf) ⌝ }
+{
+    numbers[ROW_COLUMN + i * ROW_WIDTH] != 0
+}
+
+pub fn branch(numbers: &[u64], i: usize, n: usize) -> u64
+    requires { ⌜ Numbers (now numbers) × (i < treeCount (now numbers)) × (i < 64) × (n < 16) ⌝ }
+    ensures { λ r. ⌜ ((os : List ℕ) → r ≡ getD (treeAt i (cardOf (now (numbers .entry)) os) .branches) n 0) ⌝ }
+{
+    numbers[BRANCH_COLUMN + i * ROW_WIDTH + n]
+}
+
+// The sixteen branches, all read before the caller writes one: so a lookup makes no copy on the way to the lent array.
+pub fn branches(numbers: &[u64], i: usize) -> [u64; 16]
+    requires { ⌜ Numbers (now numbers) × (i < treeCount (now numbers)) × (i < 64) ⌝ }
+    ensures { λ r. ⌜ ((os : List ℕ) → r ≡ treeAt i (cardOf (now (numbers .entry)) os) .branches) ⌝ }
+{
+    let a = BRANCH_COLUMN + i * ROW_WIDTH;
+    [
+        numbers[a + 0],
+        numbers[a + 1],
+        numbers[a + 2],
+        numbers[a + 3],
+        numbers[a + 4],
+        numbers[a + 5],
+        numbers[a + 6],
+        numbers[a + 7],
+        numbers[a + 8],
+        numbers[a + 9],
+        numbers[a + 10],
+        numbers[a + 11],
+        numbers[a + 12],
+        numbers[a + 13],
+        numbers[a + 14],
+        numbers[a + 15],
+    ]
+}
+
+// The branch of neighbour k, once that of neighbour n is x (16: nobody's changes).
+fn branch_then(numbers: &[u64], i: usize, n: usize, x: u64, k: usize) -> u64
+    requires { ⌜ Numbers (now numbers) × (i < treeCount (now numbers)) × (i < 64) × (k < 16) ⌝ }
+    ensures { λ r. ⌜ ((os : List ℕ) → r ≡ getD (set (treeAt i (cardOf (now (numbers .entry)) os) .branches) n x) k 0) ⌝ }
+{
+    if k == n {
+        return x;
+    }
+    branch(numbers, i, k)
+}
+
+// Whether the tree then has a branch, apart from that of neighbour `but` (16: none apart).
+pub fn any_branch(numbers: &[u64], i: usize, n: usize, x: u64, but: usize) -> bool
+    requires { ⌜ Numbers (now numbers) × (i < treeCount (now numbers)) × (i < 64) ⌝ }
+    ensures { λ r. ⌜ ((os : List ℕ) → r ≡ any isBranch (set (set (treeAt i (cardOf (now (numbers .entry)) os) .branches) n x) but 0)) ⌝ }
+{
+    let mut k = 0;
+    while k < 16 {
+        if k != but {
+            if branch_then(numbers, i, n, x, k) != 0 {
+                return true;
+            }
+        }
+        k += 1;
+    }
+    false
+}
+
+pub fn tree_name(names: &[u8], i: usize) -> &[u8]
+    requires { ⌜ Names (now names) × (i < 64) ⌝ }
+    ensures { λ r. ⌜ ((ns : List ℕ) → i < treeCount ns → now r ≡ treeAt i (cardOf ns (now (names .entry))) .name) × (length (now r) ≤ nameLimit) × (now r ≡ treeName (now (names .entry)) i) ⌝ }
+{
+    memory::text(names, NAME_LIMIT, i * NAME_SPACE)
+}
+
+// The place of the tree of that name; the number of trees where it does not stand.
+pub fn tree_place(numbers: &[u64], names: &[u8], name: &[u8]) -> usize
+    requires { ⌜ Numbers (now numbers) × Names (now names) ⌝ }
+    ensures { λ r. ⌜ (r ≡ treePlace (now (name .entry)) (cardOf (now (numbers .entry)) (now (names .entry)))) × (r ≤ treeCount (now (numbers .entry))) × (r ≤ 64) ⌝ }
+{
+    let n = memory::tree_count(numbers);
+    let mut i = 0;
+    while i < n {
+        if octets::equal(tree_name(names, i), name) {
+            return i;
+        }
+        i += 1;
+    }
+    n
+}
+
+pub fn set_branch(numbers: &mut [u64], i: usize, n: usize, label: u64)
+    requires { ⌜ Numbers (now numbers) × (i < treeCount (now numbers)) × (i < 64) × (n < 16) ⌝ }
+    ensures { λ _. ⌜ ((os : List ℕ) → cardOf (now (numbers .exit)) os
+        ≡ withTrees (set (cardOf (now (numbers .entry)) os .trees) i (withBranch n label (treeAt i (cardOf (now (numbers .entry)) os)))) (cardOf (now (numbers .entry)) os)) ⌝ }
+{
+    numbers[BRANCH_COLUMN + i * ROW_WIDTH + n] = label;
+}
+
+pub fn set_leaf(numbers: &mut [u64], i: usize, leaf: bool)
+    requires { ⌜ Numbers (now numbers) × (i < treeCount (now numbers)) × (i < 64) ⌝ }
+    ensures { λ _. ⌜ ((os : List ℕ) → cardOf (now (numbers .exit)) os
+        ≡ withTrees (set (cardOf (now (numbers .entry)) os .trees) i (withLeaf leaf (treeAt i (cardOf (now (numbers .entry)) os)))) (cardOf (now (numbers .entry)) os)) ⌝ }
+{
+    numbers[ROW_COLUMN + i * ROW_WIDTH] = if leaf { 1 } else { 0 };
+}
+
+// ---- labels
+
+// The neighbour for which the tree at place i holds its label; 17 for none.
+pub fn held_for(numbers: &[u64], i: usize) -> u64
+    requires { ⌜ Numbers (now numbers) × (i < treeCount (now numbers)) × (i < 64) ⌝ }
+    ensures { λ r. ⌜ ((os : List ℕ) → r ≡ heldFor (cardOf (now (numbers .entry)) os) (treeAt i (cardOf (now (numbers .entry)) os))) × (r ≤ 17) ⌝ }
+{
+    if carries_own(numbers, i) {
+        memory_labels::mapped_at(numbers, numbers[OWN_COLUMN + i] as usize)
+    } else {
+        17
+    }
+}
+
+// The place of the tree that carries a label of the block; the number of trees where none does. The label's mark names it.
+pub fn carrier_place(numbers: &[u64], label: u64) -> usize
+    requires { ⌜ Numbers (now numbers) × (baseIn (now numbers) ≤ label) × (label < baseIn (now numbers) + 256) ⌝ }
+    ensures { λ r. ⌜ ((os : List ℕ) → r ≡ place (carries label) (cardOf (now (numbers .entry)) os .trees)) × (r ≤ treeCount (now (numbers .entry))) × (r ≤ 64) ⌝ }
+{
+    let p = label - memory::base(numbers);
+    let n = memory::tree_count(numbers);
+    let k = p as usize;
+    if memory_labels::mapped_at(numbers, k) == 17 {
+        return n;
+    }
+    let i = (numbers[MARK_COLUMN + k] / 256) as usize;
+    if n <= i {
+        return n;
+    }
+    if numbers[OWN_COLUMN + i] == p { i } else { n }
+}
+
+// The label that the tree carries awaits release from now on, and the tree carries none: a label that is not mapped has no carrier.
+pub fn end_label(numbers: &mut [u64], i: usize)
+    requires { ⌜ Numbers (now numbers) × (i < treeCount (now numbers)) × (i < 64) × ((os : List ℕ) → treeAt i (cardOf (now numbers) os) .label ≡ 0 → ⊥) ⌝ }
+    ensures { λ _. ⌜ ((os : List ℕ) → cardOf (now (numbers .exit)) os
+        ≡ setLabel i 0 (setUse (treeAt i (cardOf (now (numbers .entry)) os) .label) (ended (useOf (treeAt i (cardOf (now (numbers .entry)) os) .label) (cardOf (now (numbers .entry)) os))) (cardOf (now (numbers .entry)) os))) ⌝ }
+{
+    let k = MARK_COLUMN + numbers[OWN_COLUMN + i] as usize;
+    numbers[k] = numbers[k] % 256 + 16;
+}
+
+// ---- routes
+
+pub fn root_name(names: &[u8], i: usize) -> &[u8]
+    requires { ⌜ Names (now names) × (i < 32) ⌝ }
+    ensures { λ r. ⌜ now r ≡ rootName (now (names .entry)) i ⌝ }
+{
+    memory::text(names, ROOT_LIMIT, ROOT_NAMES + i * ROOT_SPACE)
+}
+
+pub fn route_via(numbers: &[u64], i: usize) -> u64
+    requires { ⌜ Numbers (now numbers) × (i < 32) ⌝ }
+    ensures { λ r. ⌜ ((os : List ℕ) → r ≡ routeIn (now (numbers .entry)) os i .via) ⌝ }
+{
+    numbers[ROUTE_COLUMN + i]
+}
+
+pub fn route_place(numbers: &[u64], names: &[u8], root: &[u8]) -> usize
+    requires { ⌜ Numbers (now numbers) × Names (now names) ⌝ }
+    ensures { λ r. ⌜ (r ≡ routePlace (now (root .entry)) (cardOf (now (numbers .entry)) (now (names .entry)))) × (r ≤ routeCount (now (numbers .entry))) × (r ≤ 32) ⌝ }
+{
+    let n = memory::route_count(numbers);
+    let mut i = 0;
+    while i < n {
+        if octets::equal(root_name(names, i), root) {
+            return i;
+        }
+        i += 1;
+    }
+    n
+}
+
+// The route of a root: 0 to 15 a neighbour, 16 this node, 17 no route.
+pub fn route_of(numbers: &[u64], names: &[u8], root: &[u8]) -> u64
+    requires { ⌜ Numbers (now numbers) × Names (now names) ⌝ }
+    ensures { λ r. ⌜ r ≡ routeOf (now (root .entry)) (cardOf (now (numbers .entry)) (now (names .entry))) ⌝ }
+{
+    let i = route_place(numbers, names, root);
+    if i < memory::route_count(numbers) {
+        numbers[ROUTE_COLUMN + i]
+    } else {
+        17
+    }
+}

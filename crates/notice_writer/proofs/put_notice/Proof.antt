@@ -1,0 +1,74 @@
+-- `notice_writer::put_notice` meets its contract: two parts of the output, one after the other, are the record. Assumes nothing.
+use Rattle.notice_writer.proofs.Laws.{put-two}
+use borrow.Author.Needs.{needs}
+use Rattle.notice_writer.proofs.put_notice.Statement.{statement}
+use Rattle.notice_writer.proofs.put_notice.Tie as tie
+
+status-of-requires : tie.Need-status-of-requires
+status-of-requires c κs = search needs
+
+status-code-requires : tie.Need-status-code-requires
+status-code-requires c κs = search needs
+
+copied-id-requires : tie.Need-copied-id-requires
+copied-id-requires c κs = search needs
+
+copied-type-requires : tie.Need-copied-type-requires
+copied-type-requires c κs = search needs
+
+sub-put-head : tie.Need-sub-put-head
+sub-put-head c = search needs
+
+part-put-head-start : tie.Need-part-put-head-start
+part-put-head-start c = search needs
+
+part-put-head-end : tie.Need-part-put-head-end
+part-put-head-end c = search needs
+
+put-head-requires : tie.Need-put-head-requires
+put-head-requires c κs = search needs
+
+sub-put-status : tie.Need-sub-put-status
+sub-put-status c = search needs
+
+part-put-status-start : tie.Need-part-put-status-start
+part-put-status-start c = search needs
+
+part-put-status-end : tie.Need-part-put-status-end
+part-put-status-end c = search needs
+
+put-status-requires : tie.Need-put-status-requires
+put-status-requires c κs = search needs
+
+same-length : tie.Need-same-length
+same-length c = search needs
+
+returns : tie.Need-returns
+returns c =
+    let start = c .before .before .before .before .before .before .before .before .before .before .before .before .before .before in
+    let the-status-of = c .before .before .before .before .before .before .before .before .before .before .before .status-of in
+    let the-status-code = c .before .before .before .before .before .before .before .before .before .before .status-code in
+    let the-copied-id = c .before .before .before .before .before .before .before .before .before .copied-id in
+    let the-copied-type = c .before .before .before .before .before .before .before .before .copied-type in
+    let the-put-head = c .before .before .before .before .before .before .put-head in
+    let the-put-status = c .before .before .put-status in
+    put-two (start .args .id) (start .args .neighbour) (start .args .number) _ _ _ _ (start .args .octets .now) (start .args .out .now) _ _ (start .pre) (the-status-of .ensures .0) (the-status-code .ensures) (the-copied-id .ensures) (the-copied-type .ensures .0) (the-put-head .ensures) (the-put-status .ensures)
+
+pub put-notice-spec : {M : Type 1} → statement M
+put-notice-spec =
+    tie.close
+    (tie.spec
+    status-of-requires
+    status-code-requires
+    copied-id-requires
+    copied-type-requires
+    sub-put-head
+    part-put-head-start
+    part-put-head-end
+    put-head-requires
+    sub-put-status
+    part-put-status-start
+    part-put-status-end
+    put-status-requires
+    same-length
+    returns)

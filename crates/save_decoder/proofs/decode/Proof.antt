@@ -1,0 +1,62 @@
+use mathlib.Core.Path.{sym, _∙_}
+use borrow.Author.Tests.{not-true, not-false}
+use borrow.Author.Needs.{needs}
+use Rattle.memory.proofs.Marks.{never}
+use Rattle.save_decoder.proofs.Head.{names-not}
+use Rattle.save_decoder.proofs.decode.Statement.{statement}
+use Rattle.save_decoder.proofs.decode.Tie as tie
+
+is-head-requires : tie.Need-is-head-requires
+is-head-requires c κs = search needs
+
+returns : tie.Need-returns
+returns c = ((λ t. absurd (never t)), (λ _. c .before .is-head .ensures .1 (not-true _ (c .if1 .taken))))
+
+read-rows-requires : tie.Need-read-rows-requires
+read-rows-requires c κs =
+    let s = c .before .before .before .before .before .before .before in
+    let h = c .before .before .before .is-head .ensures .0 (not-false _ (c .before .before .if1 .left)) in
+    (s .pre .0, s .pre .1, h .0, h .1, h .2, h .3)
+
+names-once-requires : tie.Need-names-once-requires
+names-once-requires c κs = search needs
+
+same-length : tie.Need-same-length
+same-length c = search needs
+
+same-length-2 : tie.Need-same-length-2
+same-length-2 c = search needs
+
+returns-2 : tie.Need-returns-2
+returns-2 c = ((λ t. absurd (never t)), (λ _. names-not _ _ (c .before .before .before .before .before .before .before .before .read-rows .ensures) (sym (c .before .names-once .ensures) ∙ not-true _ (c .if2 .taken))))
+
+read-labels-requires : tie.Need-read-labels-requires
+read-labels-requires c κs =
+    let s = c .before .before .before .before .before .before .before .before .before .before .before .before .before .before .before .before .before .before in
+    let h = c .before .before .before .before .before .before .before .before .before .before .before .before .before .before .is-head .ensures .0 (not-false _ (c .before .before .before .before .before .before .before .before .before .before .before .before .before .if1 .left)) in
+    (c .before .before .before .before .before .before .before .before .before .numbers .given ∙ s .pre .0, c .before .before .before .before .before .before .before .names .given ∙ s .pre .1, h .2, h .3, c .before .before .before .before .before .before .before .before .before .before .read-rows .ensures, sym (c .before .before .before .names-once .ensures) ∙ not-false _ (c .before .before .if2 .left))
+
+same-length-3 : tie.Need-same-length-3
+same-length-3 c = search needs
+
+same-length-4 : tie.Need-same-length-4
+same-length-4 c = search needs
+
+returns-3 : tie.Need-returns-3
+returns-3 c = ((λ _. c .before .before .before .before .read-labels .ensures), (λ t. absurd (never (sym t))))
+
+pub decode-spec : {M : Type 1} → statement M
+decode-spec =
+    tie.close
+    (tie.spec
+    is-head-requires
+    returns
+    read-rows-requires
+    names-once-requires
+    same-length
+    same-length-2
+    returns-2
+    read-labels-requires
+    same-length-3
+    same-length-4
+    returns-3)

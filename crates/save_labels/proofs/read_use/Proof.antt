@@ -1,0 +1,100 @@
+use Prim.Native.Nat.{_-_, _%_}
+use native.Mathlib.Omega.{arith}
+use mathlib.Core.Path.{_≡_, ap}
+use lib.Dec.{eqb}
+use borrow.Author.Needs.{needs}
+use Rattle.save_labels.proofs.Labels.{use-out, use-put, none-carries}
+use Rattle.save_labels.proofs.read_use.Statement.{statement}
+use Rattle.save_labels.proofs.read_use.Tie as tie
+
+add-four-at : tie.Need-add-four-at
+add-four-at c = search needs
+
+four-at-requires : tie.Need-four-at-requires
+four-at-requires c κs = search needs
+
+base-requires : tie.Need-base-requires
+base-requires c κs = search needs
+
+place-of-requires : tie.Need-place-of-requires
+place-of-requires c κs = search needs
+
+same-length : tie.Need-same-length
+same-length c = search needs
+
+returns : tie.Need-returns
+returns c =
+    let s = c .before .before .before .before .before .before .before .before in
+    use-out (s .args .numbers .now) (s .args .names .now) (s .args .octets .now) (s .args .at) _ _ _ (c .before .place-of .ensures) (c .before .before .before .before .four-at .ensures .0) (c .before .before .base .ensures .0) _ (c .if1 .taken)
+
+add-put-name : tie.Need-add-put-name
+add-put-name c = search needs
+
+slice-aggregate-put-name : tie.Need-slice-aggregate-put-name
+slice-aggregate-put-name c = search needs
+
+put-name-requires : tie.Need-put-name-requires
+put-name-requires c κs = search needs
+
+add-at : tie.Need-add-at
+add-at c = search needs
+
+at-requires : tie.Need-at-requires
+at-requires c κs = search needs
+
+add-at-2 : tie.Need-add-at-2
+add-at-2 c = search needs
+
+at-requires-2 : tie.Need-at-requires-2
+at-requires-2 c κs = search needs
+
+sub-put-use : tie.Need-sub-put-use
+sub-put-use c = search needs
+
+part-put-use-start : tie.Need-part-put-use-start
+part-put-use-start c = search needs
+
+part-put-use-end : tie.Need-part-put-use-end
+part-put-use-end c = search needs
+
+put-use-requires : tie.Need-put-use-requires
+put-use-requires c κs =
+    let s = c .before .before .before .before .before .before .before .before .before .before .before .before .before .before .before .before .before in
+    (s .pre .0, s .pre .1, omega arith, omega arith, omega (arith, c .before .before .before .before .before .before .before .put-name .ensures .1), none-carries _ _ _ (s .pre .3))
+
+same-length-2 : tie.Need-same-length-2
+same-length-2 c = search needs
+
+same-length-3 : tie.Need-same-length-3
+same-length-3 c = search needs
+
+returns-2 : tie.Need-returns-2
+returns-2 c =
+    let s = c .before .before .before .before .before .before .before .before .before .before .before .before .before .before .before .before .before .before .before .before .before .before in
+    let z : c .before .before .before .before .before .before .before .before .before .before .before .before .put-name .result - 0 ≡ c .before .before .before .before .before .before .before .before .before .before .before .before .put-name .result = omega arith in
+    use-put (s .args .numbers .now) (s .args .names .now) (s .args .octets .now) (s .args .at) _ _ _ (c .before .before .before .before .before .before .before .before .before .before .before .before .before .before .before .place-of .ensures) (c .before .before .before .before .before .before .before .before .before .before .before .before .before .before .before .before .before .before .four-at .ensures .0) (c .before .before .before .before .before .before .before .before .before .before .before .before .before .before .before .before .base .ensures .0) _ _ _ _ (c .before .before .before .before .put-use .ensures) (ap (λ x. eqb x 1) (c .before .before .before .before .before .before .before .before .before .before .at .ensures .0)) (ap (λ x. x % 16) (c .before .before .before .before .before .before .before .before .before .at2 .ensures .0)) (rw z (c .before .before .before .before .before .before .before .before .before .before .before .before .put-name .ensures .0))
+
+pub read-use-spec : {M : Type 1} → statement M
+read-use-spec =
+    tie.close
+    (tie.spec
+    add-four-at
+    four-at-requires
+    base-requires
+    place-of-requires
+    same-length
+    returns
+    add-put-name
+    slice-aggregate-put-name
+    put-name-requires
+    add-at
+    at-requires
+    add-at-2
+    at-requires-2
+    sub-put-use
+    part-put-use-start
+    part-put-use-end
+    put-use-requires
+    same-length-2
+    same-length-3
+    returns-2)

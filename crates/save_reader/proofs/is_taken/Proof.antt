@@ -1,0 +1,64 @@
+use mathlib.Core.Path.{sym, _∙_}
+use borrow.Author.Tests.{not-true, not-false}
+use borrow.Author.Needs.{needs}
+use Rattle.memory.proofs.Marks.{never}
+use Rattle.save_reader.proofs.Whole.{taken, not-taken}
+use Rattle.save_reader.proofs.is_taken.Statement.{statement}
+use Rattle.save_reader.proofs.is_taken.Tie as tie
+
+decode-requires : tie.Need-decode-requires
+decode-requires c κs = search needs
+
+same-length : tie.Need-same-length
+same-length c = search needs
+
+same-length-2 : tie.Need-same-length-2
+same-length-2 c = search needs
+
+returns : tie.Need-returns
+returns c = (sym (c .before .before .before .before .before .decode .ensures .1 (not-true _ (c .if1 .taken))), (λ t. absurd (never t)))
+
+keeps-rules-requires : tie.Need-keeps-rules-requires
+keeps-rules-requires c κs = search needs
+
+same-length-3 : tie.Need-same-length-3
+same-length-3 c = search needs
+
+same-length-4 : tie.Need-same-length-4
+same-length-4 c = search needs
+
+returns-2 : tie.Need-returns-2
+returns-2 c =
+    let d = c .before .before .before .before .before .before .before .before .before .decode .ensures .0 (not-false _ (c .before .before .before .before .if1 .left)) in
+    (sym (not-taken _ _ d (sym (c .before .keeps-rules .ensures) ∙ not-true _ (c .if2 .taken))), (λ t. absurd (never t)))
+
+is-saved-as-requires : tie.Need-is-saved-as-requires
+is-saved-as-requires c κs = search needs
+
+same-length-5 : tie.Need-same-length-5
+same-length-5 c = search needs
+
+same-length-6 : tie.Need-same-length-6
+same-length-6 c = search needs
+
+returns-3 : tie.Need-returns-3
+returns-3 c =
+    let d = c .before .before .before .before .before .before .before .before .before .before .before .before .decode .ensures .0 (not-false _ (c .before .before .before .before .before .before .before .if1 .left)) in
+    (taken _ _ _ d (sym (c .before .before .before .before .keeps-rules .ensures) ∙ not-false _ (c .before .before .before .if2 .left)) (c .is-saved-as .ensures), (λ _. d))
+
+pub is-taken-spec : {M : Type 1} → statement M
+is-taken-spec =
+    tie.close
+    (tie.spec
+    decode-requires
+    same-length
+    same-length-2
+    returns
+    keeps-rules-requires
+    same-length-3
+    same-length-4
+    returns-2
+    is-saved-as-requires
+    same-length-5
+    same-length-6
+    returns-3)

@@ -1,0 +1,49 @@
+use Prim.Native.Nat.{_-_}
+use native.Mathlib.Omega.{arith}
+use mathlib.Core.Path.{_≡_}
+use borrow.Author.Needs.{needs}
+use Rattle.save_rows.proofs.enter_name.Statement.{statement}
+use Rattle.save_rows.proofs.enter_name.Tie as tie
+
+slice-aggregate-put-name : tie.Need-slice-aggregate-put-name
+slice-aggregate-put-name c = search needs
+
+put-name-requires : tie.Need-put-name-requires
+put-name-requires c κs = search needs
+
+sub-enter-tree : tie.Need-sub-enter-tree
+sub-enter-tree c = search needs
+
+part-enter-tree-start : tie.Need-part-enter-tree-start
+part-enter-tree-start c = search needs
+
+part-enter-tree-end : tie.Need-part-enter-tree-end
+part-enter-tree-end c = search needs
+
+enter-tree-requires : tie.Need-enter-tree-requires
+enter-tree-requires c κs = search needs
+
+same-length : tie.Need-same-length
+same-length c = search needs
+
+same-length-2 : tie.Need-same-length-2
+same-length-2 c = search needs
+
+returns : tie.Need-returns
+returns c =
+    let z : c .before .before .before .before .before .before .before .before .before .before .put-name .result - 0 ≡ c .before .before .before .before .before .before .before .before .before .before .put-name .result = omega arith in
+    rw (← c .before .before .before .before .before .before .before .before .before .before .put-name .ensures .0, ← z) (c .before .before .before .before .enter-tree .ensures)
+
+pub enter-name-spec : {M : Type 1} → statement M
+enter-name-spec =
+    tie.close
+    (tie.spec
+    slice-aggregate-put-name
+    put-name-requires
+    sub-enter-tree
+    part-enter-tree-start
+    part-enter-tree-end
+    enter-tree-requires
+    same-length
+    same-length-2
+    returns)

@@ -1,0 +1,109 @@
+// A save's head, routes and trees: out of its octets, into memory that is lent.
+ghost use mathlib.Core.Path.{_≡_};
+ghost use mathlib.Core.List.{List, [], _∷_, _++_};
+ghost use Prim.Native.Nat.{ℕ, _≤_, _<_};
+ghost use lib.ListN.{drop, set, getD};
+ghost use Rattle.meaning.specs.Octets.{fourAt};
+ghost use Rattle.meaning.specs.Card.{withRoutes, withTrees, bare, treeAt};
+ghost use Rattle.meaning.specs.Save.{nameIn, routeRead, treeRead, foursIn, routesRead, treesRead, headSize};
+ghost use Rattle.memory.specs.Sizes.{Numbers, Names};
+ghost use Rattle.memory.specs.Memory.{cardOf, treeCount, routeCount};
+ghost use Rattle.save_rows.specs.Stages.{withBranches, rowsRead};
+use meaning::BRANCH_PLACE;
+use meaning::HEAD_SIZE;
+use meaning::LEAF_PLACE;
+use meaning::NAME_LIMIT;
+use meaning::ROUTE_SIZE;
+use meaning::TREE_SIZE;
+
+// ---- routes
+
+fn read_route(octets: &[u8], at: usize, numbers: &mut [u64], names: &mut [u8])
+    requires { ⌜ Numbers (now numbers) × Names (now names) × (routeCount (now numbers) < 32) × (at < 1000000000) ⌝ }
+    ensures { λ _. ⌜ cardOf (now (numbers .exit)) (now (names .exit))
+        ≡ withRoutes (cardOf (now (numbers .entry)) (now (names .entry)) .routes ++ (routeRead (drop at (now (octets .entry))) ∷ [])) (cardOf (now (numbers .entry)) (now (names .entry))) ⌝ }
+{
+    let root = save_fields::spaced(octets, at + 4, 16);
+    let via = octets::at(octets, at + 3);
+    memory_rows::append_route(numbers, names, root, via);
+}
+
+fn read_routes(octets: &[u8], n: usize, numbers: &mut [u64], names: &mut [u8])
+    requires { ⌜ Numbers (now numbers) × Names (now names) × (n ≤ 32) × (cardOf (now numbers) (now names) .routes ≡ []) ⌝ }
+    ensures { λ _. ⌜ cardOf (now (numbers .exit)) (now (names .exit)) ≡ withRoutes (routesRead n (drop headSize (now (octets .entry)))) (cardOf (now (numbers .entry)) (now (names .entry))) ⌝ }
+{
+    let mut i = 0;
+    while i < n {
+        read_route(octets, HEAD_SIZE + i * ROUTE_SIZE, numbers, names);
+        i += 1;
+    }
+}
+
+// ---- trees
+
+fn read_branches(octets: &[u8], at: usize, numbers: &mut [u64], i: usize)
+    requires { ⌜ Numbers (now numbers) × (i < treeCount (now numbers)) × (i < 64) × (at < 1073741824) ⌝ }
+    ensures { λ _. ⌜ ((os : List ℕ) → cardOf (now (numbers .exit)) os
+        ≡ withTrees (set (cardOf (now (numbers .entry)) os .trees) i (withBranches (foursIn 16 (drop at (now (octets .entry)))) (treeAt i (cardOf (now (numbers .entry)) os)))) (cardOf (now (numbers .entry)) os)) ⌝ }
+{
+    let mut n = 0;
+    while n < 16 {
+        let label = octets::four_at(octets, at + n * 4);
+        memory_trees::set_branch(numbers, i, n, label);
+        n += 1;
+    }
+}
+
+fn enter_name(octets: &[u8], at: usize, numbers: &mut [u64], names: &mut [u8])
+    requires { ⌜ Numbers (now numbers) × Names (now names) × (treeCount (now numbers) < 64) × (at < 1073741824) ⌝ }
+    ensures { λ _. ⌜ cardOf (now (numbers .exit)) (now (names .exit))
+        ≡ withTrees (cardOf (now (numbers .entry)) (now (names .entry)) .trees ++ (bare (nameIn (drop at (now (octets .entry)))) ∷ [])) (cardOf (now (numbers .entry)) (now (names .entry))) ⌝ }
+{
+    let mut name = [0u8; NAME_LIMIT];
+    let n = save_fields::put_name(octets, at, &mut name);
+    memory_rows::enter_tree(numbers, names, &name[0..n]);
+}
+
+fn read_tree(octets: &[u8], at: usize, numbers: &mut [u64], names: &mut [u8])
+    requires { ⌜ Numbers (now numbers) × Names (now names) × (treeCount (now numbers) < 64) × (at < 1000000000) ⌝ }
+    ensures { λ _. ⌜ cardOf (now (numbers .exit)) (now (names .exit))
+        ≡ withTrees (cardOf (now (numbers .entry)) (now (names .entry)) .trees ++ (treeRead (drop at (now (octets .entry))) ∷ [])) (cardOf (now (numbers .entry)) (now (names .entry))) ⌝ }
+{
+    let i = memory::tree_count(numbers);
+    enter_name(octets, at + 3, numbers, names);
+    let leaf = octets::at(octets, at + LEAF_PLACE) != 0;
+    memory_trees::set_leaf(numbers, i, leaf);
+    read_branches(octets, at + BRANCH_PLACE, numbers, i);
+}
+
+fn read_trees(octets: &[u8], at: usize, n: usize, numbers: &mut [u64], names: &mut [u8])
+    requires { ⌜ Numbers (now numbers) × Names (now names) × (n ≤ 64) × (at < 65536) × (cardOf (now numbers) (now names) .trees ≡ []) ⌝ }
+    ensures { λ _. ⌜ cardOf (now (numbers .exit)) (now (names .exit)) ≡ withTrees (treesRead n (drop at (now (octets .entry)))) (cardOf (now (numbers .entry)) (now (names .entry))) ⌝ }
+{
+    let mut i = 0;
+    while i < n {
+        read_tree(octets, at + i * TREE_SIZE, numbers, names);
+        i += 1;
+    }
+}
+
+// ---- the whole
+
+// The head, the routes and the trees, into memory that held anything.
+pub fn read_rows(octets: &[u8], numbers: &mut [u64], names: &mut [u8])
+    requires { ⌜ Numbers (now numbers) × Names (now names) × (16 ≤ fourAt (now octets) 3) × (fourAt (now octets) 3 ≤ 1048320) × (getD (now octets) 11 0 ≤ 32) × (getD (now octets) 12 0 ≤ 64) ⌝ }
+    ensures { λ _. ⌜ cardOf (now (numbers .exit)) (now (names .exit)) ≡ rowsRead (now (octets .entry)) ⌝ }
+{
+    memory_rows::start_fresh(numbers, octets::four_at(octets, 3));
+    memory::set_next_id(numbers, octets::four_at(octets, 7) as u32);
+    let routes = octets::at(octets, 11) as usize;
+    read_routes(octets, routes, numbers, names);
+    let trees = octets::at(octets, 12) as usize;
+    read_trees(
+        octets,
+        HEAD_SIZE + routes * ROUTE_SIZE,
+        trees,
+        numbers,
+        names,
+    );
+}

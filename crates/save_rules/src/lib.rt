@@ -1,0 +1,167 @@
+// Whether the card that the memory denotes keeps the rules in force: one function for each rule, and one for what it asks of a row.
+// Some rules any memory keeps, since it is read so: the base's range, the identifier's, the numbers of routes, trees and labels, sixteen
+// branches to a tree, and a neighbour's number with each label that is mapped. The code tests nothing for them; proofs/Laws.antt says why.
+ghost use mathlib.Core.Path.{_≡_};
+ghost use mathlib.Core.Bool.{false, _&&_};
+ghost use mathlib.Core.List.{List};
+ghost use Prim.Native.Nat.{ℕ, _+_, _<_};
+ghost use Rattle.meaning.specs.Octets.{all};
+ghost use Rattle.meaning.specs.Card.{treeAt, useOf};
+ghost use Rattle.meaning.specs.Save.{isName, isUse, isCarried, allCarried, isMappedFor, carriesOwn, holdsRight, keepsRules};
+ghost use Rattle.memory.specs.Sizes.{Numbers, Names};
+ghost use Rattle.memory.specs.Memory.{cardOf, baseIn, treeCount, isFreeAt, labelIn, labelName};
+
+// ---- labels
+
+// Whether the label at place p, which is not free, is used for one of the sixteen neighbours.
+fn is_near(numbers: &[u64], p: usize) -> bool
+    requires { ⌜ Numbers (now numbers) × (p < 256) × (isFreeAt (now numbers) p ≡ false) ⌝ }
+    ensures { λ r. ⌜ ((os : List ℕ) → isUse (labelIn (now (numbers .entry)) os p) ≡ (r && isName (labelName os p))) ⌝ }
+{
+    if memory_labels::mapped_at(numbers, p) != 17 {
+        return true;
+    }
+    memory_labels::awaited_at(numbers, p) < 16
+}
+
+// The neighbour of a label in use is one of the sixteen, whatever the memory holds: its name is what can be wrong.
+fn is_use(numbers: &[u64], names: &[u8], p: usize) -> bool
+    requires { ⌜ Numbers (now numbers) × Names (now names) × (p < 256) ⌝ }
+    ensures { λ r. ⌜ r ≡ isUse (labelIn (now (numbers .entry)) (now (names .entry)) p) ⌝ }
+{
+    if memory_labels::is_free(numbers, p) {
+        return true;
+    }
+    if is_near(numbers, p) {
+        return save_rules_rows::is_name(memory_labels::label_name(names, p));
+    }
+    false
+}
+
+fn uses_good(numbers: &[u64], names: &[u8]) -> bool
+    requires { ⌜ Numbers (now numbers) × Names (now names) ⌝ }
+    ensures { λ r. ⌜ r ≡ all isUse (cardOf (now (numbers .entry)) (now (names .entry)) .labels) ⌝ }
+{
+    let mut p = 0;
+    while p < 256 {
+        if !is_use(numbers, names, p) {
+            return false;
+        }
+        p += 1;
+    }
+    true
+}
+
+// Whether the label at place p, if it is mapped, is that of the tree of its name.
+fn is_carried(numbers: &[u64], names: &[u8], p: usize) -> bool
+    requires { ⌜ Numbers (now numbers) × Names (now names) × (p < 256) ⌝ }
+    ensures { λ r. ⌜ r ≡ isCarried (cardOf (now (numbers .entry)) (now (names .entry))) (baseIn (now (numbers .entry)) + p) (labelIn (now (numbers .entry)) (now (names .entry)) p) ⌝ }
+{
+    if memory_labels::mapped_at(numbers, p) == 17 {
+        return true;
+    }
+    let i = memory_trees::tree_place(numbers, names, memory_labels::label_name(names, p));
+    if i < memory::tree_count(numbers) {
+        return memory_trees::tree_label(numbers, i) == memory::base(numbers) + p as u64;
+    }
+    false
+}
+
+fn all_carried(numbers: &[u64], names: &[u8]) -> bool
+    requires { ⌜ Numbers (now numbers) × Names (now names) ⌝ }
+    ensures { λ r. ⌜ r ≡ allCarried (cardOf (now (numbers .entry)) (now (names .entry))) (cardOf (now (numbers .entry)) (now (names .entry)) .base) (cardOf (now (numbers .entry)) (now (names .entry)) .labels) ⌝ }
+{
+    let mut p = 0;
+    while p < 256 {
+        if !is_carried(numbers, names, p) {
+            return false;
+        }
+        p += 1;
+    }
+    true
+}
+
+// Whether a label is mapped for that name.
+fn is_mapped_for(numbers: &[u64], names: &[u8], label: u64, name: &[u8]) -> bool
+    requires { ⌜ Numbers (now numbers) × Names (now names) ⌝ }
+    ensures { λ r. ⌜ r ≡ isMappedFor (now (name .entry)) (useOf label (cardOf (now (numbers .entry)) (now (names .entry)))) ⌝ }
+{
+    let b = memory::base(numbers);
+    if label < b {
+        return false;
+    }
+    if 256 <= label - b {
+        return false;
+    }
+    let p = (label - b) as usize;
+    if memory_labels::mapped_at(numbers, p) == 17 {
+        return false;
+    }
+    octets::equal(memory_labels::label_name(names, p), name)
+}
+
+fn carries_own(numbers: &[u64], names: &[u8], i: usize) -> bool
+    requires { ⌜ Numbers (now numbers) × Names (now names) × (i < treeCount (now numbers)) × (i < 64) ⌝ }
+    ensures { λ r. ⌜ r ≡ carriesOwn (cardOf (now (numbers .entry)) (now (names .entry))) (treeAt i (cardOf (now (numbers .entry)) (now (names .entry)))) ⌝ }
+{
+    let label = memory_trees::tree_label(numbers, i);
+    if label == 0 {
+        return true;
+    }
+    is_mapped_for(numbers, names, label, memory_trees::tree_name(names, i))
+}
+
+fn own_labels(numbers: &[u64], names: &[u8]) -> bool
+    requires { ⌜ Numbers (now numbers) × Names (now names) ⌝ }
+    ensures { λ r. ⌜ r ≡ all (carriesOwn (cardOf (now (numbers .entry)) (now (names .entry)))) (cardOf (now (numbers .entry)) (now (names .entry)) .trees) ⌝ }
+{
+    let n = memory::tree_count(numbers);
+    let mut i = 0;
+    while i < n {
+        if !carries_own(numbers, names, i) {
+            return false;
+        }
+        i += 1;
+    }
+    true
+}
+
+fn holds_right(numbers: &[u64], names: &[u8], i: usize) -> bool
+    requires { ⌜ Numbers (now numbers) × Names (now names) × (i < treeCount (now numbers)) × (i < 64) ⌝ }
+    ensures { λ r. ⌜ r ≡ holdsRight (cardOf (now (numbers .entry)) (now (names .entry))) (treeAt i (cardOf (now (numbers .entry)) (now (names .entry)))) ⌝ }
+{
+    let u = event_holder::upstream_of(numbers, names, memory_trees::tree_name(names, i));
+    memory_trees::held_for(numbers, i) == event_holder::holder(numbers, i, u)
+}
+
+fn held_right(numbers: &[u64], names: &[u8]) -> bool
+    requires { ⌜ Numbers (now numbers) × Names (now names) ⌝ }
+    ensures { λ r. ⌜ r ≡ all (holdsRight (cardOf (now (numbers .entry)) (now (names .entry)))) (cardOf (now (numbers .entry)) (now (names .entry)) .trees) ⌝ }
+{
+    let n = memory::tree_count(numbers);
+    let mut i = 0;
+    while i < n {
+        if !holds_right(numbers, names, i) {
+            return false;
+        }
+        i += 1;
+    }
+    true
+}
+
+// ---- all of them
+
+// Each is asked: a table that keeps the rules passes them all.
+pub fn keeps_rules(numbers: &[u64], names: &[u8]) -> bool
+    requires { ⌜ Numbers (now numbers) × Names (now names) ⌝ }
+    ensures { λ r. ⌜ r ≡ keepsRules (cardOf (now (numbers .entry)) (now (names .entry))) ⌝ }
+{
+    save_rules_rows::routes_good(numbers, names)
+        & save_rules_rows::roots_once(numbers, names)
+        & save_rules_rows::trees_good(numbers, names)
+        & save_rules_rows::names_once(numbers, names)
+        & uses_good(numbers, names)
+        & all_carried(numbers, names)
+        & own_labels(numbers, names)
+        & held_right(numbers, names)
+}

@@ -1,0 +1,178 @@
+// The rules in force that speak of routes and trees: one function for each rule, and one for what it asks of a row.
+ghost use mathlib.Core.Path.{_≡_};
+ghost use mathlib.Core.Bool.{false, not};
+ghost use mathlib.Core.List.{List};
+ghost use Prim.Native.Nat.{ℕ, _+_, _<_};
+ghost use lib.ListN.{drop};
+ghost use Rattle.meaning.specs.Octets.{any, all};
+ghost use Rattle.meaning.specs.Card.{treeAt, isEmpty, isFor, named};
+ghost use Rattle.meaning.specs.Save.{isName, onceEach, isRoute, sameRoot, isBranchLabel, isTree, sameName};
+ghost use Rattle.memory.specs.Sizes.{Numbers, Names};
+ghost use Rattle.memory.specs.Memory.{cardOf, treeCount, routeIn};
+
+// ---- routes
+
+fn is_route(numbers: &[u64], names: &[u8], i: usize) -> bool
+    requires { ⌜ Numbers (now numbers) × Names (now names) × (i < 32) ⌝ }
+    ensures { λ r. ⌜ r ≡ isRoute (routeIn (now (numbers .entry)) (now (names .entry)) i) ⌝ }
+{
+    if 16 < memory_trees::route_via(numbers, i) {
+        return false;
+    }
+    let n = memory_trees::root_name(names, i).len();
+    if n == 4 {
+        return true;
+    }
+    n == 16
+}
+
+pub fn routes_good(numbers: &[u64], names: &[u8]) -> bool
+    requires { ⌜ Numbers (now numbers) × Names (now names) ⌝ }
+    ensures { λ r. ⌜ r ≡ all isRoute (cardOf (now (numbers .entry)) (now (names .entry)) .routes) ⌝ }
+{
+    let n = memory::route_count(numbers);
+    let mut i = 0;
+    while i < n {
+        if !is_route(numbers, names, i) {
+            return false;
+        }
+        i += 1;
+    }
+    true
+}
+
+// Whether a route of that root stands at place `from` or further on.
+fn root_from(numbers: &[u64], names: &[u8], from: usize, root: &[u8]) -> bool
+    requires { ⌜ Numbers (now numbers) × Names (now names) ⌝ }
+    ensures { λ r. ⌜ r ≡ any (isFor (now (root .entry))) (drop from (cardOf (now (numbers .entry)) (now (names .entry)) .routes)) ⌝ }
+{
+    let n = memory::route_count(numbers);
+    let mut i = from;
+    while i < n {
+        if octets::equal(memory_trees::root_name(names, i), root) {
+            return true;
+        }
+        i += 1;
+    }
+    false
+}
+
+pub fn roots_once(numbers: &[u64], names: &[u8]) -> bool
+    requires { ⌜ Numbers (now numbers) × Names (now names) ⌝ }
+    ensures { λ r. ⌜ r ≡ onceEach sameRoot (cardOf (now (numbers .entry)) (now (names .entry)) .routes) ⌝ }
+{
+    let n = memory::route_count(numbers);
+    let mut i = 0;
+    while i < n {
+        if root_from(numbers, names, i + 1, memory_trees::root_name(names, i)) {
+            return false;
+        }
+        i += 1;
+    }
+    true
+}
+
+// ---- trees
+
+pub fn is_name(name: &[u8]) -> bool
+    ensures { λ r. ⌜ r ≡ isName (now (name .entry)) ⌝ }
+{
+    wire_reader::element_refusal(name) == 0
+}
+
+fn is_branch_label(label: u64) -> bool
+    ensures { λ r. ⌜ r ≡ isBranchLabel label ⌝ }
+{
+    if label == 0 {
+        return true;
+    }
+    if label < 16 {
+        return false;
+    }
+    label <= 1048575
+}
+
+fn branches_good(numbers: &[u64], i: usize) -> bool
+    requires { ⌜ Numbers (now numbers) × (i < treeCount (now numbers)) × (i < 64) ⌝ }
+    ensures { λ r. ⌜ ((os : List ℕ) → r ≡ all isBranchLabel (treeAt i (cardOf (now (numbers .entry)) os) .branches)) ⌝ }
+{
+    let mut k = 0;
+    while k < 16 {
+        if !is_branch_label(memory_trees::branch(numbers, i, k)) {
+            return false;
+        }
+        k += 1;
+    }
+    true
+}
+
+// Whether the tree at place i has a branch or a leaf.
+fn leads_somewhere(numbers: &[u64], i: usize) -> bool
+    requires { ⌜ Numbers (now numbers) × (i < treeCount (now numbers)) × (i < 64) ⌝ }
+    ensures { λ r. ⌜ ((os : List ℕ) → r ≡ not (isEmpty (treeAt i (cardOf (now (numbers .entry)) os)))) ⌝ }
+{
+    if memory_trees::is_leaf(numbers, i) {
+        return true;
+    }
+    memory_trees::any_branch(numbers, i, 16, 0, 16)
+}
+
+fn is_tree(numbers: &[u64], names: &[u8], i: usize) -> bool
+    requires { ⌜ Numbers (now numbers) × Names (now names) × (i < treeCount (now numbers)) × (i < 64) ⌝ }
+    ensures { λ r. ⌜ r ≡ isTree (treeAt i (cardOf (now (numbers .entry)) (now (names .entry)))) ⌝ }
+{
+    if !is_name(memory_trees::tree_name(names, i)) {
+        return false;
+    }
+    if !branches_good(numbers, i) {
+        return false;
+    }
+    leads_somewhere(numbers, i)
+}
+
+pub fn trees_good(numbers: &[u64], names: &[u8]) -> bool
+    requires { ⌜ Numbers (now numbers) × Names (now names) ⌝ }
+    ensures { λ r. ⌜ r ≡ all isTree (cardOf (now (numbers .entry)) (now (names .entry)) .trees) ⌝ }
+{
+    let n = memory::tree_count(numbers);
+    let mut i = 0;
+    while i < n {
+        if !is_tree(numbers, names, i) {
+            return false;
+        }
+        i += 1;
+    }
+    true
+}
+
+// Whether a tree of that name stands at place `from` or further on.
+fn name_from(numbers: &[u64], names: &[u8], from: usize, name: &[u8]) -> bool
+    requires { ⌜ Numbers (now numbers) × Names (now names) ⌝ }
+    ensures { λ r. ⌜ r ≡ any (named (now (name .entry))) (drop from (cardOf (now (numbers .entry)) (now (names .entry)) .trees)) ⌝ }
+{
+    let n = memory::tree_count(numbers);
+    let mut i = from;
+    while i < n {
+        if octets::equal(memory_trees::tree_name(names, i), name) {
+            return true;
+        }
+        i += 1;
+    }
+    false
+}
+
+// No two trees have one name.
+pub fn names_once(numbers: &[u64], names: &[u8]) -> bool
+    requires { ⌜ Numbers (now numbers) × Names (now names) ⌝ }
+    ensures { λ r. ⌜ r ≡ onceEach sameName (cardOf (now (numbers .entry)) (now (names .entry)) .trees) ⌝ }
+{
+    let n = memory::tree_count(numbers);
+    let mut i = 0;
+    while i < n {
+        if name_from(numbers, names, i + 1, memory_trees::tree_name(names, i)) {
+            return false;
+        }
+        i += 1;
+    }
+    true
+}

@@ -1,0 +1,50 @@
+-- The laws by which the writer of texts and names follows the definitions. Assumes nothing.
+use Prim.Native.Nat.{ℕ, _+_, _-_, _≤_, _<_}
+use native.Mathlib.Omega.{arith}
+use mathlib.Core.Path.{_≡_, refl, sym, ap, _∙_}
+use mathlib.Core.List.{List, [], _∷_}
+use lib.ListN.{length, take, drop, getD, set, length-drop, drop-of-length-le}
+use lib.Seq.{take-all}
+use Rattle.meaning.specs.Wire.{rootLength, rootIn, opaqueIn, rootLimit}
+use Rattle.meaning.specs.Save.{padded, spaced, nameSaved, savedOpaque, nameSize}
+use Rattle.octets.specs.Part.{mid}
+use Rattle.octets.proofs.Laws.{front, front-more, copy-done}
+use Rattle.save_texts.proofs.Parts.{two-parts}
+use Rattle.save_texts.proofs.Sizes.{padded-at, padded-length, space-length}
+
+-- ---- a text in its space: the octets written from the front, and their number before them
+
+module _ (xs o : List ℕ) (n : ℕ) (l : length xs ≡ n) where
+  abbrev pub Filled : ℕ → List ℕ → Type 0
+  Filled j ys = ys ≡ front j (padded n (take n o)) xs
+
+  pub filled-next : (j v : ℕ) (ys : List ℕ) → j < n → Filled j ys → v ≡ getD o j 0 → Filled (j + 1) (set ys j v)
+  filled-next j v ys h p e =
+      front-more (padded n (take n o)) xs ys 0 v j (omega (arith, padded-length n o)) (omega arith) p (e ∙ sym (padded-at n o j h))
+
+  pub filled-done : (j : ℕ) (ys : List ℕ) → n ≤ j → Filled j ys → ys ≡ padded n (take n o)
+  filled-done j ys h p = copy-done (padded n (take n o)) xs ys j (omega (arith, padded-length n o)) (padded-length n o ∙ sym l) p
+
+pub space-put : (xs us vs o : List ℕ) (n v : ℕ) → length xs ≡ 1 + n → v ≡ length (take n o) → us ≡ v ∷ [] → vs ≡ padded n (take n o) → mid 1 (1 + n - 1) (mid 0 1 xs us) vs ≡ spaced n o
+unfolding spaced
+space-put xs us vs o n v l ev eu es =
+    let q : 1 + n - 1 ≡ n = omega arith in
+    rw (q, eu, es, ev) (two-parts 1 n xs (length (take n o) ∷ []) (padded n (take n o)) l refl (padded-length n o))
+
+-- ---- a name
+
+pub name-put : (a xs us vs r o : List ℕ) → length xs ≡ nameSize → r ≡ rootIn a → o ≡ opaqueIn a → us ≡ spaced rootLimit r → vs ≡ spaced savedOpaque o → mid (1 + rootLimit) (1 + savedOpaque) (mid 0 (1 + rootLimit) xs us) vs ≡ nameSaved a
+unfolding nameSaved
+name-put a xs us vs r o l er eo eu es =
+    rw (eu, es, er, eo) (two-parts (1 + rootLimit) (1 + savedOpaque) xs (spaced rootLimit (rootIn a)) (spaced savedOpaque (opaqueIn a)) l (space-length rootLimit (rootIn a)) (space-length savedOpaque (opaqueIn a)))
+
+-- ---- the opaque value
+
+module _ (a : List ℕ) (n : ℕ) (e : n ≡ rootLength a) where
+  pub opaque-none : length a < 6 + n → [] ≡ opaqueIn a
+  unfolding opaqueIn
+  opaque-none h = sym (drop-of-length-le a {i = 6 + rootLength a} (omega arith))
+
+  pub opaque-all : take (length a - (6 + n)) (drop (6 + n) a) ≡ opaqueIn a
+  unfolding opaqueIn
+  opaque-all = take-all (length a - (6 + n)) (drop (6 + n) a) (simp length-drop (omega arith)) ∙ ap (λ (k : ℕ). drop (6 + k) a) e

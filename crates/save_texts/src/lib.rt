@@ -1,0 +1,67 @@
+// Texts in their spaces, as a save has them: how many octets, these, and zeros; and a name, which is two of them.
+ghost use mathlib.Core.Path.{_≡_};
+ghost use Prim.Native.Nat.{_+_, _≤_};
+ghost use lib.ListN.{length, take};
+ghost use Rattle.meaning.specs.Wire.{opaqueIn};
+ghost use Rattle.meaning.specs.Save.{padded, spaced, nameSaved, nameSize};
+use meaning::NAME_SIZE;
+use meaning::ROOT_LIMIT;
+use meaning::SAVED_OPAQUE;
+use meaning::SAVED_ROOT_SPACE;
+
+// How many octets of a text find room.
+fn fitting(text: &[u8], room: usize) -> usize
+    ensures { λ r. ⌜ (r ≡ length (take room (now (text .entry)))) × (r ≤ room) ⌝ }
+{
+    if text.len() < room { text.len() } else { room }
+}
+
+// A text and zeros behind it. What goes beyond the room is left out.
+fn put_padded(out: &mut [u8], room: usize, text: &[u8])
+    requires { ⌜ length (now out) ≡ room ⌝ }
+    ensures { λ _. ⌜ now (out .exit) ≡ padded room (take room (now (text .entry))) ⌝ }
+{
+    let mut j = 0;
+    while j < room {
+        out[j] = octets::at(text, j) as u8;
+        j += 1;
+    }
+}
+
+// A text in its space: how many octets of it find room, and these.
+pub fn put_space(out: &mut [u8], room: usize, text: &[u8])
+    requires { ⌜ (length (now out) ≡ 1 + room) × (room ≤ 255) ⌝ }
+    ensures { λ _. ⌜ now (out .exit) ≡ spaced room (now (text .entry)) ⌝ }
+{
+    let n = [fitting(text, room) as u8];
+    octets::copy(&mut out[0..1], &n);
+    let e = 1 + room;
+    put_padded(&mut out[1..e], room, text);
+}
+
+// The part of a name that holds the opaque value.
+fn opaque_of(name: &[u8]) -> &[u8]
+    ensures { λ r. ⌜ now r ≡ opaqueIn (now (name .entry)) ⌝ }
+{
+    let n = 6 + wire_reader::root_length(name);
+    if name.len() < n {
+        return &name[0..0];
+    }
+    &name[n..]
+}
+
+pub fn put_name(out: &mut [u8], name: &[u8])
+    requires { ⌜ length (now out) ≡ nameSize ⌝ }
+    ensures { λ _. ⌜ now (out .exit) ≡ nameSaved (now (name .entry)) ⌝ }
+{
+    put_space(
+        &mut out[0..SAVED_ROOT_SPACE],
+        ROOT_LIMIT,
+        wire_reader::root_of(name),
+    );
+    put_space(
+        &mut out[SAVED_ROOT_SPACE..NAME_SIZE],
+        SAVED_OPAQUE,
+        opaque_of(name),
+    );
+}
