@@ -146,7 +146,7 @@ pub fn join_core(
     ensures { λ r. ⌜ Does (event (length (now (out .entry))) (cardOf (now (numbers .entry)) (now (names .entry))) (join (now (element .entry))))
         (now (answer .exit)) r (now (out .entry)) (now (out .exit)) (cardOf (now (numbers .exit)) (now (names .exit))) ⌝ }
 {
-    let refusal = wire_reader::element_refusal(element);
+    let refusal = wire_name::element_refusal(element);
     if refusal != 0 {
         *answer = refusal;
         return 0;
@@ -178,7 +178,7 @@ pub fn leave_core(
     ensures { λ r. ⌜ Does (event (length (now (out .entry))) (cardOf (now (numbers .entry)) (now (names .entry))) (leave (now (element .entry))))
         (now (answer .exit)) r (now (out .entry)) (now (out .exit)) (cardOf (now (numbers .exit)) (now (names .exit))) ⌝ }
 {
-    let refusal = wire_reader::element_refusal(element);
+    let refusal = wire_name::element_refusal(element);
     if refusal != 0 {
         *answer = refusal;
         return 0;

@@ -10,7 +10,7 @@ use borrow.Author.Tests.{eq-eqb, ne-eqb, leb-true, leb-false, ltb-true, ltb-fals
 use Rattle.meaning.specs.Octets.{place}
 use Rattle.meaning.specs.Lists.{by-test, getD-out, set-replicate}
 use Rattle.meaning.specs.Wire.{rootIn, elementRefusal}
-use Rattle.meaning.specs.Card.{Card, Tree, Use, free, mapped, awaiting, Feed, noRoute, bare, treePlace, treeAt, isBranch, notHeld, mappedTo, useOf, routeOf, Branch, nothing, branchesFrom, feedOf, carries, carrier, feedOfUse, lookupLabel, lookupName}
+use Rattle.meaning.specs.Card.{Card, Tree, Use, free, mapped, awaiting, Feed, noRoute, bare, treePlace, treeAt, isBranch, notHeld, mappedTo, useOf, routeOf, Branch, nothing, branchesFrom, feedOf, carries, carrier, feedOfUse, lookupLabel, lookupName, labelCount}
 use Rattle.octets.specs.Part.{tab}
 use Rattle.octets.proofs.Tab.{tab-length}
 use Rattle.memory.specs.Memory.{cardOf, baseIn, treeCount, markAt, markUse, isFreeAt, labelIn}
@@ -59,32 +59,32 @@ none-in l c ns os p e =
     (λ y. rw (label-awaiting ns p os x (ltb-false _ _ y)) (unfold feedOfUse in refl)))
 
 module _ (ns os : List ℕ) (l : ℕ) where
-  outside : (baseIn ns ≤ l → l < baseIn ns + 256 → ⊥) → useOf l (cardOf ns os) ≡ free
+  outside : (baseIn ns ≤ l → l < baseIn ns + labelCount → ⊥) → useOf l (cardOf ns os) ≡ free
   unfolding useOf cardOf
   outside h =
       by-test (leb (baseIn ns) l)
-      (λ e. rw e (getD-out (tab 256 (labelIn ns os)) (l - baseIn ns) free (rw (tab-length 256 (labelIn ns os)) (far-off (leb-true _ _ e)))))
+      (λ e. rw e (getD-out (tab labelCount (labelIn ns os)) (l - baseIn ns) free (rw (tab-length 256 (labelIn ns os)) (far-off (leb-true _ _ e)))))
       (λ e. rw e refl)
     where
-      far-off : baseIn ns ≤ l → 256 ≤ l - baseIn ns
-      far-off k = by-test (ltb l (baseIn ns + 256)) (λ e. absurd (h k (ltb-true _ _ e))) (λ e. omega (arith, ltb-false l (baseIn ns + 256) e))
+      far-off : baseIn ns ≤ l → labelCount ≤ l - baseIn ns
+      far-off k = by-test (ltb l (baseIn ns + labelCount)) (λ e. absurd (h k (ltb-true _ _ e))) (λ e. omega (arith, ltb-false l (baseIn ns + labelCount) e))
 
-  pub mapped-inside : (mappedTo (useOf l (cardOf ns os)) ≡ noRoute → ⊥) → (baseIn ns ≤ l) × (l < baseIn ns + 256)
+  pub mapped-inside : (mappedTo (useOf l (cardOf ns os)) ≡ noRoute → ⊥) → (baseIn ns ≤ l) × (l < baseIn ns + labelCount)
   mapped-inside h =
       by-test (leb (baseIn ns) l)
-      (λ x. by-test (ltb l (baseIn ns + 256))
+      (λ x. by-test (ltb l (baseIn ns + labelCount))
       (λ y. (leb-true _ _ x, ltb-true _ _ y))
-      (λ y. absurd (h (ap mappedTo (outside (λ _ k. omega (arith, ltb-false l (baseIn ns + 256) y))) ∙ unfold mappedTo in refl))))
+      (λ y. absurd (h (ap mappedTo (outside (λ _ k. omega (arith, ltb-false l (baseIn ns + labelCount) y))) ∙ unfold mappedTo in refl))))
       (λ x. absurd (h (ap mappedTo (outside (λ k _. omega (arith, leb-false (baseIn ns) l x))) ∙ unfold mappedTo in refl)))
 
   pub none-found : mappedTo (useOf l (cardOf ns os)) ≡ noRoute → nothing ≡ lookupLabel l (cardOf ns os)
   unfolding lookupLabel
   none-found e =
       by-test (leb (baseIn ns) l)
-      (λ x. by-test (ltb l (baseIn ns + 256))
-      (λ y. let u : useOf l (cardOf ns os) ≡ labelIn ns os (l - baseIn ns) = use-in ns os l (l - baseIn ns) (omega (arith, leb-true (baseIn ns) l x)) (omega (arith, leb-true (baseIn ns) l x, ltb-true l (baseIn ns + 256) y)) in
+      (λ x. by-test (ltb l (baseIn ns + labelCount))
+      (λ y. let u : useOf l (cardOf ns os) ≡ labelIn ns os (l - baseIn ns) = use-in ns os l (l - baseIn ns) (omega (arith, leb-true (baseIn ns) l x)) (omega (arith, leb-true (baseIn ns) l x, ltb-true l (baseIn ns + labelCount) y)) in
       sym (ap (feedOfUse l (cardOf ns os)) u ∙ none-in l (cardOf ns os) ns os (l - baseIn ns) (sym (ap mappedTo u) ∙ e)))
-      (λ y. sym (ap (feedOfUse l (cardOf ns os)) (outside (λ _ k. omega (arith, ltb-false l (baseIn ns + 256) y))) ∙ unfold feedOfUse in refl)))
+      (λ y. sym (ap (feedOfUse l (cardOf ns os)) (outside (λ _ k. omega (arith, ltb-false l (baseIn ns + labelCount) y))) ∙ unfold feedOfUse in refl)))
       (λ x. sym (ap (feedOfUse l (cardOf ns os)) (outside (λ k _. omega (arith, leb-false (baseIn ns) l x))) ∙ unfold feedOfUse in refl))
 
   module _ (h : mappedTo (useOf l (cardOf ns os)) ≡ noRoute → ⊥) (i : ℕ) (ei : i ≡ place (carries l) (cardOf ns os .trees)) where

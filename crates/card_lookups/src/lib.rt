@@ -2,7 +2,7 @@
 ghost use mathlib.Core.Path.{_≡_};
 ghost use mathlib.Core.List.{List};
 ghost use Prim.Native.Nat.{ℕ, _<_};
-ghost use Rattle.meaning.specs.Card.{treeAt, feedOf, lookupLabel, lookupName, nothing};
+ghost use Rattle.meaning.specs.Card.{treeAt, feedOf, lookupLabel, lookupName, nothing, treeLimit};
 ghost use Rattle.memory.specs.Sizes.{Numbers, Names};
 ghost use Rattle.memory.specs.Memory.{cardOf, treeCount};
 ghost use Rattle.card_lookups.specs.Feed.{feedIn};
@@ -10,7 +10,7 @@ ghost use Rattle.card_lookups.specs.Feed.{feedIn};
 // Where the tree at place i leads while u is its upstream, whose own branch is held. The one place is cleared where the row
 // was laid, and nothing is read again: a load behind a store to a part of what it loads would wait for that store.
 fn feed_at(numbers: &[u64], i: usize, u: u64, branches: &mut [u64; 16]) -> bool
-    requires { ⌜ Numbers (now numbers) × (i < treeCount (now numbers)) × (i < 64) ⌝ }
+    requires { ⌜ Numbers (now numbers) × (i < treeCount (now numbers)) × (i < treeLimit) ⌝ }
     ensures { λ r. ⌜ ((os : List ℕ) → feedIn (now (branches .exit)) r ≡ feedOf u (treeAt i (cardOf (now (numbers .entry)) os))) ⌝ }
 {
     *branches = memory_trees::branches(numbers, i);
@@ -46,12 +46,12 @@ pub fn find_name(numbers: &[u64], names: &[u8], element: &[u8], branches: &mut [
     requires { ⌜ Numbers (now numbers) × Names (now names) ⌝ }
     ensures { λ r. ⌜ feedIn (now (branches .exit)) r ≡ lookupName (now (element .entry)) (cardOf (now (numbers .entry)) (now (names .entry))) ⌝ }
 {
-    if wire_reader::element_refusal(element) != 0 {
+    if wire_name::element_refusal(element) != 0 {
         return no_feed(branches);
     }
     let i = memory_trees::tree_place(numbers, names, element);
     if i < memory::tree_count(numbers) {
-        let via = memory_trees::route_of(numbers, names, wire_reader::root_of(element));
+        let via = memory_trees::route_of(numbers, names, wire_name::root_of(element));
         return feed_at(numbers, i, via, branches);
     }
     no_feed(branches)

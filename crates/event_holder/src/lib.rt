@@ -3,7 +3,7 @@ ghost use mathlib.Core.Path.{_≡_};
 ghost use mathlib.Core.List.{List};
 ghost use Prim.Native.Nat.{ℕ, _+_, _*_, _-_, _≤_, _<_};
 ghost use Rattle.meaning.specs.Wire.{rootIn, recordLimit};
-ghost use Rattle.meaning.specs.Card.{withBranch, withLeaf, treeAt, routeOf};
+ghost use Rattle.meaning.specs.Card.{withBranch, withLeaf, treeAt, routeOf, treeLimit};
 ghost use Rattle.meaning.specs.Events.{need, labelsShort, upstream, holder};
 ghost use Rattle.memory.specs.Sizes.{Numbers, Names};
 ghost use Rattle.memory.specs.Memory.{cardOf, treeCount};
@@ -11,7 +11,7 @@ ghost use Rattle.event_holder.specs.Move.{moveSize, relabelSize};
 
 // How many octets the records of a move have.
 pub fn move_size(numbers: &[u64], names: &[u8], i: usize, u: u64) -> usize
-    requires { ⌜ Numbers (now numbers) × Names (now names) × (i < treeCount (now numbers)) × (i < 64) ⌝ }
+    requires { ⌜ Numbers (now numbers) × Names (now names) × (i < treeCount (now numbers)) × (i < treeLimit) ⌝ }
     ensures { λ r. ⌜ (r ≡ moveSize (treeAt i (cardOf (now (numbers .entry)) (now (names .entry)))) u) × (r ≤ 2 * recordLimit) ⌝ }
 {
     let size = 24 + memory_trees::tree_name(names, i).len();
@@ -28,7 +28,7 @@ pub fn move_size(numbers: &[u64], names: &[u8], i: usize, u: u64) -> usize
 }
 
 pub fn relabel_size(numbers: &[u64], names: &[u8], i: usize, u: u64) -> usize
-    requires { ⌜ Numbers (now numbers) × Names (now names) × (i < treeCount (now numbers)) × (i < 64) ⌝ }
+    requires { ⌜ Numbers (now numbers) × Names (now names) × (i < treeCount (now numbers)) × (i < treeLimit) ⌝ }
     ensures { λ r. ⌜ (r ≡ relabelSize (cardOf (now (numbers .entry)) (now (names .entry))) (treeAt i (cardOf (now (numbers .entry)) (now (names .entry)))) u) × (r ≤ 2 * recordLimit) ⌝ }
 {
     if memory_trees::held_for(numbers, i) == u {
@@ -39,7 +39,7 @@ pub fn relabel_size(numbers: &[u64], names: &[u8], i: usize, u: u64) -> usize
 
 // 12 for the tree at place i, which is to hold a label for u.
 pub fn labels_short(numbers: &[u64], i: usize, u: u64) -> bool
-    requires { ⌜ Numbers (now numbers) × (i < treeCount (now numbers)) × (i < 64) ⌝ }
+    requires { ⌜ Numbers (now numbers) × (i < treeCount (now numbers)) × (i < treeLimit) ⌝ }
     ensures { λ r. ⌜ ((os : List ℕ) → r ≡ labelsShort (cardOf (now (numbers .entry)) os) (need (cardOf (now (numbers .entry)) os) (treeAt i (cardOf (now (numbers .entry)) os)) u)) ⌝ }
 {
     if memory_trees::held_for(numbers, i) == u {
@@ -56,14 +56,14 @@ pub fn upstream_of(numbers: &[u64], names: &[u8], name: &[u8]) -> u64
     requires { ⌜ Numbers (now numbers) × Names (now names) ⌝ }
     ensures { λ r. ⌜ (r ≡ upstream (routeOf (rootIn (now (name .entry))) (cardOf (now (numbers .entry)) (now (names .entry))))) × (r ≤ 17) × (r ≡ 16 → ⊥) ⌝ }
 {
-    let via = memory_trees::route_of(numbers, names, wire_reader::root_of(name));
+    let via = memory_trees::route_of(numbers, names, wire_name::root_of(name));
     if via < 16 { via } else { 17 }
 }
 
 // The neighbour for which the tree at place i holds a label where u is its upstream, once neighbour n's branch is x (16: nobody's
 // changes) and its leaf mark is `leaf`; 17 for none.
 pub fn holder_then(numbers: &[u64], i: usize, n: usize, x: u64, leaf: bool, u: u64) -> u64
-    requires { ⌜ Numbers (now numbers) × (i < treeCount (now numbers)) × (i < 64) ⌝ }
+    requires { ⌜ Numbers (now numbers) × (i < treeCount (now numbers)) × (i < treeLimit) ⌝ }
     ensures { λ r. ⌜ ((os : List ℕ) → r ≡ holder u (withLeaf leaf (withBranch n x (treeAt i (cardOf (now (numbers .entry)) os))))) ⌝ }
 {
     if leaf {
@@ -77,7 +77,7 @@ pub fn holder_then(numbers: &[u64], i: usize, n: usize, x: u64, leaf: bool, u: u
 
 // The same of the tree as it is.
 pub fn holder(numbers: &[u64], i: usize, u: u64) -> u64
-    requires { ⌜ Numbers (now numbers) × (i < treeCount (now numbers)) × (i < 64) ⌝ }
+    requires { ⌜ Numbers (now numbers) × (i < treeCount (now numbers)) × (i < treeLimit) ⌝ }
     ensures { λ r. ⌜ ((os : List ℕ) → r ≡ holder u (treeAt i (cardOf (now (numbers .entry)) os))) ⌝ }
 {
     holder_then(numbers, i, 16, 0, memory_trees::is_leaf(numbers, i), u)

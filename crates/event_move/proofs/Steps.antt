@@ -8,7 +8,7 @@ use borrow.Author.Tests.{eq-eqb, ne-eqb, le-leb}
 use Rattle.meaning.specs.Octets.{place}
 use Rattle.meaning.specs.Lists.{place-count}
 use Rattle.meaning.specs.Wire.{recordOf, nextId, records, idsAfter}
-use Rattle.meaning.specs.Card.{Card, free, mapped, treeAt, isFree, useOf, heldFor, freeLabels, lowestFree}
+use Rattle.meaning.specs.Card.{Card, free, mapped, treeAt, isFree, useOf, heldFor, freeLabels, lowestFree, labelCount}
 use Rattle.meaning.specs.Events.{still, tell, setUse, setLabel, ended, giveUp, give, letGo, takeUp, moveLabel, relabel, needMove}
 use Rattle.octets.specs.Part.{mid}
 use Rattle.memory.specs.Memory.{cardOf, baseIn, treeCount}
@@ -67,7 +67,7 @@ let-nothing i id at c s e = (rw (let-go-none i c e) (wrote-nothing c id at s), r
 
 -- a label is free: its place, and the label there
 
-pub free-place : (ns os : List ℕ) (p : ℕ) → p ≡ place isFree (cardOf ns os .labels) → 0 < freeLabels (cardOf ns os) → p < 256
+pub free-place : (ns os : List ℕ) (p : ℕ) → p ≡ place isFree (cardOf ns os .labels) → 0 < freeLabels (cardOf ns os) → p < labelCount
 unfolding freeLabels
 free-place ns os p e h = omega (arith, place-count isFree (cardOf ns os .labels) h, labels-length ns os)
 

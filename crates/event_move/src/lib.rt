@@ -3,7 +3,7 @@ ghost use mathlib.Core.Path.{_≡_};
 ghost use Prim.Native.Nat.{_+_, _-_, _≤_, _<_};
 ghost use lib.ListN.{length};
 ghost use Rattle.meaning.specs.Wire.{records};
-ghost use Rattle.meaning.specs.Card.{treeAt, freeLabels};
+ghost use Rattle.meaning.specs.Card.{treeAt, freeLabels, treeLimit};
 ghost use Rattle.meaning.specs.Events.{giveUp, give, letGo, takeUp, moveLabel, relabel, needMove, need};
 ghost use Rattle.memory.specs.Sizes.{Numbers, Names};
 ghost use Rattle.memory.specs.Memory.{cardOf, treeCount};
@@ -25,7 +25,7 @@ fn give_up(
     at: usize,
     id: u32,
 ) -> Written
-    requires { ⌜ Numbers (now numbers) × Names (now names) × (i < treeCount (now numbers)) × (i < 64)
+    requires { ⌜ Numbers (now numbers) × Names (now names) × (i < treeCount (now numbers)) × (i < treeLimit)
         × (treeAt i (cardOf (now numbers) (now names)) .label ≡ 0 → ⊥)
         × (at + (24 + length (treeAt i (cardOf (now numbers) (now names)) .name)) ≤ length (now out)) ⌝ }
     ensures { λ r. ⌜ Wrote (giveUp i (cardOf (now (numbers .entry)) (now (names .entry)))) id at (now (out .entry)) (now (out .exit)) (cardOf (now (numbers .exit)) (now (names .entry))) (r .at) (r .id)
@@ -48,7 +48,7 @@ fn let_go(
     at: usize,
     id: u32,
 ) -> Written
-    requires { ⌜ Numbers (now numbers) × Names (now names) × (i < treeCount (now numbers)) × (i < 64)
+    requires { ⌜ Numbers (now numbers) × Names (now names) × (i < treeCount (now numbers)) × (i < treeLimit)
         × (at + length (records id (letGo i (cardOf (now numbers) (now names)) .sent)) ≤ length (now out)) ⌝ }
     ensures { λ r. ⌜ Wrote (letGo i (cardOf (now (numbers .entry)) (now (names .entry)))) id at (now (out .entry)) (now (out .exit)) (cardOf (now (numbers .exit)) (now (names .entry))) (r .at) (r .id)
         × (freeLabels (cardOf (now (numbers .exit)) (now (names .entry))) ≡ freeLabels (cardOf (now (numbers .entry)) (now (names .entry)))) ⌝ }
@@ -68,7 +68,7 @@ fn give(
     at: usize,
     id: u32,
 ) -> Written
-    requires { ⌜ Numbers (now numbers) × Names (now names) × (i < treeCount (now numbers)) × (i < 64) × (u < 16)
+    requires { ⌜ Numbers (now numbers) × Names (now names) × (i < treeCount (now numbers)) × (i < treeLimit) × (u < 16)
         × (0 < freeLabels (cardOf (now numbers) (now names)))
         × (at + (24 + length (treeAt i (cardOf (now numbers) (now names)) .name)) ≤ length (now out)) ⌝ }
     ensures { λ r. ⌜ Wrote (give i u (cardOf (now (numbers .entry)) (now (names .entry)))) id at (now (out .entry)) (now (out .exit)) (cardOf (now (numbers .exit)) (now (names .exit))) (r .at) (r .id)
@@ -92,7 +92,7 @@ pub fn take_up(
     at: usize,
     id: u32,
 ) -> Written
-    requires { ⌜ Numbers (now numbers) × Names (now names) × (i < treeCount (now numbers)) × (i < 64) × (u ≤ 17) × (u ≡ 16 → ⊥)
+    requires { ⌜ Numbers (now numbers) × Names (now names) × (i < treeCount (now numbers)) × (i < treeLimit) × (u ≤ 17) × (u ≡ 16 → ⊥)
         × (needMove u ≤ freeLabels (cardOf (now numbers) (now names)))
         × (at + length (records id (takeUp i u (cardOf (now numbers) (now names)) .sent)) ≤ length (now out)) ⌝ }
     ensures { λ r. ⌜ Wrote (takeUp i u (cardOf (now (numbers .entry)) (now (names .entry)))) id at (now (out .entry)) (now (out .exit)) (cardOf (now (numbers .exit)) (now (names .exit))) (r .at) (r .id)
@@ -113,7 +113,7 @@ pub fn move_label(
     at: usize,
     id: u32,
 ) -> Written
-    requires { ⌜ Numbers (now numbers) × Names (now names) × (i < treeCount (now numbers)) × (i < 64) × (u ≤ 17) × (u ≡ 16 → ⊥)
+    requires { ⌜ Numbers (now numbers) × Names (now names) × (i < treeCount (now numbers)) × (i < treeLimit) × (u ≤ 17) × (u ≡ 16 → ⊥)
         × (needMove u ≤ freeLabels (cardOf (now numbers) (now names)))
         × (at + moveSize (treeAt i (cardOf (now numbers) (now names))) u ≤ length (now out)) ⌝ }
     ensures { λ r. ⌜ Wrote (moveLabel i u (cardOf (now (numbers .entry)) (now (names .entry)))) id at (now (out .entry)) (now (out .exit)) (cardOf (now (numbers .exit)) (now (names .exit))) (r .at) (r .id)
@@ -135,7 +135,7 @@ pub fn relabel(
     at: usize,
     id: u32,
 ) -> Written
-    requires { ⌜ Numbers (now numbers) × Names (now names) × (i < treeCount (now numbers)) × (i < 64) × (u ≤ 17) × (u ≡ 16 → ⊥)
+    requires { ⌜ Numbers (now numbers) × Names (now names) × (i < treeCount (now numbers)) × (i < treeLimit) × (u ≤ 17) × (u ≡ 16 → ⊥)
         × (need (cardOf (now numbers) (now names)) (treeAt i (cardOf (now numbers) (now names))) u ≤ freeLabels (cardOf (now numbers) (now names)))
         × (at + relabelSize (cardOf (now numbers) (now names)) (treeAt i (cardOf (now numbers) (now names))) u ≤ length (now out)) ⌝ }
     ensures { λ r. ⌜ Wrote (relabel i u (cardOf (now (numbers .entry)) (now (names .entry)))) id at (now (out .entry)) (now (out .exit)) (cardOf (now (numbers .exit)) (now (names .exit))) (r .at) (r .id) ⌝ }

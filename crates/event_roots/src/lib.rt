@@ -4,7 +4,7 @@ ghost use mathlib.Core.List.{List};
 ghost use Prim.Native.Nat.{ℕ, _+_, _≤_, _<_, _*_};
 ghost use lib.ListN.{length};
 ghost use Rattle.meaning.specs.Wire.{records, recordLimit};
-ghost use Rattle.meaning.specs.Card.{Card, treeAt, freeLabels, sentLimit};
+ghost use Rattle.meaning.specs.Card.{Card, treeAt, freeLabels, sentLimit, treeLimit};
 ghost use Rattle.meaning.specs.Events.{needOne, needAll, ofRoot, moveOne, moveAll};
 ghost use Rattle.memory.specs.Sizes.{Numbers, Names};
 ghost use Rattle.memory.specs.Memory.{cardOf, treeCount};
@@ -12,18 +12,15 @@ ghost use Rattle.event_holder.specs.Move.{Wrote, sizeOne, sizeAll};
 use event_move::Written;
 
 fn is_of_root(names: &[u8], i: usize, root: &[u8]) -> bool
-    requires { ⌜ Names (now names) × (i < 64) ⌝ }
+    requires { ⌜ Names (now names) × (i < treeLimit) ⌝ }
     ensures { λ r. ⌜ ((ns : List ℕ) → i < treeCount ns → r ≡ ofRoot (now (root .entry)) (treeAt i (cardOf ns (now (names .entry))))) ⌝ }
 {
-    octets::equal(
-        wire_reader::root_of(memory_trees::tree_name(names, i)),
-        root,
-    )
+    octets::equal(wire_name::root_of(memory_trees::tree_name(names, i)), root)
 }
 
 // How many free labels the move of one tree takes, and how many octets its records have.
 fn need_one(numbers: &[u64], names: &[u8], i: usize, root: &[u8], u: u64) -> usize
-    requires { ⌜ Numbers (now numbers) × Names (now names) × (i < treeCount (now numbers)) × (i < 64) ⌝ }
+    requires { ⌜ Numbers (now numbers) × Names (now names) × (i < treeCount (now numbers)) × (i < treeLimit) ⌝ }
     ensures { λ r. ⌜ (r ≡ needOne (now (root .entry)) u (treeAt i (cardOf (now (numbers .entry)) (now (names .entry))))) × (r ≤ 1) ⌝ }
 {
     if is_of_root(names, i, root) {
@@ -38,7 +35,7 @@ fn need_one(numbers: &[u64], names: &[u8], i: usize, root: &[u8], u: u64) -> usi
 }
 
 fn size_one(numbers: &[u64], names: &[u8], i: usize, root: &[u8], u: u64) -> usize
-    requires { ⌜ Numbers (now numbers) × Names (now names) × (i < treeCount (now numbers)) × (i < 64) ⌝ }
+    requires { ⌜ Numbers (now numbers) × Names (now names) × (i < treeCount (now numbers)) × (i < treeLimit) ⌝ }
     ensures { λ r. ⌜ (r ≡ sizeOne (now (root .entry)) u (treeAt i (cardOf (now (numbers .entry)) (now (names .entry))))) × (r ≤ 2 * recordLimit) ⌝ }
 {
     if is_of_root(names, i, root) {
@@ -51,7 +48,7 @@ fn size_one(numbers: &[u64], names: &[u8], i: usize, root: &[u8], u: u64) -> usi
 // How many free labels a move of all trees of a root takes.
 pub fn need_all(numbers: &[u64], names: &[u8], root: &[u8], u: u64) -> usize
     requires { ⌜ Numbers (now numbers) × Names (now names) ⌝ }
-    ensures { λ r. ⌜ (r ≡ needAll (now (root .entry)) u (cardOf (now (numbers .entry)) (now (names .entry)))) × (r ≤ 64) ⌝ }
+    ensures { λ r. ⌜ (r ≡ needAll (now (root .entry)) u (cardOf (now (numbers .entry)) (now (names .entry)))) × (r ≤ treeLimit) ⌝ }
 {
     let n = memory::tree_count(numbers);
     let mut sum = 0;
@@ -88,7 +85,7 @@ fn move_one(
     at: usize,
     id: u32,
 ) -> Written
-    requires { ⌜ Numbers (now numbers) × Names (now names) × (i < treeCount (now numbers)) × (i < 64) × (u ≤ 17) × (u ≡ 16 → ⊥)
+    requires { ⌜ Numbers (now numbers) × Names (now names) × (i < treeCount (now numbers)) × (i < treeLimit) × (u ≤ 17) × (u ≡ 16 → ⊥)
         × (needOne (now root) u (treeAt i (cardOf (now numbers) (now names))) ≤ freeLabels (cardOf (now numbers) (now names)))
         × (at + length (records id (moveOne (now root) u i (cardOf (now numbers) (now names)) .sent)) ≤ length (now out)) ⌝ }
     ensures { λ r. ⌜ Wrote (moveOne (now (root .entry)) u i (cardOf (now (numbers .entry)) (now (names .entry)))) id at (now (out .entry)) (now (out .exit)) (cardOf (now (numbers .exit)) (now (names .exit))) (r .at) (r .id)

@@ -10,7 +10,7 @@ use borrow.Author.Tests.{eq-eqb, ne-eqb, eqb-true, eqb-false, le-leb, lt-leb, le
 use Rattle.meaning.specs.Octets.{pick, place, put, cut, _when_else_}
 use Rattle.meaning.specs.Lists.{by-test, picked, getD-out}
 use Rattle.meaning.specs.Wire.{Sent, records, idsAfter}
-use Rattle.meaning.specs.Card.{Route, Tree, Card, Use, noRoute, withNext, withRoutes, withTrees, withLabels, isFor, routePlace, routeOf, treeAt, freeLabels}
+use Rattle.meaning.specs.Card.{Route, Tree, Card, Use, noRoute, withNext, withRoutes, withTrees, withLabels, isFor, routePlace, routeOf, treeAt, freeLabels, routeLimit}
 use Rattle.meaning.specs.Events.{Outcome, refused, taken, unless, finish, Moved, still, followedBy, setUse, setLabel, giveUp, give, letGo, takeUp, moveLabel, labelsShort, upstream, ofRoot, moveOne, moveFrom, moveAll, sumFrom, needOne, needAll, routesWith, routesFull, routeRefusal, reRoute}
 use Rattle.meaning.specs.RoutesStay.{all-routes}
 use Rattle.meaning.specs.Calls.{Does}
@@ -70,7 +70,7 @@ put-is c r via i z = rw (ne-eqb via 17 z) refl
 
 -- ---- the order by its cases
 
-pub full-is : (c : Card) (r : List ℕ) (via : ℕ) → (routeOf r c ≡ via → ⊥) → (eqb (routeOf r c) noRoute && leb 32 (length (c .routes))) ≡ routesFull c r via
+pub full-is : (c : Card) (r : List ℕ) (via : ℕ) → (routeOf r c ≡ via → ⊥) → (eqb (routeOf r c) noRoute && leb routeLimit (length (c .routes))) ≡ routesFull c r via
 unfolding routesFull
 full-is c r via ne =
     by-test (eqb (routeOf r c) noRoute)
@@ -114,13 +114,13 @@ module _ (c : Card) (r : List ℕ) (via : ℕ) (ne : routeOf r c ≡ via → ⊥
       (λ z. (x, y, ltb-false _ _ z))))
 
   -- what `re_route` asks
-  pub order-ready : k ≡ 0 → (routePlace r c ≡ length (c .routes) → (via ≡ 17 → ⊥) × (length (c .routes) < 32)) × (needAll r (upstream via) c ≤ freeLabels c) × (sizeAll r (upstream via) c ≤ length s)
+  pub order-ready : k ≡ 0 → (routePlace r c ≡ length (c .routes) → (via ≡ 17 → ⊥) × (length (c .routes) < routeLimit)) × (needAll r (upstream via) c ≤ freeLabels c) × (sizeAll r (upstream via) c ≤ length s)
   order-ready q =
       let p = passes q in
       ((λ e. let none = no-entry r c e in ((λ z. ne (none ∙ sym z)), few none (p .0))), ltb-false _ _ (unfold labelsShort in p .1), p .2)
     where
-      few : routeOf r c ≡ noRoute → routesFull c r via ≡ false → length (c .routes) < 32
-      few none full = leb-false 32 (length (c .routes)) (rw (eq-eqb (routeOf r c) noRoute none) at (full-is c r via ne ∙ full))
+      few : routeOf r c ≡ noRoute → routesFull c r via ≡ false → length (c .routes) < routeLimit
+      few none full = leb-false routeLimit (length (c .routes)) (rw (eq-eqb (routeOf r c) noRoute none) at (full-is c r via ne ∙ full))
 
   pub order-done : k ≡ 0 → (s' : List ℕ) (e : Card) (end : ℕ) → Ended (movedTo c r via) (c .next) 0 s s' e end → Does (finish (length s) c (routeOrder c r via)) 0 end s s' e
   order-done q s' e end w =
@@ -162,7 +162,7 @@ module _ (c : Card) (r : List ℕ) (via u n k : ℕ) (eu : u ≡ upstream via) w
 
 -- a root's entry that goes is there
 pub stands-below : (ns os : List ℕ) (r : List ℕ) (i via : ℕ) → i ≡ routePlace r (cardOf ns os) → i ≤ routeCount ns
-    → (routePlace r (cardOf ns os) ≡ length (cardOf ns os .routes) → (via ≡ 17 → ⊥) × (length (cardOf ns os .routes) < 32)) → via ≡ 17 → i < routeCount ns
+    → (routePlace r (cardOf ns os) ≡ length (cardOf ns os .routes) → (via ≡ 17 → ⊥) × (length (cardOf ns os .routes) < routeLimit)) → via ≡ 17 → i < routeCount ns
 stands-below ns os r i via e h p z =
     by-test (ltb i (routeCount ns))
     (λ t. ltb-true _ _ t)
@@ -170,12 +170,12 @@ stands-below ns os r i via e h p z =
 
 -- a root's entry that comes has a place
 pub room-for-it : (ns os : List ℕ) (r : List ℕ) (i via : ℕ) → i ≡ routePlace r (cardOf ns os) → i ≤ routeCount ns
-    → (routePlace r (cardOf ns os) ≡ length (cardOf ns os .routes) → (via ≡ 17 → ⊥) × (length (cardOf ns os .routes) < 32)) → routeCount ns ≤ routePlace r (cardOf ns os) → routeCount ns < 32
+    → (routePlace r (cardOf ns os) ≡ length (cardOf ns os .routes) → (via ≡ 17 → ⊥) × (length (cardOf ns os .routes) < routeLimit)) → routeCount ns ≤ routePlace r (cardOf ns os) → routeCount ns < routeLimit
 room-for-it ns os r i via e h p k = rw (routes-length ns os) at (p (omega (arith, routes-length ns os)) .1)
 
 -- the entry's place is that of before the move
-pub moved-room : (c d : Card) (r : List ℕ) (u via : ℕ) → d ≡ moveAll r u c .card → (routePlace r c ≡ length (c .routes) → (via ≡ 17 → ⊥) × (length (c .routes) < 32))
-    → routePlace r d ≡ length (d .routes) → (via ≡ 17 → ⊥) × (length (d .routes) < 32)
+pub moved-room : (c d : Card) (r : List ℕ) (u via : ℕ) → d ≡ moveAll r u c .card → (routePlace r c ≡ length (c .routes) → (via ≡ 17 → ⊥) × (length (c .routes) < routeLimit))
+    → routePlace r d ≡ length (d .routes) → (via ≡ 17 → ⊥) × (length (d .routes) < routeLimit)
 moved-room c d r u via e p q =
     let same : d .routes ≡ c .routes = ap (λ (x : Card). x .routes) e ∙ all-routes r u c in
     let long : length (d .routes) ≡ length (c .routes) = ap (λ (l : List Route). length l) same in

@@ -6,7 +6,7 @@ ghost use mathlib.Core.Bool.{_&&_};
 ghost use lib.Dec.{eqb, leb, ltb};
 ghost use Rattle.meaning.specs.Octets.{_when_else_};
 ghost use Rattle.meaning.specs.Wire.{rootLimit};
-ghost use Rattle.meaning.specs.Card.{noRoute, routeOf, routePlace, freeLabels, withRoutes};
+ghost use Rattle.meaning.specs.Card.{noRoute, routeOf, routePlace, freeLabels, withRoutes, routeLimit};
 ghost use Rattle.meaning.specs.Events.{finish, routesFull, routesWith, labelsShort, needAll, upstream};
 ghost use Rattle.meaning.specs.Calls.{Does};
 ghost use Rattle.memory.specs.Sizes.{Numbers, Names};
@@ -14,6 +14,7 @@ ghost use Rattle.memory.specs.Memory.{cardOf};
 ghost use Rattle.event_holder.specs.Move.{sizeAll};
 ghost use Rattle.event_tree.specs.End.{Ended};
 ghost use Rattle.event_route.specs.Order.{movedTo, routeOrder};
+use meaning::ROUTE_LIMIT;
 
 fn upstream_via(via: u64) -> u64
     ensures { λ r. ⌜ (r ≡ upstream via) × (r ≤ 17) × (r ≡ 16 → ⊥) ⌝ }
@@ -25,10 +26,10 @@ fn upstream_via(via: u64) -> u64
 fn routes_full(numbers: &[u64], names: &[u8], root: &[u8]) -> bool
     requires { ⌜ Numbers (now numbers) × Names (now names) ⌝ }
     ensures { λ r. ⌜ r ≡ (eqb (routeOf (now (root .entry)) (cardOf (now (numbers .entry)) (now (names .entry)))) noRoute
-        && leb 32 (length (cardOf (now (numbers .entry)) (now (names .entry)) .routes))) ⌝ }
+        && leb routeLimit (length (cardOf (now (numbers .entry)) (now (names .entry)) .routes))) ⌝ }
 {
     if memory_trees::route_of(numbers, names, root) == 17 {
-        return 32 <= memory::route_count(numbers);
+        return ROUTE_LIMIT <= memory::route_count(numbers);
     }
     false
 }
@@ -54,7 +55,7 @@ fn route_refusal(numbers: &[u64], names: &[u8], root: &[u8], via: u64, u: u64, r
 // The root's entry: anew, or gone where there is no route.
 fn set_route(numbers: &mut [u64], names: &mut [u8], root: &[u8], via: u64)
     requires { ⌜ Numbers (now numbers) × Names (now names) × (length (now root) ≤ rootLimit)
-        × (routePlace (now root) (cardOf (now numbers) (now names)) ≡ length ((cardOf (now numbers) (now names)) .routes) → (via ≡ 17 → ⊥) × (length ((cardOf (now numbers) (now names)) .routes) < 32)) ⌝ }
+        × (routePlace (now root) (cardOf (now numbers) (now names)) ≡ length ((cardOf (now numbers) (now names)) .routes) → (via ≡ 17 → ⊥) × (length ((cardOf (now numbers) (now names)) .routes) < routeLimit)) ⌝ }
     ensures { λ _. ⌜ (cardOf (now (numbers .exit)) (now (names .exit))) ≡ withRoutes (routesWith (cardOf (now (numbers .entry)) (now (names .entry))) (now (root .entry)) via) (cardOf (now (numbers .entry)) (now (names .entry))) ⌝ }
 {
     let i = memory_trees::route_place(numbers, names, root);
@@ -74,7 +75,7 @@ fn re_route(
     out: &mut [u8],
 ) -> usize
     requires { ⌜ Numbers (now numbers) × Names (now names) × (length (now root) ≤ rootLimit) × (u ≡ upstream via) × (u ≤ 17) × (u ≡ 16 → ⊥)
-        × (routePlace (now root) (cardOf (now numbers) (now names)) ≡ length ((cardOf (now numbers) (now names)) .routes) → (via ≡ 17 → ⊥) × (length ((cardOf (now numbers) (now names)) .routes) < 32))
+        × (routePlace (now root) (cardOf (now numbers) (now names)) ≡ length ((cardOf (now numbers) (now names)) .routes) → (via ≡ 17 → ⊥) × (length ((cardOf (now numbers) (now names)) .routes) < routeLimit))
         × (needAll (now root) u (cardOf (now numbers) (now names)) ≤ freeLabels (cardOf (now numbers) (now names))) × (sizeAll (now root) u (cardOf (now numbers) (now names)) ≤ length (now out)) ⌝ }
     ensures { λ r. ⌜ Ended (movedTo (cardOf (now (numbers .entry)) (now (names .entry))) (now (root .entry)) via) ((cardOf (now (numbers .entry)) (now (names .entry))) .next) 0 (now (out .entry)) (now (out .exit)) (cardOf (now (numbers .exit)) (now (names .exit))) r ⌝ }
 {

@@ -142,24 +142,24 @@ module _ (c : Card) (t : Tree) (i u : ℕ) (ei : i ≡ treePlace (t .name) c) (h
   pub larger-size : (id : ℕ) → length (records id (takeUp i u larger .sent)) ≡ needMove u * (24 + length (t .name))
   larger-size id = take-up-size id i larger u ∙ rw (new-at c t i h) refl
 
-  pub new-full : 64 ≤ length (c .trees) → Does (finish (length s) c (become c [] t)) 11 0 s s c
-  new-full k = rw (become-new c [] t i u ei h z el eu full, le-leb 64 (length (c .trees)) k) (unfold _when_else_ unless in does-refused c 11 s)
+  pub new-full : treeLimit ≤ length (c .trees) → Does (finish (length s) c (become c [] t)) 11 0 s s c
+  new-full k = rw (become-new c [] t i u ei h z el eu full, le-leb treeLimit (length (c .trees)) k) (unfold _when_else_ unless in does-refused c 11 s)
 
-  pub new-labels : length (c .trees) < 64 → freeLabels c < needMove u → Does (finish (length s) c (become c [] t)) 12 0 s s c
-  new-labels k l = rw (become-new c [] t i u ei h z el eu full, lt-leb 64 (length (c .trees)) k) (unfold _when_else_ labelsShort in rw (lt-ltb (freeLabels c) (needMove u) l) (unfold unless in does-refused c 12 s))
+  pub new-labels : length (c .trees) < treeLimit → freeLabels c < needMove u → Does (finish (length s) c (become c [] t)) 12 0 s s c
+  new-labels k l = rw (become-new c [] t i u ei h z el eu full, lt-leb treeLimit (length (c .trees)) k) (unfold _when_else_ labelsShort in rw (lt-ltb (freeLabels c) (needMove u) l) (unfold unless in does-refused c 12 s))
 
-  taken-new : length (c .trees) < 64 → needMove u ≤ freeLabels c → become c [] t ≡ taken (takeUp i u larger .sent) (takeUp i u larger .card)
+  taken-new : length (c .trees) < treeLimit → needMove u ≤ freeLabels c → become c [] t ≡ taken (takeUp i u larger .sent) (takeUp i u larger .card)
   taken-new k l =
       become-new c [] t i u ei h z el eu full
-      ∙ no-refusal (leb treeLimit (length (c .trees))) (labelsShort c (needMove u)) (lt-leb 64 (length (c .trees)) k) (unfold labelsShort in le-ltb (freeLabels c) (needMove u) l) _
+      ∙ no-refusal (leb treeLimit (length (c .trees))) (labelsShort c (needMove u)) (lt-leb treeLimit (length (c .trees)) k) (unfold labelsShort in le-ltb (freeLabels c) (needMove u) l) _
     where
       no-refusal : (x y : Bool) → x ≡ false → y ≡ false → (o : Outcome) → unless (11 when x else 12 when y else 0) o ≡ o
       no-refusal x y p q o = rw (p, q) (unfold _when_else_ unless in refl)
 
-  pub new-room : length (c .trees) < 64 → needMove u ≤ freeLabels c → length s < needMove u * (24 + length (t .name)) → Does (finish (length s) c (become c [] t)) 16 0 s s c
+  pub new-room : length (c .trees) < treeLimit → needMove u ≤ freeLabels c → length s < needMove u * (24 + length (t .name)) → Does (finish (length s) c (become c [] t)) 16 0 s s c
   new-room k l m = rw (taken-new k l) (does-short c _ _ s (rw (larger-size (c .next)) m))
 
-  pub new-done : length (c .trees) < 64 → needMove u ≤ freeLabels c → needMove u * (24 + length (t .name)) ≤ length s
+  pub new-done : length (c .trees) < treeLimit → needMove u ≤ freeLabels c → needMove u * (24 + length (t .name)) ≤ length s
       → (s' : List ℕ) (e : Card) (end : ℕ) → Ended (takeUp i u larger) (c .next) 0 s s' e end → Does (finish (length s) c (become c [] t)) 0 end s s' e
   new-done k l m s' e end w = rw (taken-new k l) (does-ended c _ _ s s' e end (rw (larger-size (c .next)) m) w)
 
@@ -168,23 +168,23 @@ module _ (c : Card) (t : Tree) (i u : ℕ) (ei : i ≡ treePlace (t .name) c) (h
 -- how the code tests them
 module _ (c : Card) (u size room n : ℕ) (e : n ≡ length (c .trees)) where
   abbrev newNumber : ℕ
-  newNumber = 11 when leb 64 (length (c .trees)) else 12 when ltb (freeLabels c) (needMove u) else 16 when ltb room (needMove u * size) else 0
+  newNumber = 11 when leb treeLimit (length (c .trees)) else 12 when ltb (freeLabels c) (needMove u) else 16 when ltb room (needMove u * size) else 0
 
-  pub many-trees : 64 ≤ n → 11 ≡ newNumber
-  many-trees h = sym (when-1 11 12 16 _ (ltb (freeLabels c) (needMove u)) (ltb room (needMove u * size)) (le-leb 64 (length (c .trees)) (rw (← e) h)))
+  pub many-trees : treeLimit ≤ n → 11 ≡ newNumber
+  many-trees h = sym (when-1 11 12 16 _ (ltb (freeLabels c) (needMove u)) (ltb room (needMove u * size)) (le-leb treeLimit (length (c .trees)) (rw (← e) h)))
 
-  pub none-needed : n < 64 → u ≡ 17 → 0 ≡ newNumber
+  pub none-needed : n < treeLimit → u ≡ 17 → 0 ≡ newNumber
   none-needed h z =
       let q : needMove u ≡ 0 = unfold needMove in rw (eq-eqb u 17 z) refl in
-      sym (when-0 11 12 16 _ _ _ (lt-leb 64 (length (c .trees)) (rw (← e) h)) (le-ltb (freeLabels c) (needMove u) (omega arith)) (le-ltb room (needMove u * size) (rw q (omega arith))))
+      sym (when-0 11 12 16 _ _ _ (lt-leb treeLimit (length (c .trees)) (rw (← e) h)) (le-ltb (freeLabels c) (needMove u) (omega arith)) (le-ltb room (needMove u * size) (rw q (omega arith))))
 
-  module _ (h : n < 64) (z : u ≡ 17 → ⊥) where
+  module _ (h : n < treeLimit) (z : u ≡ 17 → ⊥) where
     one-needed : needMove u ≡ 1
     unfolding needMove
     one-needed = rw (ne-eqb u 17 z) refl
 
-    few-trees : leb 64 (length (c .trees)) ≡ false
-    few-trees = lt-leb 64 (length (c .trees)) (rw (← e) h)
+    few-trees : leb treeLimit (length (c .trees)) ≡ false
+    few-trees = lt-leb treeLimit (length (c .trees)) (rw (← e) h)
 
     pub none-free : labelsShort c 1 ≡ true → 12 ≡ newNumber
     unfolding labelsShort
@@ -212,13 +212,13 @@ pub record Newcomer (c : Card) (t : Tree) (a : List ℕ) (i u : ℕ) : Type 0 wh
   pub full : isEmpty t ≡ false
 
 module _ (c : Card) (t : Tree) (a : List ℕ) (i u : ℕ) (N : Newcomer c t a i u) (s : List ℕ) (size r : ℕ) (es : size ≡ 24 + length a)
-    (er : r ≡ 11 when leb 64 (length (c .trees)) else 12 when ltb (freeLabels c) (needMove u) else 16 when ltb (length s) (needMove u * size) else 0) where
+    (er : r ≡ 11 when leb treeLimit (length (c .trees)) else 12 when ltb (freeLabels c) (needMove u) else 16 when ltb (length s) (needMove u * size) else 0) where
   sized : size ≡ 24 + length (t .name)
   sized = es ∙ ap (λ (l : List ℕ). 24 + length l) (sym (N .name))
 
   pub new-refused : (r ≡ 0 → ⊥) → Does (finish (length s) c (become c [] t)) r 0 s s c
   new-refused some =
-      by-test (leb 64 (length (c .trees)))
+      by-test (leb treeLimit (length (c .trees)))
       (λ x. rw (er ∙ when-1 11 12 16 _ _ _ x) (new-full c t i u (N .place) (N .last) (N .zero) (N .label) (N .upstream) (N .full) s (leb-true _ _ x)))
       (λ x. by-test (ltb (freeLabels c) (needMove u))
       (λ y. rw (er ∙ when-2 11 12 16 _ _ _ x y) (new-labels c t i u (N .place) (N .last) (N .zero) (N .label) (N .upstream) (N .full) s (leb-false _ _ x) (ltb-true _ _ y)))
@@ -226,9 +226,9 @@ module _ (c : Card) (t : Tree) (a : List ℕ) (i u : ℕ) (N : Newcomer c t a i 
       (λ z. rw (er ∙ when-3 11 12 16 _ _ _ x y z) (new-room c t i u (N .place) (N .last) (N .zero) (N .label) (N .upstream) (N .full) s (leb-false _ _ x) (ltb-false _ _ y) (rw sized at (ltb-true (length s) (needMove u * size) z))))
       (λ z. absurd (some (er ∙ when-0 11 12 16 _ _ _ x y z)))))
 
-  pub new-passes : r ≡ 0 → (length (c .trees) < 64) × (needMove u ≤ freeLabels c) × (needMove u * size ≤ length s)
+  pub new-passes : r ≡ 0 → (length (c .trees) < treeLimit) × (needMove u ≤ freeLabels c) × (needMove u * size ≤ length s)
   new-passes q =
-      by-test (leb 64 (length (c .trees)))
+      by-test (leb treeLimit (length (c .trees)))
       (λ x. absurd (omega (arith, er, when-1 11 12 16 _ (ltb (freeLabels c) (needMove u)) (ltb (length s) (needMove u * size)) x)))
       (λ x. by-test (ltb (freeLabels c) (needMove u))
       (λ y. absurd (omega (arith, er, when-2 11 12 16 _ _ (ltb (length s) (needMove u * size)) x y)))
@@ -237,7 +237,7 @@ module _ (c : Card) (t : Tree) (a : List ℕ) (i u : ℕ) (N : Newcomer c t a i 
       (λ z. (leb-false _ _ x, ltb-false _ _ y, ltb-false _ _ z))))
 
   -- what `grow` asks, and what it does
-  pub few-trees-stand : r ≡ 0 → length (c .trees) < 64
+  pub few-trees-stand : r ≡ 0 → length (c .trees) < treeLimit
   few-trees-stand q = new-passes q .0
 
   pub grow-ready : r ≡ 0 → (id : ℕ) (ns os : List ℕ) → cardOf ns os ≡ withTrees (c .trees ++ (t ∷ [])) c

@@ -6,18 +6,19 @@ ghost use lib.ListN.{length};
 ghost use lib.Dec.{leb, ltb};
 ghost use Rattle.meaning.specs.Octets.{_when_else_};
 ghost use Rattle.meaning.specs.Wire.{records, recordLimit};
-ghost use Rattle.meaning.specs.Card.{treeAt, withBranch, withLeaf, bare, freeLabels};
+ghost use Rattle.meaning.specs.Card.{treeAt, withBranch, withLeaf, bare, freeLabels, treeLimit};
 ghost use Rattle.meaning.specs.Events.{relabel, takeUp, needMove, need, labelsShort, upstreamOf};
 ghost use Rattle.memory.specs.Sizes.{Numbers, Names};
 ghost use Rattle.memory.specs.Memory.{cardOf, treeCount};
 ghost use Rattle.event_holder.specs.Move.{relabelSize};
 ghost use Rattle.event_tree.specs.End.{Ended, thenCut};
+use meaning::TREE_LIMIT;
 
 // ---- for whom it is to hold a label
 
 // The neighbour that the tree at place i holds a label for, once neighbour n's branch is x; 17 for none.
 pub fn branch_holder(numbers: &[u64], names: &[u8], i: usize, n: usize, x: u64) -> u64
-    requires { ⌜ Numbers (now numbers) × Names (now names) × (i < treeCount (now numbers)) × (i < 64) ⌝ }
+    requires { ⌜ Numbers (now numbers) × Names (now names) × (i < treeCount (now numbers)) × (i < treeLimit) ⌝ }
     ensures { λ r. ⌜ (r ≡ upstreamOf (cardOf (now (numbers .entry)) (now (names .entry))) (withBranch n x (treeAt i (cardOf (now (numbers .entry)) (now (names .entry)))))) × (r ≤ 17) × (r ≡ 16 → ⊥) ⌝ }
 {
     let u = event_holder::upstream_of(numbers, names, memory_trees::tree_name(names, i));
@@ -26,7 +27,7 @@ pub fn branch_holder(numbers: &[u64], names: &[u8], i: usize, n: usize, x: u64) 
 
 // The same, once its leaf mark is `leaf`.
 pub fn leaf_holder(numbers: &[u64], names: &[u8], i: usize, leaf: bool) -> u64
-    requires { ⌜ Numbers (now numbers) × Names (now names) × (i < treeCount (now numbers)) × (i < 64) ⌝ }
+    requires { ⌜ Numbers (now numbers) × Names (now names) × (i < treeCount (now numbers)) × (i < treeLimit) ⌝ }
     ensures { λ r. ⌜ (r ≡ upstreamOf (cardOf (now (numbers .entry)) (now (names .entry))) (withLeaf leaf (treeAt i (cardOf (now (numbers .entry)) (now (names .entry)))))) × (r ≤ 17) × (r ≡ 16 → ⊥) ⌝ }
 {
     let u = event_holder::upstream_of(numbers, names, memory_trees::tree_name(names, i));
@@ -56,7 +57,7 @@ pub fn standing_refusal(
     first: usize,
     room: usize,
 ) -> u32
-    requires { ⌜ Numbers (now numbers) × Names (now names) × (i < treeCount (now numbers)) × (i < 64) × (first ≤ recordLimit) ⌝ }
+    requires { ⌜ Numbers (now numbers) × Names (now names) × (i < treeCount (now numbers)) × (i < treeLimit) × (first ≤ recordLimit) ⌝ }
     ensures { λ r. ⌜ r ≡ 12 when labelsShort (cardOf (now (numbers .entry)) (now (names .entry))) (need (cardOf (now (numbers .entry)) (now (names .entry))) (treeAt i (cardOf (now (numbers .entry)) (now (names .entry)))) u)
         else 16 when ltb room (first + relabelSize (cardOf (now (numbers .entry)) (now (names .entry))) (treeAt i (cardOf (now (numbers .entry)) (now (names .entry)))) u) else 0 ⌝ }
 {
@@ -72,10 +73,10 @@ pub fn standing_refusal(
 // 11, 12 and 16 for a new tree that is to hold a label for u.
 pub fn new_refusal(numbers: &[u64], u: u64, size: usize, room: usize) -> u32
     requires { ⌜ Numbers (now numbers) ⌝ }
-    ensures { λ r. ⌜ ((os : List ℕ) → r ≡ 11 when leb 64 (length (cardOf (now (numbers .entry)) os .trees))
+    ensures { λ r. ⌜ ((os : List ℕ) → r ≡ 11 when leb treeLimit (length (cardOf (now (numbers .entry)) os .trees))
         else 12 when ltb (freeLabels (cardOf (now (numbers .entry)) os)) (needMove u) else 16 when ltb room (needMove u * size) else 0) ⌝ }
 {
-    if 64 <= memory::tree_count(numbers) {
+    if TREE_LIMIT <= memory::tree_count(numbers) {
         return 11;
     }
     if u == 17 {
@@ -100,7 +101,7 @@ pub fn settle(
     at: usize,
     id: u32,
 ) -> usize
-    requires { ⌜ Numbers (now numbers) × Names (now names) × (i < treeCount (now numbers)) × (i < 64) × (u ≤ 17) × (u ≡ 16 → ⊥)
+    requires { ⌜ Numbers (now numbers) × Names (now names) × (i < treeCount (now numbers)) × (i < treeLimit) × (u ≤ 17) × (u ≡ 16 → ⊥)
         × (need (cardOf (now numbers) (now names)) (treeAt i (cardOf (now numbers) (now names))) u ≤ freeLabels (cardOf (now numbers) (now names)))
         × (at + relabelSize (cardOf (now numbers) (now names)) (treeAt i (cardOf (now numbers) (now names))) u ≤ length (now out)) ⌝ }
     ensures { λ r. ⌜ Ended (thenCut empty i (relabel i u (cardOf (now (numbers .entry)) (now (names .entry))))) id at (now (out .entry)) (now (out .exit)) (cardOf (now (numbers .exit)) (now (names .exit))) r ⌝ }
@@ -126,7 +127,7 @@ pub fn grow(
     out: &mut [u8],
     id: u32,
 ) -> usize
-    requires { ⌜ Numbers (now numbers) × Names (now names) × (i < treeCount (now numbers)) × (i < 64) × (u ≤ 17) × (u ≡ 16 → ⊥)
+    requires { ⌜ Numbers (now numbers) × Names (now names) × (i < treeCount (now numbers)) × (i < treeLimit) × (u ≤ 17) × (u ≡ 16 → ⊥)
         × (needMove u ≤ freeLabels (cardOf (now numbers) (now names)))
         × (length (records id (takeUp i u (cardOf (now numbers) (now names)) .sent)) ≤ length (now out)) ⌝ }
     ensures { λ r. ⌜ Ended (takeUp i u (cardOf (now (numbers .entry)) (now (names .entry)))) id 0 (now (out .entry)) (now (out .exit)) (cardOf (now (numbers .exit)) (now (names .exit))) r ⌝ }

@@ -4,7 +4,7 @@ ghost use mathlib.Core.List.{List};
 ghost use Prim.Native.Nat.{ℕ, _≤_, _<_};
 ghost use lib.ListN.{length};
 ghost use Rattle.meaning.specs.Wire.{nameLimit};
-ghost use Rattle.meaning.specs.Card.{treeAt, treePlace, withBranch, isEmpty};
+ghost use Rattle.meaning.specs.Card.{treeAt, treePlace, withBranch, isEmpty, treeLimit};
 ghost use Rattle.meaning.specs.Events.{finish, lessBranch, onWithdraw, onRelease};
 ghost use Rattle.meaning.specs.Calls.{Does};
 ghost use Rattle.memory.specs.Sizes.{Numbers, Names};
@@ -12,7 +12,7 @@ ghost use Rattle.memory.specs.Memory.{cardOf, treeCount};
 
 // What a Withdraw of a label from neighbour n leaves of the tree at place i: its branch there, and whether it is empty.
 fn less_branch(numbers: &[u64], i: usize, n: usize, label: u64) -> u64
-    requires { ⌜ Numbers (now numbers) × (i < treeCount (now numbers)) × (i < 64) × (n < 16) ⌝ }
+    requires { ⌜ Numbers (now numbers) × (i < treeCount (now numbers)) × (i < treeLimit) × (n < 16) ⌝ }
     ensures { λ r. ⌜ ((os : List ℕ) → withBranch n r (treeAt i (cardOf (now (numbers .entry)) os)) ≡ lessBranch n label (treeAt i (cardOf (now (numbers .entry)) os))) ⌝ }
 {
     let b = memory_trees::branch(numbers, i, n);
@@ -20,7 +20,7 @@ fn less_branch(numbers: &[u64], i: usize, n: usize, label: u64) -> u64
 }
 
 fn less_empty(numbers: &[u64], i: usize, n: usize, left: u64) -> bool
-    requires { ⌜ Numbers (now numbers) × (i < treeCount (now numbers)) × (i < 64) × (n < 16) ⌝ }
+    requires { ⌜ Numbers (now numbers) × (i < treeCount (now numbers)) × (i < treeLimit) × (n < 16) ⌝ }
     ensures { λ r. ⌜ ((os : List ℕ) → r ≡ isEmpty (withBranch n left (treeAt i (cardOf (now (numbers .entry)) os)))) ⌝ }
 {
     if memory_trees::is_leaf(numbers, i) {
@@ -39,7 +39,7 @@ fn withdraw_standing(
     out: &mut [u8],
     answer: &mut u32,
 ) -> usize
-    requires { ⌜ Numbers (now numbers) × Names (now names) × (i < treeCount (now numbers)) × (i < 64) × (n < 16)
+    requires { ⌜ Numbers (now numbers) × Names (now names) × (i < treeCount (now numbers)) × (i < treeLimit) × (n < 16)
         × (i ≡ treePlace (treeAt i (cardOf (now numbers) (now names)) .name) (cardOf (now numbers) (now names))) ⌝ }
     ensures { λ r. ⌜ Does (finish (length (now (out .entry))) (cardOf (now (numbers .entry)) (now (names .entry))) (onWithdraw (cardOf (now (numbers .entry)) (now (names .entry))) n (treeAt i (cardOf (now (numbers .entry)) (now (names .entry))) .name) label))
         (now (answer .exit)) r (now (out .entry)) (now (out .exit)) (cardOf (now (numbers .exit)) (now (names .exit))) ⌝ }

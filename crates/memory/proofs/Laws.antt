@@ -13,7 +13,7 @@ use lib.Count.{ones, ones-le, trailingZeros}
 use borrow.Author.Tests.{lt-ltb, ltb-true, ltb-false, le-leb, lt-leb, eq-eqb, ne-eqb}
 use Rattle.meaning.specs.Octets.{any, place, count, same}
 use Rattle.meaning.specs.Lists.{by-test, getD-out}
-use Rattle.meaning.specs.Card.{Route, Tree, Use, withNext, withTrees, withBranch, withLeaf, withLabel, treeAt, isBranch, named, treePlace, free, withLabels, isFree, isAwaiting, mappedTo, useOf, heldFor, freeLabels, carries, isFor, routePlace, routeOf, mapped, awaiting, treeLimit, routeLimit}
+use Rattle.meaning.specs.Card.{Route, Tree, Use, withNext, withTrees, withBranch, withLeaf, withLabel, treeAt, isBranch, named, treePlace, free, withLabels, isFree, isAwaiting, mappedTo, useOf, heldFor, freeLabels, carries, isFor, routePlace, routeOf, mapped, awaiting, treeLimit, routeLimit, labelCount}
 use Rattle.meaning.specs.Events.{baseOutside, setLabel, setUse, ended}
 use Rattle.octets.specs.Part.{tab}
 use Rattle.octets.proofs.Tab.{tab-length, tab-get, tab-ext, tab-set, place-start, place-hit, place-miss, place-none, count-none}
@@ -72,7 +72,7 @@ module _ (ns os : List ℕ) (k v : ℕ) where
       (agree-set markColumn labelNumbers ns k v (λ a b. omega arith))
       (agree-refl 0 treeOctets os)
 
-  pub labels-away : k < markColumn → tab 256 (labelIn (set ns k v) os) ≡ tab 256 (labelIn ns os)
+  pub labels-away : k < markColumn → tab labelCount (labelIn (set ns k v) os) ≡ tab labelCount (labelIn ns os)
   labels-away h = labels-same ns (set ns k v) os os (agree-set markColumn labelNumbers ns k v (λ a b. omega arith)) (agree-refl labelNames labelOctets os)
 
 pub set-next : (ns os : List ℕ) (id : ℕ) → Numbers ns → id < 4294967296 → cardOf (set ns 1 id) os ≡ withNext id (cardOf ns os)
@@ -148,9 +148,9 @@ named-at a ns os i n e = rw e refl
 
 -- ---- one number of a tree anew
 
-module _ (ns os : List ℕ) (i : ℕ) (l : Numbers ns) (h : i < treeCount ns) (i64 : i < 64) where
+module _ (ns os : List ℕ) (i : ℕ) (l : Numbers ns) (h : i < treeCount ns) (i64 : i < treeLimit) where
   -- the labels that trees carry are as they were
-  row-own : (k v j : ℕ) → rowColumn + i * rowWidth ≤ k → k < rowColumn + i * rowWidth + rowWidth → j < 64 → ownLabel (set ns k v) j (ownPlace (set ns k v) j) ≡ ownLabel ns j (ownPlace ns j)
+  row-own : (k v j : ℕ) → rowColumn + i * rowWidth ≤ k → k < rowColumn + i * rowWidth + rowWidth → j < treeLimit → ownLabel (set ns k v) j (ownPlace (set ns k v) j) ≡ ownLabel ns j (ownPlace ns j)
   row-own k v j low high j64 =
       own-kept ns (set ns k v) os os j
       (agree-set 0 1 ns k v (λ a b. omega arith))
@@ -199,11 +199,11 @@ module _ (ns os : List ℕ) (i : ℕ) (l : Numbers ns) (h : i < treeCount ns) (i
 
 -- what a label is used for: of the block, and outside it
 
-pub use-in : (ns os : List ℕ) (label p : ℕ) → label ≡ baseIn ns + p → p < 256 → useOf label (cardOf ns os) ≡ labelIn ns os p
+pub use-in : (ns os : List ℕ) (label p : ℕ) → label ≡ baseIn ns + p → p < labelCount → useOf label (cardOf ns os) ≡ labelIn ns os p
 unfolding useOf cardOf
 use-in ns os label p e h =
     let q : label - baseIn ns ≡ p = omega arith in
-    rw (le-leb (baseIn ns) label (omega arith), q) (tab-get 256 (labelIn ns os) p free h)
+    rw (le-leb (baseIn ns) label (omega arith), q) (tab-get labelCount (labelIn ns os) p free h)
 
 -- the neighbour to which the label at a place is mapped
 module _ (ns : List ℕ) (p : ℕ) where
@@ -251,41 +251,41 @@ module _ (ns os : List ℕ) (label b : ℕ) (e : b ≡ baseIn ns) where
   unfolding useOf cardOf
   use-under h = rw (lt-leb (baseIn ns) label (rw e at h)) refl
 
-  pub use-above : b ≤ label → 256 ≤ label - b → useOf label (cardOf ns os) ≡ free
+  pub use-above : b ≤ label → labelCount ≤ label - b → useOf label (cardOf ns os) ≡ free
   unfolding useOf cardOf
-  use-above h k = rw (le-leb (baseIn ns) label (rw e at h)) (getD-out (tab 256 (labelIn ns os)) (label - baseIn ns) free (rw tab-length (rw e at k)))
+  use-above h k = rw (le-leb (baseIn ns) label (rw e at h)) (getD-out (tab labelCount (labelIn ns os)) (label - baseIn ns) free (rw tab-length (rw e at k)))
 
-  pub use-at : b ≤ label → label - b < 256 → useOf label (cardOf ns os) ≡ labelIn ns os (label - b)
+  pub use-at : b ≤ label → label - b < labelCount → useOf label (cardOf ns os) ≡ labelIn ns os (label - b)
   use-at h k = use-in ns os label (label - b) (omega arith) k
 
   pub maps-under : label < b → 17 ≡ mappedTo (useOf label (cardOf ns os))
   unfolding mappedTo
   maps-under h = rw (use-under h) refl
 
-  pub maps-above : b ≤ label → 256 ≤ label - b → 17 ≡ mappedTo (useOf label (cardOf ns os))
+  pub maps-above : b ≤ label → labelCount ≤ label - b → 17 ≡ mappedTo (useOf label (cardOf ns os))
   unfolding mappedTo
   maps-above h k = rw (use-above h k) refl
 
   -- whether it awaits release
 
   abbrev pub Awaits : ℕ → List ℕ → Bool → Type 0
-  Awaits n a r = (r ≡ isAwaiting n a (useOf label (cardOf ns os))) × (r ≡ true → (baseIn ns ≤ label) × (label < baseIn ns + 256) × (isMappedAt ns (label - baseIn ns) ≡ false))
+  Awaits n a r = (r ≡ isAwaiting n a (useOf label (cardOf ns os))) × (r ≡ true → (baseIn ns ≤ label) × (label < baseIn ns + labelCount) × (isMappedAt ns (label - baseIn ns) ≡ false))
 
   pub awaits-under : (n : ℕ) (a : List ℕ) → label < b → Awaits n a false
   unfolding isAwaiting
   awaits-under n a h = (rw (use-under h) refl, λ z. absurd (never z))
 
-  pub awaits-above : (n : ℕ) (a : List ℕ) → b ≤ label → 256 ≤ label - b → Awaits n a false
+  pub awaits-above : (n : ℕ) (a : List ℕ) → b ≤ label → labelCount ≤ label - b → Awaits n a false
   unfolding isAwaiting
   awaits-above n a h k = (rw (use-above h k) refl, λ z. absurd (never z))
 
-  pub awaits-free : (n : ℕ) (a : List ℕ) → b ≤ label → label - b < 256 → isFreeAt ns (label - b) ≡ true → Awaits n a false
+  pub awaits-free : (n : ℕ) (a : List ℕ) → b ≤ label → label - b < labelCount → isFreeAt ns (label - b) ≡ true → Awaits n a false
   awaits-free n a h k f = (rw (use-at h k) (sym (awaiting-free ns os (label - b) n a f)), λ z. absurd (never z))
 
-  pub awaits-not : (n : ℕ) (a : List ℕ) → b ≤ label → label - b < 256 → (markUse (markAt ns (label - b)) ≡ 16 + n → ⊥) → Awaits n a false
+  pub awaits-not : (n : ℕ) (a : List ℕ) → b ≤ label → label - b < labelCount → (markUse (markAt ns (label - b)) ≡ 16 + n → ⊥) → Awaits n a false
   awaits-not n a h k ne = (rw (use-at h k) (sym (awaiting-not ns os (label - b) n a ne)), λ z. absurd (never z))
 
-  pub awaits-same : (n : ℕ) (a : List ℕ) (r : Bool) → b ≤ label → label - b < 256 → isFreeAt ns (label - b) ≡ false → n < 16 → markUse (markAt ns (label - b)) ≡ 16 + n → r ≡ same (labelName os (label - b)) a → Awaits n a r
+  pub awaits-same : (n : ℕ) (a : List ℕ) (r : Bool) → b ≤ label → label - b < labelCount → isFreeAt ns (label - b) ≡ false → n < 16 → markUse (markAt ns (label - b)) ≡ 16 + n → r ≡ same (labelName os (label - b)) a → Awaits n a r
   awaits-same n a r h k t n16 m s =
       let away : isMappedAt ns (label - b) ≡ false = unmapped-above ns (label - b) (omega arith) in
       (rw (use-at h k) (s ∙ sym (awaiting-this ns os (label - b) n a t n16 m)), λ z. (omega arith, omega arith, rw (← e) away))
@@ -304,17 +304,17 @@ module _ (ns os : List ℕ) (i : ℕ) (h : i < treeCount ns) where
 
 -- all labels, from the front
 
-pub labels-start : (ns os : List ℕ) → place isFree (cardOf ns os .labels) ≡ 0 + place isFree (drop 0 (tab 256 (labelIn ns os)))
+pub labels-start : (ns os : List ℕ) → place isFree (cardOf ns os .labels) ≡ 0 + place isFree (drop 0 (tab labelCount (labelIn ns os)))
 unfolding cardOf
 labels-start ns os = omega arith
 
-pub count-start : (ns os : List ℕ) → freeLabels (cardOf ns os) ≡ 0 + count isFree (drop 0 (tab 256 (labelIn ns os)))
+pub count-start : (ns os : List ℕ) → freeLabels (cardOf ns os) ≡ 0 + count isFree (drop 0 (tab labelCount (labelIn ns os)))
 unfolding freeLabels cardOf
 count-start ns os = omega arith
 
 -- by words: each says which of its 64 labels are free
 
-says : (ns os : List ℕ) (w : ℕ) → w < wordCount → Says isFree 256 (labelIn ns os) 64 (w * 64) (wordAt ns w)
+says : (ns os : List ℕ) (w : ℕ) → w < wordCount → Says isFree labelCount (labelIn ns os) 64 (w * 64) (wordAt ns w)
 unfolding isFreeAt
 says ns os w h j lt =
     let q : (w * 64 + j) / 64 ≡ w = omega arith in
@@ -324,10 +324,10 @@ says ns os w h j lt =
 -- the first word that is not 0 has the lowest; From w: none is free below word w
 module _ (ns : List ℕ) where
   abbrev pub Lowest : ℕ → Type 0
-  Lowest r = ((os : List ℕ) → r ≡ place isFree (cardOf ns os .labels)) × (r ≤ 256) × (r < 256 → isFreeAt ns r ≡ true)
+  Lowest r = ((os : List ℕ) → r ≡ place isFree (cardOf ns os .labels)) × (r ≤ labelCount) × (r < labelCount → isFreeAt ns r ≡ true)
 
   abbrev pub From : ℕ → Type 0
-  From w = (os : List ℕ) → place isFree (cardOf ns os .labels) ≡ w * 64 + place isFree (drop (w * 64) (tab 256 (labelIn ns os)))
+  From w = (os : List ℕ) → place isFree (cardOf ns os .labels) ≡ w * 64 + place isFree (drop (w * 64) (tab labelCount (labelIn ns os)))
 
   pub lowest-word : (w : ℕ) → w < wordCount → From w → 0 < wordAt ns w → wordAt ns w < 2 ^ 64 → Lowest (w * 64 + trailingZeros 64 (wordAt ns w))
   unfolding isFreeAt
@@ -335,7 +335,7 @@ module _ (ns : List ℕ) where
       let t = trailing-bit 64 (wordAt ns w) p l in
       let q : (w * 64 + trailingZeros 64 (wordAt ns w)) / 64 ≡ w = omega (arith, t .0) in
       let m : (w * 64 + trailingZeros 64 (wordAt ns w)) % 64 ≡ trailingZeros 64 (wordAt ns w) = omega (arith, t .0) in (
-        (λ os. sym (from os ∙ place-word isFree 256 (labelIn ns os) 64 (w * 64) (wordAt ns w) (omega arith) p l (says ns os w h))),
+        (λ os. sym (from os ∙ place-word isFree labelCount (labelIn ns os) 64 (w * 64) (wordAt ns w) (omega arith) p l (says ns os w h))),
         omega (arith, t .0),
         (λ _. rw (q, m) (t .1)),
       )
@@ -343,10 +343,10 @@ module _ (ns : List ℕ) where
   pub lowest-next : (w : ℕ) → w < wordCount → From w → wordAt ns w ≡ 0 → From (w + 1)
   lowest-next w h from z os =
       let e : w * 64 + 64 ≡ (w + 1) * 64 = omega arith in
-      from os ∙ place-empty isFree 256 (labelIn ns os) 64 (w * 64) (omega arith) (rw z at (says ns os w h)) ∙ rw e refl
+      from os ∙ place-empty isFree labelCount (labelIn ns os) 64 (w * 64) (omega arith) (rw z at (says ns os w h)) ∙ rw e refl
 
-  pub lowest-none : (w : ℕ) → 4 ≤ w → w ≤ 4 → From w → Lowest 256
-  lowest-none w h k from = ((λ os. sym (from os ∙ place-none isFree 256 (labelIn ns os) (w * 64) (omega arith) (omega arith))), omega arith, (λ lt. absurd (omega arith)))
+  pub lowest-none : (w : ℕ) → 4 ≤ w → w ≤ 4 → From w → Lowest labelCount
+  lowest-none w h k from = ((λ os. sym (from os ∙ place-none isFree labelCount (labelIn ns os) (w * 64) (omega arith) (omega arith))), omega arith, (λ lt. absurd (omega arith)))
 
 -- the ones of the four words
 pub few-in : (ns : List ℕ) → ((w : ℕ) → wordAt ns w < 2 ^ 64) → (w : ℕ) → ones (wordAt ns w) ≤ 64
@@ -357,8 +357,8 @@ counted ns os l =
     let z : 0 + ones (wordAt ns 0) ≡ ones (wordAt ns 0) = omega arith in
     sym (count-start ns os ∙ word 0 0 (omega arith) ∙ rw z (word 1 _ (omega arith) ∙ word 2 _ (omega arith) ∙ word 3 _ (omega arith) ∙ count-none isFree 256 (labelIn ns os) 256 _ (omega arith)))
   where
-    word : (w k : ℕ) → w < wordCount → k + count isFree (drop (w * 64) (tab 256 (labelIn ns os))) ≡ k + ones (wordAt ns w) + count isFree (drop (w * 64 + 64) (tab 256 (labelIn ns os)))
-    word w k h = count-word isFree 256 (labelIn ns os) 64 (w * 64) (wordAt ns w) k (omega arith) (l w) (says ns os w h)
+    word : (w k : ℕ) → w < wordCount → k + count isFree (drop (w * 64) (tab labelCount (labelIn ns os))) ≡ k + ones (wordAt ns w) + count isFree (drop (w * 64 + 64) (tab labelCount (labelIn ns os)))
+    word w k h = count-word isFree labelCount (labelIn ns os) 64 (w * 64) (wordAt ns w) k (omega arith) (l w) (says ns os w h)
 
 -- ---- the tree that carries a label
 
@@ -367,7 +367,7 @@ place-past {ℓ} : {A : Type ℓ} (t : A → Bool) (n : ℕ) (f : ℕ → A) (k 
 place-past t n f zero h g = place-start t (tab n f)
 place-past t n f (suc k) h g = place-past t n f k (omega arith) (λ j l. g j (omega arith)) ∙ place-miss t n f k (omega arith) (g k (omega arith)) ∙ rw (add-one k) refl
 
-module _ (ns os : List ℕ) (label p : ℕ) (h : p < 256) (e : label ≡ baseIn ns + p) where
+module _ (ns os : List ℕ) (label p : ℕ) (h : p < labelCount) (e : label ≡ baseIn ns + p) where
   carries-this : (i : ℕ) → ownPlace ns i ≡ p → carriesAt ns i p ≡ true → carries label (treeIn ns os i) ≡ true
   unfolding carries treeIn
   carries-this i o c = rw (o, own-some ns i p c) (eq-eqb (baseIn ns + p) label (sym e))
@@ -406,7 +406,7 @@ module _ (ns os : List ℕ) (label p : ℕ) (h : p < 256) (e : label ≡ baseIn 
 
 -- ---- one label anew
 
-module _ (ns ms os : List ℕ) (p : ℕ) (h : p < 256) (label : ℕ) (e : label ≡ baseIn ns + p) (r : Relabelled p ns ms) where
+module _ (ns ms os : List ℕ) (p : ℕ) (h : p < labelCount) (label : ℕ) (e : label ≡ baseIn ns + p) (r : Relabelled p ns ms) where
   -- with the label's use and the trees, as they are then
   relabelled : (u : Use) (ts : List Tree) → labelIn ms os p ≡ u → tab (treeCount ns) (treeIn ms os) ≡ ts → cardOf ms os ≡ withTrees ts (setUse label u (cardOf ns os))
   unfolding cardOf withTrees setUse withLabels treeCount
@@ -416,12 +416,12 @@ module _ (ns ms os : List ℕ) (p : ℕ) (h : p < 256) (label : ℕ) (e : label 
       let b : baseIn ms ≡ baseIn ns = base-same ns ms os os (λ j x y. r .rest j (omega arith)) in
       let i : nextIn ms ≡ nextIn ns = next-same ns ms os os (λ j x y. r .rest j (omega arith)) in
       let rs : tab (routeCount ms) (routeIn ms os) ≡ tab (routeCount ns) (routeIn ns os) = routes-same ns ms os os (λ j x y. r .rest j (omega arith)) (λ j x y. r .rest j (omega arith)) (agree-refl rootNames rootOctets os) in
-      let ls : tab 256 (labelIn ms os) ≡ set (tab 256 (labelIn ns os)) p u =
-      tab-set 256 (labelIn ns os) (labelIn ms os) p u h eu (λ j ne lt. label-same ns ms os os j (r .marks j lt ne) (r .frees j lt ne) (agree-refl (labelNames + j * nameSpace) nameSpace os)) in
+      let ls : tab labelCount (labelIn ms os) ≡ set (tab labelCount (labelIn ns os)) p u =
+      tab-set labelCount (labelIn ns os) (labelIn ms os) p u h eu (λ j ne lt. label-same ns ms os os j (r .marks j lt ne) (r .frees j lt ne) (agree-refl (labelNames + j * nameSpace) nameSpace os)) in
       cc
 
   -- a tree whose label it is not
-  beside : (j : ℕ) → j < 64 → (ownPlace ns j ≡ p → (carriesAt ns j p ≡ false) × (carriesAt ms j p ≡ false)) → treeIn ms os j ≡ treeIn ns os j
+  beside : (j : ℕ) → j < treeLimit → (ownPlace ns j ≡ p → (carriesAt ns j p ≡ false) × (carriesAt ms j p ≡ false)) → treeIn ms os j ≡ treeIn ns os j
   beside j j64 f =
       let o : ownPlace ms j ≡ ownPlace ns j = r .rest (ownColumn + j) (omega arith) in
       tree-same ns ms os os j
@@ -429,7 +429,7 @@ module _ (ns ms os : List ℕ) (p : ℕ) (h : p < 256) (label : ℕ) (e : label 
       (λ k x y. r .rest k (omega arith))
       (agree-refl (j * nameSpace) nameSpace os)
 
-pub free-label : (ns ms os : List ℕ) (label b : ℕ) → b ≡ baseIn ns → b ≤ label → label < b + 256 → isMappedAt ns (label - b) ≡ false
+pub free-label : (ns ms os : List ℕ) (label b : ℕ) → b ≡ baseIn ns → b ≤ label → label < b + labelCount → isMappedAt ns (label - b) ≡ false
     → Relabelled (label - b) ns ms → isFreeAt ms (label - b) ≡ true → cardOf ms os ≡ setUse label free (cardOf ns os)
 free-label ns ms os label b e low high m r now =
     relabelled ns ms os p h label e' r free (cardOf ns os .trees) (label-free ms p os now)
@@ -439,7 +439,7 @@ free-label ns ms os label b e low high m r now =
     p : ℕ
     p = label - b
 
-    h : p < 256
+    h : p < labelCount
     h = omega arith
 
     e' : label ≡ baseIn ns + p
@@ -447,8 +447,8 @@ free-label ns ms os label b e low high m r now =
 
 -- the tree carries its label no more, which awaits release
 
-module _ (ns os : List ℕ) (i : ℕ) (l : Numbers ns) (h : i < treeCount ns) (i64 : i < 64) (c : carriesAt ns i (ownPlace ns i) ≡ true) where
-  pub own-inside : ownPlace ns i < 256
+module _ (ns os : List ℕ) (i : ℕ) (l : Numbers ns) (h : i < treeCount ns) (i64 : i < treeLimit) (c : carriesAt ns i (ownPlace ns i) ≡ true) where
+  pub own-inside : ownPlace ns i < labelCount
   own-inside = carried-out ns i (ownPlace ns i) c .0
 
   own-label : treeAt i (cardOf ns os) .label ≡ baseIn ns + ownPlace ns i

@@ -10,7 +10,7 @@ use lib.Dec.{eqb, ltb}
 use borrow.Author.Tests.{lt-ltb, le-ltb, ltb-true, ltb-false, eq-eqb, eqb-true, eqb-false, not-true}
 use Rattle.meaning.specs.Lists.{by-test}
 use Rattle.meaning.specs.RoundTrip.{both}
-use Rattle.meaning.specs.Card.{free, mapped, awaiting, isFree}
+use Rattle.meaning.specs.Card.{free, mapped, awaiting, isFree, labelCount}
 use Rattle.octets.specs.Bits.{bit}
 use Rattle.memory.specs.Sizes.{markColumn, wordColumn, wordCount, Numbers}
 use Rattle.memory.specs.Memory.{labelName, baseIn, wordAt, isFreeAt, markAt, markUse, markPlace, useIn, isMappedAt, labelIn, carriesAt, ownLabel, Relabelled}
@@ -74,16 +74,16 @@ module _ (ns : List ℕ) (p : ℕ) where
 -- ---- the tree
 
 module _ (ns : List ℕ) (i p : ℕ) where
-  pub carried-in : p < 256 → isMappedAt ns p ≡ true → markPlace (markAt ns p) ≡ i → carriesAt ns i p ≡ true
+  pub carried-in : p < labelCount → isMappedAt ns p ≡ true → markPlace (markAt ns p) ≡ i → carriesAt ns i p ≡ true
   unfolding carriesAt
   carried-in h m e = rw (lt-ltb p 256 h, m, eq-eqb (markPlace (markAt ns p)) i e) refl
 
   -- a mapped label is carried by the tree that its mark names
-  pub carried-by : p < 256 → isMappedAt ns p ≡ true → carriesAt ns i p ≡ eqb (markPlace (markAt ns p)) i
+  pub carried-by : p < labelCount → isMappedAt ns p ≡ true → carriesAt ns i p ≡ eqb (markPlace (markAt ns p)) i
   unfolding carriesAt
   carried-by h m = rw (lt-ltb p 256 h, m) refl
 
-  pub carried-out : carriesAt ns i p ≡ true → (p < 256) × (isMappedAt ns p ≡ true) × (markPlace (markAt ns p) ≡ i)
+  pub carried-out : carriesAt ns i p ≡ true → (p < labelCount) × (isMappedAt ns p ≡ true) × (markPlace (markAt ns p) ≡ i)
   unfolding carriesAt
   carried-out e =
       let a = both (ltb p 256) (isMappedAt ns p && eqb (markPlace (markAt ns p)) i) e in
@@ -93,7 +93,7 @@ module _ (ns : List ℕ) (i p : ℕ) where
   not-carried : (carriesAt ns i p ≡ true → ⊥) → carriesAt ns i p ≡ false
   not-carried f = by-test (carriesAt ns i p) (λ e. absurd (f e)) (λ e. e)
 
-  pub not-far : 256 ≤ p → carriesAt ns i p ≡ false
+  pub not-far : labelCount ≤ p → carriesAt ns i p ≡ false
   not-far h = not-carried (λ e. omega (arith, carried-out e .0))
 
   pub not-mapped : isMappedAt ns p ≡ false → carriesAt ns i p ≡ false
@@ -122,7 +122,7 @@ relabelled-again p ns ks ms a b = record {
 }
 
 -- its mark alone
-pub remarked : (ns : List ℕ) (p v : ℕ) → p < 256 → Relabelled p ns (set ns (markColumn + p) v)
+pub remarked : (ns : List ℕ) (p v : ℕ) → p < labelCount → Relabelled p ns (set ns (markColumn + p) v)
 remarked ns p v h = record {
   long = length-set ns (markColumn + p) v;
   rest = λ k lt. getD-set-other ns (markColumn + p) k v 0 (λ e. omega arith);
@@ -130,16 +130,16 @@ remarked ns p v h = record {
   frees = λ q lt ne. free-same ns (set ns (markColumn + p) v) ns ns (agree-set wordColumn wordCount ns (markColumn + p) v (λ a b. omega arith)) q lt;
 }
 
-pub remarked-free : (ns : List ℕ) (p v : ℕ) → p < 256 → isFreeAt (set ns (markColumn + p) v) p ≡ isFreeAt ns p
+pub remarked-free : (ns : List ℕ) (p v : ℕ) → p < labelCount → isFreeAt (set ns (markColumn + p) v) p ≡ isFreeAt ns p
 remarked-free ns p v h = free-same ns (set ns (markColumn + p) v) ns ns (agree-set wordColumn wordCount ns (markColumn + p) v (λ a b. omega arith)) p h
 
 -- its bit alone, in the word that v takes the place of
-module _ (ns : List ℕ) (p v : ℕ) (h : p < 256) (l : Numbers ns) where
-  rebit-at : (q : ℕ) → q < 256 → q / 64 ≡ p / 64 → isFreeAt (set ns (wordColumn + p / 64) v) q ≡ bit (q % 64) v
+module _ (ns : List ℕ) (p v : ℕ) (h : p < labelCount) (l : Numbers ns) where
+  rebit-at : (q : ℕ) → q < labelCount → q / 64 ≡ p / 64 → isFreeAt (set ns (wordColumn + p / 64) v) q ≡ bit (q % 64) v
   unfolding isFreeAt
   rebit-at q lt e = rw (e, getD-set-same ns (wordColumn + p / 64) v 0 (omega arith)) refl
 
-  rebit-away : (q : ℕ) → q < 256 → (q / 64 ≡ p / 64 → ⊥) → isFreeAt (set ns (wordColumn + p / 64) v) q ≡ isFreeAt ns q
+  rebit-away : (q : ℕ) → q < labelCount → (q / 64 ≡ p / 64 → ⊥) → isFreeAt (set ns (wordColumn + p / 64) v) q ≡ isFreeAt ns q
   unfolding isFreeAt
   rebit-away q lt ne = rw (getD-set-other ns (wordColumn + p / 64) (wordColumn + q / 64) v 0 (λ e. ne (omega arith))) refl
 
@@ -147,7 +147,7 @@ module _ (ns : List ℕ) (p v : ℕ) (h : p < 256) (l : Numbers ns) where
   unfolding isFreeAt
   word-said q e = rw e refl
 
-  rebit-others : ((j : ℕ) → j < 64 → (j ≡ p % 64 → ⊥) → bit j v ≡ bit j (wordAt ns (p / 64))) → (q : ℕ) → q < 256 → (q ≡ p → ⊥) → isFreeAt (set ns (wordColumn + p / 64) v) q ≡ isFreeAt ns q
+  rebit-others : ((j : ℕ) → j < 64 → (j ≡ p % 64 → ⊥) → bit j v ≡ bit j (wordAt ns (p / 64))) → (q : ℕ) → q < labelCount → (q ≡ p → ⊥) → isFreeAt (set ns (wordColumn + p / 64) v) q ≡ isFreeAt ns q
   rebit-others o q lt ne =
       by-test (eqb (q / 64) (p / 64))
       (λ t.

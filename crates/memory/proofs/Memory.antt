@@ -31,13 +31,13 @@ pub upTo-above : (k n : ℕ) → k ≤ n → upTo k n ≡ k
 unfolding upTo
 upTo-above k n h = rw (le-ltb n k h) refl
 
-pub routeCount-le : (ns : List ℕ) → routeCount ns ≤ 32
+pub routeCount-le : (ns : List ℕ) → routeCount ns ≤ routeLimit
 unfolding routeCount
-routeCount-le ns = upTo-le 32 _
+routeCount-le ns = upTo-le routeLimit _
 
-pub treeCount-le : (ns : List ℕ) → treeCount ns ≤ 64
+pub treeCount-le : (ns : List ℕ) → treeCount ns ≤ treeLimit
 unfolding treeCount
-treeCount-le ns = upTo-le 64 _
+treeCount-le ns = upTo-le treeLimit _
 
 pub base-range : (ns : List ℕ) → (16 ≤ baseIn ns) × (baseIn ns ≤ 1048320)
 unfolding baseIn
@@ -93,16 +93,16 @@ module _ (ns ns' os os' : List ℕ) where
   unfolding routeCount
   routes-same h k r =
       rw (h 2 (omega arith) (omega arith))
-      (tab-ext _ _ _ (λ i lt. let le = upTo-le 32 (getD ns 2 0) in
+      (tab-ext _ _ _ (λ i lt. let le = upTo-le routeLimit (getD ns 2 0) in
       route-same i (λ j a b. k j (omega arith) (omega arith)) (λ j a b. r j (omega arith) (omega arith))))
 
   -- a word says of its labels what it said
-  pub free-same : Agree wordColumn wordCount ns ns' → (p : ℕ) → p < 256 → isFreeAt ns' p ≡ isFreeAt ns p
+  pub free-same : Agree wordColumn wordCount ns ns' → (p : ℕ) → p < labelCount → isFreeAt ns' p ≡ isFreeAt ns p
   unfolding isFreeAt
   free-same h p lt = rw (h (wordColumn + p / 64) (omega arith) (omega arith)) refl
 
   -- the label that a tree at place i carries, by the bit and the mark of its own place alone
-  pub own-same : (i p : ℕ) → Agree 0 1 ns ns' → (p < 256 → markAt ns' p ≡ markAt ns p) → (p < 256 → isFreeAt ns' p ≡ isFreeAt ns p) → ownLabel ns' i p ≡ ownLabel ns i p
+  pub own-same : (i p : ℕ) → Agree 0 1 ns ns' → (p < labelCount → markAt ns' p ≡ markAt ns p) → (p < labelCount → isFreeAt ns' p ≡ isFreeAt ns p) → ownLabel ns' i p ≡ ownLabel ns i p
   unfolding ownLabel carriesAt isMappedAt
   own-same i p b m f =
       by-test (ltb p 256)
@@ -132,7 +132,7 @@ module _ (ns ns' os os' : List ℕ) where
   unfolding treeCount
   trees-same b h l r m n =
       rw (h 3 (omega arith) (omega arith))
-      (tab-ext _ _ _ (λ i lt. let le = upTo-le 64 (getD ns 3 0) in
+      (tab-ext _ _ _ (λ i lt. let le = upTo-le treeLimit (getD ns 3 0) in
       tree-same i (own-kept i b (λ j x y. l j (omega arith) (omega arith)) m) (λ j x y. r j (omega arith) (omega arith)) (λ j x y. n j (omega arith) (omega arith))))
 
   pub label-same : (p : ℕ) → markAt ns' p ≡ markAt ns p → isFreeAt ns' p ≡ isFreeAt ns p → Agree (labelNames + p * nameSpace) nameSpace os os' → labelIn ns' os' p ≡ labelIn ns os p
@@ -141,7 +141,7 @@ module _ (ns ns' os os' : List ℕ) where
 
   pub labels-same : Agree markColumn labelNumbers ns ns' → Agree labelNames labelOctets os os' → tab labelCount (labelIn ns' os') ≡ tab labelCount (labelIn ns os)
   labels-same m n =
-      tab-ext 256 _ _ (λ p lt.
+      tab-ext labelCount _ _ (λ p lt.
       label-same p (m (markColumn + p) (omega arith) (omega arith)) (free-same (λ j x y. m j (omega arith) (omega arith)) p lt) (λ j x y. n j (omega arith) (omega arith)))
 
 -- the same places of the same list

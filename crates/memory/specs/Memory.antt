@@ -120,5 +120,5 @@ cardOf ns os = record {
 pub record Relabelled (p : ℕ) (ns ms : List ℕ) : Type 0 where
   pub long : length ms ≡ length ns
   pub rest : (k : ℕ) → k < markColumn → getD ms k 0 ≡ getD ns k 0
-  pub marks : (q : ℕ) → q < 256 → (q ≡ p → ⊥) → markAt ms q ≡ markAt ns q
-  pub frees : (q : ℕ) → q < 256 → (q ≡ p → ⊥) → isFreeAt ms q ≡ isFreeAt ns q
+  pub marks : (q : ℕ) → q < labelCount → (q ≡ p → ⊥) → markAt ms q ≡ markAt ns q
+  pub frees : (q : ℕ) → q < labelCount → (q ≡ p → ⊥) → isFreeAt ms q ≡ isFreeAt ns q

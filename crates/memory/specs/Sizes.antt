@@ -74,6 +74,14 @@ rootNames = labelNames + labelOctets
 abbrev pub octetCount : ℕ
 octetCount = rootNames + rootOctets
 
+-- ---- in the own column, no label; in a mark, a place where no tree stands
+
+abbrev pub noLabel : ℕ
+noLabel = labelCount
+
+abbrev pub nowhere : ℕ
+nowhere = 256 * treeLimit
+
 -- ---- what is lent
 
 abbrev pub Numbers : List ℕ → Type 0

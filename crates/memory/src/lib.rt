@@ -4,7 +4,7 @@ ghost use mathlib.Core.Path.{_≡_};
 ghost use mathlib.Core.List.{List};
 ghost use Prim.Native.Nat.{ℕ, _+_, _-_, _≤_, _<_};
 ghost use lib.ListN.{length};
-ghost use Rattle.meaning.specs.Card.{withNext};
+ghost use Rattle.meaning.specs.Card.{withNext, routeLimit, treeLimit};
 ghost use Rattle.memory.specs.Sizes.{Numbers};
 ghost use Rattle.memory.specs.Memory.{cardOf, baseIn, treeCount, routeCount, textAt};
 use meaning::LABEL_COUNT;
@@ -46,6 +46,16 @@ pub const LABEL_NAMES: usize = TREE_LIMIT * NAME_SPACE;
 pub const ROOT_NAMES: usize = LABEL_NAMES + LABEL_COUNT * NAME_SPACE;
 
 pub const OCTET_COUNT: usize = ROOT_NAMES + ROUTE_LIMIT * ROOT_SPACE;
+// the limits in the width of a number of the memory
+pub const TREES: u64 = TREE_LIMIT as u64;
+
+pub const ROUTES: u64 = ROUTE_LIMIT as u64;
+
+pub const LABELS: u64 = LABEL_COUNT as u64;
+// in the own column: no label; in a mark: a place where no tree stands
+pub const NO_LABEL: u64 = LABEL_COUNT as u64;
+
+pub const NOWHERE: u64 = 256 * TREE_LIMIT as u64;
 
 pub fn base(numbers: &[u64]) -> u64
     requires { ⌜ Numbers (now numbers) ⌝ }
@@ -77,18 +87,18 @@ pub fn set_next_id(numbers: &mut [u64], id: u32)
 
 pub fn route_count(numbers: &[u64]) -> usize
     requires { ⌜ Numbers (now numbers) ⌝ }
-    ensures { λ r. ⌜ (r ≡ routeCount (now (numbers .entry))) × (r ≤ 32) ⌝ }
+    ensures { λ r. ⌜ (r ≡ routeCount (now (numbers .entry))) × (r ≤ routeLimit) ⌝ }
 {
     let n = numbers[2];
-    if n < 32 { n as usize } else { 32 }
+    if n < ROUTES { n as usize } else { ROUTE_LIMIT }
 }
 
 pub fn tree_count(numbers: &[u64]) -> usize
     requires { ⌜ Numbers (now numbers) ⌝ }
-    ensures { λ r. ⌜ (r ≡ treeCount (now (numbers .entry))) × (r ≤ 64) ⌝ }
+    ensures { λ r. ⌜ (r ≡ treeCount (now (numbers .entry))) × (r ≤ treeLimit) ⌝ }
 {
     let n = numbers[3];
-    if n < 64 { n as usize } else { 64 }
+    if n < TREES { n as usize } else { TREE_LIMIT }
 }
 
 // The text that stands at place a: its length, at most k, and then its octets.

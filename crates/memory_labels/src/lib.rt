@@ -4,13 +4,15 @@ ghost use mathlib.Core.Bool.{true, false};
 ghost use mathlib.Core.List.{List};
 ghost use Prim.Native.Nat.{ℕ, _+_, _-_, _≤_, _<_};
 ghost use Rattle.meaning.specs.Octets.{place};
-ghost use Rattle.meaning.specs.Card.{isFree, isAwaiting, mappedTo, useOf, freeLabels, free, awaiting};
+ghost use Rattle.meaning.specs.Card.{isFree, isAwaiting, mappedTo, useOf, freeLabels, free, awaiting, labelCount};
 ghost use Rattle.meaning.specs.Events.{setUse, labelsShort};
 ghost use Rattle.memory.specs.Sizes.{Numbers, Names};
 ghost use Rattle.memory.specs.Memory.{cardOf, baseIn, labelName, isFreeAt, isMappedAt, labelIn, Relabelled};
+use meaning::LABEL_COUNT;
 use meaning::NAME_LIMIT;
 use memory::FOURTH_WORD;
 use memory::LABEL_NAMES;
+use memory::LABELS;
 use memory::MARK_COLUMN;
 use memory::NAME_SPACE;
 use memory::SECOND_WORD;
@@ -19,7 +21,7 @@ use memory::WORD_COLUMN;
 
 // Whether the label at place p of the block is free: read here, and nowhere else.
 pub fn is_free(numbers: &[u64], p: usize) -> bool
-    requires { ⌜ Numbers (now numbers) × (p < 256) ⌝ }
+    requires { ⌜ Numbers (now numbers) × (p < labelCount) ⌝ }
     ensures { λ r. ⌜ (r ≡ isFreeAt (now (numbers .entry)) p) × ((os : List ℕ) → r ≡ isFree (labelIn (now (numbers .entry)) os p)) ⌝ }
 {
     (numbers[WORD_COLUMN + p / 64] >> (p % 64)) % 2 == 1
@@ -27,7 +29,7 @@ pub fn is_free(numbers: &[u64], p: usize) -> bool
 
 // The label at place p of the block is free from now on: its bit is set.
 fn set_free(numbers: &mut [u64], p: usize)
-    requires { ⌜ Numbers (now numbers) × (p < 256) ⌝ }
+    requires { ⌜ Numbers (now numbers) × (p < labelCount) ⌝ }
     ensures { λ _. ⌜ Relabelled p (now (numbers .entry)) (now (numbers .exit)) × (isFreeAt (now (numbers .exit)) p ≡ true) ⌝ }
 {
     let k = WORD_COLUMN + p / 64;
@@ -36,7 +38,7 @@ fn set_free(numbers: &mut [u64], p: usize)
 
 // It is free no more: its bit is cleared. What it is used for, its mark is to say.
 pub fn set_taken(numbers: &mut [u64], p: usize)
-    requires { ⌜ Numbers (now numbers) × (p < 256) ⌝ }
+    requires { ⌜ Numbers (now numbers) × (p < labelCount) ⌝ }
     ensures { λ _. ⌜ Relabelled p (now (numbers .entry)) (now (numbers .exit)) × (isFreeAt (now (numbers .exit)) p ≡ false) ⌝ }
 {
     let k = WORD_COLUMN + p / 64;
@@ -45,7 +47,7 @@ pub fn set_taken(numbers: &mut [u64], p: usize)
 
 // The neighbour to which the label at place p of the block is mapped; 17 for none.
 pub fn mapped_at(numbers: &[u64], p: usize) -> u64
-    requires { ⌜ Numbers (now numbers) × (p < 256) ⌝ }
+    requires { ⌜ Numbers (now numbers) × (p < labelCount) ⌝ }
     ensures { λ r. ⌜ ((os : List ℕ) → r ≡ mappedTo (labelIn (now (numbers .entry)) os p)) × (r ≤ 17)
         × (r ≡ 17 → isMappedAt (now (numbers .entry)) p ≡ false) × ((r ≡ 17 → ⊥) → isMappedAt (now (numbers .entry)) p ≡ true) ⌝ }
 {
@@ -58,7 +60,7 @@ pub fn mapped_at(numbers: &[u64], p: usize) -> u64
 
 // The neighbour from which the label at place p of the block awaits release, where the label is neither free nor mapped.
 pub fn awaited_at(numbers: &[u64], p: usize) -> u64
-    requires { ⌜ Numbers (now numbers) × (p < 256) × (isFreeAt (now numbers) p ≡ false) × (isMappedAt (now numbers) p ≡ false) ⌝ }
+    requires { ⌜ Numbers (now numbers) × (p < labelCount) × (isFreeAt (now numbers) p ≡ false) × (isMappedAt (now numbers) p ≡ false) ⌝ }
     ensures { λ r. ⌜ ((os : List ℕ) → labelIn (now (numbers .entry)) os p ≡ awaiting r (labelName os p)) × (r < 256) ⌝ }
 {
     numbers[MARK_COLUMN + p] % 256 - 16
@@ -73,14 +75,14 @@ pub fn mapped_to(numbers: &[u64], label: u64) -> u64
     if label < b {
         return 17;
     }
-    if 256 <= label - b {
+    if LABELS <= label - b {
         return 17;
     }
     mapped_at(numbers, (label - b) as usize)
 }
 
 pub fn label_name(names: &[u8], p: usize) -> &[u8]
-    requires { ⌜ Names (now names) × (p < 256) ⌝ }
+    requires { ⌜ Names (now names) × (p < labelCount) ⌝ }
     ensures { λ r. ⌜ now r ≡ labelName (now (names .entry)) p ⌝ }
 {
     memory::text(names, NAME_LIMIT, LABEL_NAMES + p * NAME_SPACE)
@@ -90,13 +92,13 @@ pub fn label_name(names: &[u8], p: usize) -> &[u8]
 pub fn is_awaited(numbers: &[u64], names: &[u8], neighbour: u64, name: &[u8], label: u64) -> bool
     requires { ⌜ Numbers (now numbers) × Names (now names) × (neighbour < 16) ⌝ }
     ensures { λ r. ⌜ (r ≡ isAwaiting neighbour (now (name .entry)) (useOf label (cardOf (now (numbers .entry)) (now (names .entry)))))
-        × (r ≡ true → (baseIn (now (numbers .entry)) ≤ label) × (label < baseIn (now (numbers .entry)) + 256) × (isMappedAt (now (numbers .entry)) (label - baseIn (now (numbers .entry))) ≡ false)) ⌝ }
+        × (r ≡ true → (baseIn (now (numbers .entry)) ≤ label) × (label < baseIn (now (numbers .entry)) + labelCount) × (isMappedAt (now (numbers .entry)) (label - baseIn (now (numbers .entry))) ≡ false)) ⌝ }
 {
     let b = memory::base(numbers);
     if label < b {
         return false;
     }
-    if 256 <= label - b {
+    if LABELS <= label - b {
         return false;
     }
     let p = (label - b) as usize;
@@ -111,7 +113,7 @@ pub fn is_awaited(numbers: &[u64], names: &[u8], neighbour: u64, name: &[u8], la
 
 pub fn free_labels(numbers: &[u64]) -> usize
     requires { ⌜ Numbers (now numbers) ⌝ }
-    ensures { λ r. ⌜ ((os : List ℕ) → r ≡ freeLabels (cardOf (now (numbers .entry)) os)) × (r ≤ 256) ⌝ }
+    ensures { λ r. ⌜ ((os : List ℕ) → r ≡ freeLabels (cardOf (now (numbers .entry)) os)) × (r ≤ labelCount) ⌝ }
 {
     (u64::count_ones(numbers[WORD_COLUMN])
         + u64::count_ones(numbers[SECOND_WORD])
@@ -130,7 +132,7 @@ pub fn labels_short(numbers: &[u64], needed: usize) -> bool
 // The place of the lowest free label; 256 where none is free.
 pub fn lowest_free(numbers: &[u64]) -> usize
     requires { ⌜ Numbers (now numbers) ⌝ }
-    ensures { λ r. ⌜ ((os : List ℕ) → r ≡ place isFree (cardOf (now (numbers .entry)) os .labels)) × (r ≤ 256) × (r < 256 → isFreeAt (now (numbers .entry)) r ≡ true) ⌝ }
+    ensures { λ r. ⌜ ((os : List ℕ) → r ≡ place isFree (cardOf (now (numbers .entry)) os .labels)) × (r ≤ labelCount) × (r < labelCount → isFreeAt (now (numbers .entry)) r ≡ true) ⌝ }
 {
     let mut w = 0;
     while w < 4 {
@@ -140,12 +142,12 @@ pub fn lowest_free(numbers: &[u64]) -> usize
         }
         w += 1;
     }
-    256
+    LABEL_COUNT
 }
 
 // A label that is not mapped is free from now on.
 pub fn free_label(numbers: &mut [u64], label: u64)
-    requires { ⌜ Numbers (now numbers) × (baseIn (now numbers) ≤ label) × (label < baseIn (now numbers) + 256) × (isMappedAt (now numbers) (label - baseIn (now numbers)) ≡ false) ⌝ }
+    requires { ⌜ Numbers (now numbers) × (baseIn (now numbers) ≤ label) × (label < baseIn (now numbers) + labelCount) × (isMappedAt (now numbers) (label - baseIn (now numbers)) ≡ false) ⌝ }
     ensures { λ _. ⌜ ((os : List ℕ) → cardOf (now (numbers .exit)) os ≡ setUse label free (cardOf (now (numbers .entry)) os)) ⌝ }
 {
     let p = (label - memory::base(numbers)) as usize;

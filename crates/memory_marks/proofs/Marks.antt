@@ -11,11 +11,11 @@ use borrow.Author.Tests.{eqb-true, eqb-false}
 use Rattle.meaning.specs.Octets.{pick}
 use Rattle.meaning.specs.Wire.{nameLimit}
 use Rattle.meaning.specs.Lists.{by-test, picked}
-use Rattle.meaning.specs.Card.{Use, mapped, awaiting, withTrees, withLabels, withLabel, treeAt}
+use Rattle.meaning.specs.Card.{Use, mapped, awaiting, withTrees, withLabels, withLabel, treeAt, labelCount, treeLimit}
 use Rattle.meaning.specs.Events.{setUse, setLabel}
 use Rattle.octets.specs.Part.{mid}
 use Rattle.octets.proofs.Tab.{tab-ext, tab-set}
-use Rattle.memory.specs.Sizes.{nameSpace, ownColumn, markColumn, wordColumn, wordCount, rootOctets, labelNames, rootNames, Numbers, Names}
+use Rattle.memory.specs.Sizes.{nameSpace, ownColumn, markColumn, wordColumn, wordCount, nowhere, rootOctets, labelNames, rootNames, Numbers, Names}
 use Rattle.memory.specs.Memory.{treeName, labelName, baseIn, treeCount, isFreeAt, markAt, markUse, markPlace, isMappedAt, labelIn, carriesAt, ownPlace, ownLabel, treeIn, cardOf, Relabelled}
 use Rattle.memory.proofs.Memory.{treeCount-le, base-same, free-same, own-same, tree-with, tree-same, label-same, agree-refl, agree-set, tree-at}
 use Rattle.memory.proofs.Marks.{mapped-at, mapped-use, unmapped-free, label-mapped, label-awaiting, carried-in, not-mapped, not-named, own-some, relabelled-again, remarked, remarked-free, own-beside}
@@ -39,7 +39,7 @@ both-set ns os p i l u =
     let back : baseIn ns + p - baseIn ns ≡ p = omega arith in
     rw back refl
 
-pub map-label : (ns fs os qs : List ℕ) (p i n : ℕ) → Numbers ns → Names os → p < 256 → i < treeCount ns → i < 64 → n < 16 → isFreeAt ns p ≡ true
+pub map-label : (ns fs os qs : List ℕ) (p i n : ℕ) → Numbers ns → Names os → p < labelCount → i < treeCount ns → i < treeLimit → n < 16 → isFreeAt ns p ≡ true
     → Relabelled p ns fs → isFreeAt fs p ≡ false → qs ≡ mid (labelNames + p * nameSpace) nameSpace os (take nameSpace (drop (i * nameSpace) os))
     → cardOf (set (set fs (markColumn + p) (n + 256 * i)) (ownColumn + i) p) qs ≡ setLabel i (baseIn ns + p) (setUse (baseIn ns + p) (mapped n (treeAt i (cardOf ns os) .name)) (cardOf ns os))
 map-label ns fs os qs p i n hl ho hp hi h64 hn hf hr ht hq =
@@ -48,7 +48,7 @@ map-label ns fs os qs p i n hl ho hp hi h64 hn hf hr ht hq =
     (λ j x y. keep j (omega arith) (λ e. omega arith))
     (λ j x y. w .rest j (λ u v. omega (arith, part)))
     (unfold cardOf treeCount in rw count (tab-set (treeCount ns) (treeIn ns os) (treeIn ms qs) i _ hi this other))
-    (unfold cardOf in tab-set 256 (labelIn ns os) (labelIn ms qs) p _ hp
+    (unfold cardOf in tab-set labelCount (labelIn ns os) (labelIn ms qs) p _ hp
     (remembered ns os ms qs p i n hn hi taken (omega (arith, now)) copied)
     (λ q ne lt. label-same ns ms os qs q (marks q ∙ r .marks q lt ne) (frees q lt ∙ r .frees q lt ne) (λ j x y. w .rest j (λ u v. ne (omega (arith, part))))))
     ∙ both-set ns os p i (baseIn ns + p) (mapped n (treeAt i (cardOf ns os) .name))
@@ -69,7 +69,7 @@ map-label ns fs os qs p i n hl ho hp hi h64 hn hf hr ht hq =
     marks : (q : ℕ) → markAt ms q ≡ markAt ks q
     marks q = getD-set-other ks (ownColumn + i) (markColumn + q) p 0 (λ e. omega arith)
 
-    frees : (q : ℕ) → q < 256 → isFreeAt ms q ≡ isFreeAt ks q
+    frees : (q : ℕ) → q < labelCount → isFreeAt ms q ≡ isFreeAt ks q
     frees = free-same ks ms os os (agree-set wordColumn wordCount ks (ownColumn + i) p (λ x y. omega arith))
 
     keep : (j : ℕ) → j < markColumn → (j ≡ ownColumn + i → ⊥) → getD ms j 0 ≡ getD ns j 0
@@ -122,7 +122,7 @@ map-label ns fs os qs p i n hl ho hp hi h64 hn hf hr ht hq =
 
     other : (j : ℕ) → (j ≡ i → ⊥) → j < treeCount ns → treeIn ms qs j ≡ treeIn ns os j
     other j ne lt =
-        let j64 : j < 64 = omega (arith, treeCount-le ns) in
+        let j64 : j < treeLimit = omega (arith, treeCount-le ns) in
         let o : ownPlace ms j ≡ ownPlace ns j = keep (ownColumn + j) (omega arith) (λ e. ne (omega arith)) in
         tree-same ns ms os qs j
         (rw o (own-same ks ms os os j (ownPlace ns j) (agree-set 0 1 ks (ownColumn + i) p (λ x y. omega arith)) (λ h. marks (ownPlace ns j)) (λ h. frees (ownPlace ns j) h) ∙ others j (ownPlace ns j) ne))
@@ -138,7 +138,7 @@ not-own ns os p j lt ne e =
     (λ t. absurd (ne (label-at ns os j lt ∙ rw e (own-some ns j p t))))
     (λ t. t)
 
-module _ (ns ks os qs a : List ℕ) (p n v : ℕ) (m : Bool) (hp : p < 256) (hn : n < 16) (ha : length a ≤ nameLimit) (w : Written (labelNames + p * nameSpace) (length a ∷ a) os qs)
+module _ (ns ks os qs a : List ℕ) (p n v : ℕ) (m : Bool) (hp : p < labelCount) (hn : n < 16) (ha : length a ≤ nameLimit) (w : Written (labelNames + p * nameSpace) (length a ∷ a) os qs)
     (taken : Relabelled p ns ks) (not-free : isFreeAt ks p ≡ false) where
   used : (ms : List ℕ) → isFreeAt ms p ≡ false → markUse (markAt ms p) ≡ pick m n (n + 16) → labelIn ms qs p ≡ pick m (mapped n a) (awaiting n a)
   unfolding labelName
@@ -153,49 +153,49 @@ module _ (ns ks os qs a : List ℕ) (p n v : ℕ) (m : Bool) (hp : p < 256) (hn 
       rw (t, label-awaiting ms p qs f (omega arith), back, text-put nameLimit (labelNames + p * nameSpace) a os qs ha w) refl)
 
   pub put-use : Numbers ns → ((j : ℕ) → j < treeCount ns → treeAt j (cardOf ns os) .label ≡ baseIn ns + p → ⊥) → v ≡ pick m n (n + 16)
-      → cardOf (set ks (markColumn + p) (v + 16384)) qs ≡ withLabels (set (cardOf ns os .labels) p (pick m (mapped n a) (awaiting n a))) (cardOf ns os)
+      → cardOf (set ks (markColumn + p) (v + nowhere)) qs ≡ withLabels (set (cardOf ns os .labels) p (pick m (mapped n a) (awaiting n a))) (cardOf ns os)
   put-use hl hc hv =
       but-rows ns ms os qs (cardOf ns os .trees) (set (cardOf ns os .labels) p (pick m (mapped n a) (awaiting n a)))
       (λ j x y. both-ways .rest j (omega arith))
       (λ j x y. both-ways .rest j (omega arith))
       (λ j x y. w .rest j (λ u z. omega arith))
       (unfold cardOf treeCount in rw count (tab-ext (treeCount ns) (treeIn ms qs) (treeIn ns os) (λ j lt. tree j lt)))
-      (unfold cardOf in tab-set 256 (labelIn ns os) (labelIn ms qs) p _ hp
+      (unfold cardOf in tab-set labelCount (labelIn ns os) (labelIn ms qs) p _ hp
       (used ms still (let e = now in let k = small in omega arith ∙ hv))
       (λ q ne lt. label-same ns ms os qs q (both-ways .marks q lt ne) (both-ways .frees q lt ne) (λ j x y. w .rest j (λ u z. ne (omega arith)))))
       ∙ unfold cardOf withTrees withLabels in refl
     where
       ms : List ℕ
-      ms = set ks (markColumn + p) (v + 16384)
+      ms = set ks (markColumn + p) (v + nowhere)
 
       both-ways : Relabelled p ns ms
-      both-ways = relabelled-again p ns ks ms taken (remarked ks p (v + 16384) hp)
+      both-ways = relabelled-again p ns ks ms taken (remarked ks p (v + nowhere) hp)
 
       still : isFreeAt ms p ≡ false
-      still = remarked-free ks p (v + 16384) hp ∙ not-free
+      still = remarked-free ks p (v + nowhere) hp ∙ not-free
 
       small : v < 256
       small = rw hv (picked (λ (k : ℕ). k < 256) m (λ _. omega arith) (λ _. omega arith))
 
-      now : markAt ms p ≡ v + 16384
-      now = getD-set-same ks (markColumn + p) (v + 16384) 0 (omega (arith, taken .long))
+      now : markAt ms p ≡ v + nowhere
+      now = getD-set-same ks (markColumn + p) (v + nowhere) 0 (omega (arith, taken .long))
 
       count : getD ms 3 0 ≡ getD ns 3 0
       count = both-ways .rest 3 (omega arith)
 
-      nowhere : markPlace (markAt ms p) ≡ 64
-      nowhere = let e = now in let k = small in omega arith
+      nowhere-at : markPlace (markAt ms p) ≡ treeLimit
+      nowhere-at = let e = now in let k = small in omega arith
 
       tree : (j : ℕ) → j < treeCount ns → treeIn ms qs j ≡ treeIn ns os j
       tree j lt =
-          let j64 : j < 64 = omega (arith, treeCount-le ns) in
+          let j64 : j < treeLimit = omega (arith, treeCount-le ns) in
           let o : ownPlace ms j ≡ ownPlace ns j = both-ways .rest (ownColumn + j) (omega arith) in
           tree-same ns ms os qs j
-          (rw o (own-beside ns ms p j (ownPlace ns j) both-ways (λ e. (rw e (not-own ns os p j lt (hc j lt) e), rw e (not-named ms j p (λ z. omega (arith, nowhere)))))))
+          (rw o (own-beside ns ms p j (ownPlace ns j) both-ways (λ e. (rw e (not-own ns os p j lt (hc j lt) e), rw e (not-named ms j p (λ z. omega (arith, nowhere-at)))))))
           (λ k x y. both-ways .rest k (omega arith))
           (λ k x y. w .rest k (λ u z. omega arith))
 
-pub attach : (ns os : List ℕ) (p i : ℕ) → Numbers ns → p < 256 → i < treeCount ns → i < 64 → isMappedAt ns p ≡ true → ((j : ℕ) → j < treeCount ns → treeAt j (cardOf ns os) .label ≡ baseIn ns + p → ⊥)
+pub attach : (ns os : List ℕ) (p i : ℕ) → Numbers ns → p < labelCount → i < treeCount ns → i < treeLimit → isMappedAt ns p ≡ true → ((j : ℕ) → j < treeCount ns → treeAt j (cardOf ns os) .label ≡ baseIn ns + p → ⊥)
     → cardOf (set (set ns (markColumn + p) (markUse (markAt ns p) + 256 * i)) (ownColumn + i) p) os ≡ setLabel i (baseIn ns + p) (cardOf ns os)
 unfolding setLabel
 attach ns os p i hl hp hi h64 hm hc =
@@ -233,10 +233,10 @@ attach ns os p i hl hp hi h64 hm hc =
     own : ownPlace ms i ≡ p
     own = getD-set-same ks (ownColumn + i) p 0 (rw length-set (omega arith))
 
-    frees : (q : ℕ) → q < 256 → isFreeAt ms q ≡ isFreeAt ns q
+    frees : (q : ℕ) → q < labelCount → isFreeAt ms q ≡ isFreeAt ns q
     frees q lt = free-same ns ms os os (λ j x y. keep j (λ e. omega arith) (λ e. omega arith)) q lt
 
-    uses : (q : ℕ) → q < 256 → labelIn ms os q ≡ labelIn ns os q
+    uses : (q : ℕ) → q < labelCount → labelIn ms os q ≡ labelIn ns os q
     uses q lt =
         by-test (eqb q p)
         (λ t. let e : q ≡ p = eqb-true q p t in rw e (use-kept ns ms os p (ap markUse now ∙ then-use) (frees p hp)))
@@ -258,7 +258,7 @@ attach ns os p i hl hp hi h64 hm hc =
 
     other : (j : ℕ) → (j ≡ i → ⊥) → j < treeCount ns → treeIn ms os j ≡ treeIn ns os j
     other j ne lt =
-        let j64 : j < 64 = omega (arith, treeCount-le ns) in
+        let j64 : j < treeLimit = omega (arith, treeCount-le ns) in
         let o : ownPlace ms j ≡ ownPlace ns j = keep (ownColumn + j) (λ e. omega arith) (λ e. ne (omega arith)) in
         tree-same ns ms os os j
         (rw o (own-same ks ms os os j (ownPlace ns j) (agree-set 0 1 ks (ownColumn + i) p (λ x y. omega arith)) (λ h. getD-set-other ks (ownColumn + i) (markColumn + ownPlace ns j) p 0 (λ e. omega arith))

@@ -6,18 +6,19 @@ ghost use Prim.Native.Nat.{ℕ, _+_, _-_, _≤_, _<_};
 ghost use lib.ListN.{length, set};
 ghost use Rattle.meaning.specs.Octets.{pick};
 ghost use Rattle.meaning.specs.Wire.{nameLimit};
-ghost use Rattle.meaning.specs.Card.{withLabels, treeAt, mapped, awaiting};
+ghost use Rattle.meaning.specs.Card.{withLabels, treeAt, mapped, awaiting, labelCount, treeLimit};
 ghost use Rattle.meaning.specs.Events.{setUse, setLabel};
 ghost use Rattle.memory.specs.Sizes.{Numbers, Names};
 ghost use Rattle.memory.specs.Memory.{cardOf, baseIn, treeCount, isFreeAt, isMappedAt};
 use memory::LABEL_NAMES;
 use memory::MARK_COLUMN;
 use memory::NAME_SPACE;
+use memory::NOWHERE;
 use memory::OWN_COLUMN;
 
 // The label at place p of the block, which is free, is mapped to neighbour n for the tree at place i, which carries it from now on.
 pub fn map_label(numbers: &mut [u64], names: &mut [u8], p: usize, i: usize, n: u64)
-    requires { ⌜ Numbers (now numbers) × Names (now names) × (p < 256) × (i < treeCount (now numbers)) × (i < 64) × (n < 16) × (isFreeAt (now numbers) p ≡ true) ⌝ }
+    requires { ⌜ Numbers (now numbers) × Names (now names) × (p < labelCount) × (i < treeCount (now numbers)) × (i < treeLimit) × (n < 16) × (isFreeAt (now numbers) p ≡ true) ⌝ }
     ensures { λ _. ⌜ cardOf (now (numbers .exit)) (now (names .exit))
         ≡ setLabel i (baseIn (now (numbers .entry)) + p) (setUse (baseIn (now (numbers .entry)) + p) (mapped n (treeAt i (cardOf (now (numbers .entry)) (now (names .entry))) .name)) (cardOf (now (numbers .entry)) (now (names .entry)))) ⌝ }
 {
@@ -43,19 +44,19 @@ fn use_of(held: bool, n: u64) -> u64
 // The label at that place of the block, which no tree carries, is from now on mapped to neighbour n for that name, or awaits release
 // from n. Its mark names place 64, where no tree stands.
 pub fn put_use(numbers: &mut [u64], names: &mut [u8], place: usize, held: bool, n: u64, name: &[u8])
-    requires { ⌜ Numbers (now numbers) × Names (now names) × (place < 256) × (n < 16) × (length (now name) ≤ nameLimit)
+    requires { ⌜ Numbers (now numbers) × Names (now names) × (place < labelCount) × (n < 16) × (length (now name) ≤ nameLimit)
         × ((j : ℕ) → j < treeCount (now numbers) → treeAt j (cardOf (now numbers) (now names)) .label ≡ baseIn (now numbers) + place → ⊥) ⌝ }
     ensures { λ _. ⌜ cardOf (now (numbers .exit)) (now (names .exit))
         ≡ withLabels (set (cardOf (now (numbers .entry)) (now (names .entry)) .labels) place (pick held (mapped n (now (name .entry))) (awaiting n (now (name .entry))))) (cardOf (now (numbers .entry)) (now (names .entry))) ⌝ }
 {
     memory_rows::put_text(names, LABEL_NAMES + place * NAME_SPACE, name);
     memory_labels::set_taken(numbers, place);
-    numbers[MARK_COLUMN + place] = use_of(held, n) + 16384;
+    numbers[MARK_COLUMN + place] = use_of(held, n) + NOWHERE;
 }
 
 // The tree at place i carries from now on the label at place p of the block, which is mapped and which no tree carries.
 pub fn attach(numbers: &mut [u64], i: usize, p: usize)
-    requires { ⌜ Numbers (now numbers) × (p < 256) × (i < treeCount (now numbers)) × (i < 64) × (isMappedAt (now numbers) p ≡ true)
+    requires { ⌜ Numbers (now numbers) × (p < labelCount) × (i < treeCount (now numbers)) × (i < treeLimit) × (isMappedAt (now numbers) p ≡ true)
         × ((os : List ℕ) (j : ℕ) → j < treeCount (now numbers) → treeAt j (cardOf (now numbers) os) .label ≡ baseIn (now numbers) + p → ⊥) ⌝ }
     ensures { λ _. ⌜ ((os : List ℕ) → cardOf (now (numbers .exit)) os ≡ setLabel i (baseIn (now (numbers .entry)) + p) (cardOf (now (numbers .entry)) os)) ⌝ }
 {

@@ -9,7 +9,8 @@ use lib.Seq.{getD-set-same, getD-set-other}
 use lib.Dec.{eqb}
 use borrow.Author.Tests.{eqb-true, eqb-false}
 use Rattle.meaning.specs.Lists.{by-test}
-use Rattle.memory.specs.Sizes.{nameSpace, ownColumn, markColumn, wordColumn, wordCount, labelNames, Numbers}
+use Rattle.meaning.specs.Card.{labelCount, treeLimit}
+use Rattle.memory.specs.Sizes.{nameSpace, ownColumn, markColumn, wordColumn, wordCount, labelNames, Numbers, noLabel}
 use Rattle.memory.specs.Memory.{markAt, markUse, markPlace, isFreeAt, isMappedAt, labelIn, ownPlace, carriesAt, Relabelled}
 use Rattle.memory.proofs.Memory.{base-same, free-same, own-same, label-same, agree-refl, agree-set}
 use Rattle.memory.proofs.Marks.{mapped-at, mapped-use, carried-in, carried-out, not-far, not-named, own-some, own-none, remarked, remarked-free, own-beside}
@@ -20,10 +21,10 @@ pub use-kept : (ns ms os : List ℕ) (p : ℕ) → markUse (markAt ms p) ≡ mar
 unfolding labelIn
 use-kept ns ms os p e f = rw (e, f) refl
 
-module _ (ns : List ℕ) (j : ℕ) (l : Numbers ns) (h : j + 1 < 64) where
+module _ (ns : List ℕ) (j : ℕ) (l : Numbers ns) (h : j + 1 < treeLimit) where
   -- the tree carries its label
   module _ (c : carriesAt ns (j + 1) (ownPlace ns (j + 1)) ≡ true) where
-    pub own-inside : ownPlace ns (j + 1) < 256
+    pub own-inside : ownPlace ns (j + 1) < labelCount
     own-inside = carried-out ns (j + 1) (ownPlace ns (j + 1)) c .0
 
     pub own-named : 256 ≤ markAt ns (ownPlace ns (j + 1))
@@ -71,38 +72,38 @@ module _ (ns : List ℕ) (j : ℕ) (l : Numbers ns) (h : j + 1 < 64) where
             let e = now-use in
             mapped-at ms p (free ∙ u .0) (omega (arith, u .1))
 
-        own-at : (q : ℕ) → q < 64 → ownPlace ms q ≡ ownPlace ns q
+        own-at : (q : ℕ) → q < treeLimit → ownPlace ms q ≡ ownPlace ns q
         own-at q q64 = getD-set-other ns (markColumn + p) (ownColumn + q) v 0 (λ e. omega arith)
 
-        uses : (os : List ℕ) (q : ℕ) → q < 256 → labelIn ms os q ≡ labelIn ns os q
+        uses : (os : List ℕ) (q : ℕ) → q < labelCount → labelIn ms os q ≡ labelIn ns os q
         uses os q lt =
             by-test (eqb q p)
             (λ t. let e : q ≡ p = eqb-true q p t in rw e (use-kept ns ms os p now-use free))
             (λ t. label-same ns ms os os q (r .marks q lt (eqb-false q p t)) (r .frees q lt (eqb-false q p t)) (agree-refl (labelNames + q * nameSpace) nameSpace os))
 
   -- it does not: it has none for its own
-  pub lower-cleared : carriesAt ns (j + 1) (ownPlace ns (j + 1)) ≡ false → LoweredOne j ns (set ns (ownColumn + (j + 1)) 256)
+  pub lower-cleared : carriesAt ns (j + 1) (ownPlace ns (j + 1)) ≡ false → LoweredOne j ns (set ns (ownColumn + (j + 1)) noLabel)
   lower-cleared c = record {
-    long = length-set ns (ownColumn + (j + 1)) 256;
-    rest = λ k x y. getD-set-other ns (ownColumn + (j + 1)) k 256 0 (λ e. x (omega arith) (omega arith));
+    long = length-set ns (ownColumn + (j + 1)) noLabel;
+    rest = λ k x y. getD-set-other ns (ownColumn + (j + 1)) k noLabel 0 (λ e. x (omega arith) (omega arith));
     uses = λ os q lt. label-same ns ms os os q (mark q) (free q lt) (agree-refl (labelNames + q * nameSpace) nameSpace os);
     moved = own-none ms j (ownPlace ms (j + 1)) (not-far ms j (ownPlace ms (j + 1)) (omega (arith, now))) ∙ sym (own-none ns (j + 1) (ownPlace ns (j + 1)) c);
     others = λ q a q64 ne n0 n1.
-        rw (getD-set-other ns (ownColumn + (j + 1)) (ownColumn + q) 256 0 (λ e. ne (omega arith)))
-        (own-same ns ms ns ns a (ownPlace ns q) (agree-set 0 1 ns (ownColumn + (j + 1)) 256 (λ x y. omega arith)) (λ lt. mark (ownPlace ns q)) (λ lt. free (ownPlace ns q) lt));
+        rw (getD-set-other ns (ownColumn + (j + 1)) (ownColumn + q) noLabel 0 (λ e. ne (omega arith)))
+        (own-same ns ms ns ns a (ownPlace ns q) (agree-set 0 1 ns (ownColumn + (j + 1)) noLabel (λ x y. omega arith)) (λ lt. mark (ownPlace ns q)) (λ lt. free (ownPlace ns q) lt));
   }
     where
       ms : List ℕ
-      ms = set ns (ownColumn + (j + 1)) 256
+      ms = set ns (ownColumn + (j + 1)) noLabel
 
       mark : (q : ℕ) → markAt ms q ≡ markAt ns q
-      mark q = getD-set-other ns (ownColumn + (j + 1)) (markColumn + q) 256 0 (λ e. omega arith)
+      mark q = getD-set-other ns (ownColumn + (j + 1)) (markColumn + q) noLabel 0 (λ e. omega arith)
 
-      free : (q : ℕ) → q < 256 → isFreeAt ms q ≡ isFreeAt ns q
-      free = free-same ns ms ns ns (agree-set wordColumn wordCount ns (ownColumn + (j + 1)) 256 (λ a b. omega arith))
+      free : (q : ℕ) → q < labelCount → isFreeAt ms q ≡ isFreeAt ns q
+      free = free-same ns ms ns ns (agree-set wordColumn wordCount ns (ownColumn + (j + 1)) noLabel (λ a b. omega arith))
 
-      now : ownPlace ms (j + 1) ≡ 256
-      now = getD-set-same ns (ownColumn + (j + 1)) 256 0 (omega arith)
+      now : ownPlace ms (j + 1) ≡ noLabel
+      now = getD-set-same ns (ownColumn + (j + 1)) noLabel 0 (omega arith)
 
 -- ---- all behind a place, one after the other
 
@@ -116,7 +117,7 @@ lowered-none i ns = record {
   behind = λ q h k. refl;
 }
 
-pub lowered-more : (i j : ℕ) (ns ms ks : List ℕ) → i ≤ j → j + 1 < 64 → Lowered i j ns ms → LoweredOne j ms ks → Lowered i (j + 1) ns ks
+pub lowered-more : (i j : ℕ) (ns ms ks : List ℕ) → i ≤ j → j + 1 < treeLimit → Lowered i j ns ms → LoweredOne j ms ks → Lowered i (j + 1) ns ks
 lowered-more i j ns ms ks h k w o = record {
   long = o .long ∙ w .long;
   rest = λ k x y. o .rest k x y ∙ w .rest k x y;

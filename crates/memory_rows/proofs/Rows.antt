@@ -16,7 +16,7 @@ use Rattle.meaning.specs.Events.{baseOutside}
 use Rattle.octets.specs.Part.{tab}
 use Rattle.octets.proofs.Tab.{tab-length, tab-get, tab-ext, tab-set, tab-snoc, tab-cut, put-in, put-end}
 use Rattle.octets.proofs.Bits.{all-set}
-use Rattle.memory.specs.Sizes.{rootSpace, nameSpace, routeColumn, ownColumn, rowWidth, rowColumn, branchColumn, rowNumbers, markColumn, wordColumn, wordCount, labelNumbers, rootOctets, rootNames, Numbers}
+use Rattle.memory.specs.Sizes.{rootSpace, nameSpace, routeColumn, ownColumn, rowWidth, rowColumn, branchColumn, rowNumbers, markColumn, wordColumn, wordCount, labelNumbers, rootOctets, rootNames, Numbers, noLabel}
 use Rattle.memory.specs.Memory.{upTo, textAt, treeName, rootName, baseIn, nextIn, routeCount, treeCount, routeIn, wordAt, isFreeAt, labelIn, ownPlace, ownLabel, treeIn, cardOf}
 use Rattle.memory.proofs.Memory.{upTo-le, upTo-in, Agree, base-same, next-same, route-same, routes-same, free-same, own-same, own-kept, tree-same, trees-same, label-same, labels-same, agree-refl, agree-set}
 use Rattle.memory.proofs.Marks.{label-free, not-far, own-none}
@@ -36,7 +36,7 @@ module _ (ns ns' os os' : List ℕ) where
       cc
 
   -- of all but the trees
-  pub but-trees : (ts : List Tree) → Agree 0 3 ns ns' → Agree routeColumn routeLimit ns ns' → Agree rootNames rootOctets os os' → ((p : ℕ) → p < 256 → labelIn ns' os' p ≡ labelIn ns os p) → tab (treeCount ns') (treeIn ns' os') ≡ ts → cardOf ns' os' ≡ withTrees ts (cardOf ns os)
+  pub but-trees : (ts : List Tree) → Agree 0 3 ns ns' → Agree routeColumn routeLimit ns ns' → Agree rootNames rootOctets os os' → ((p : ℕ) → p < labelCount → labelIn ns' os' p ≡ labelIn ns os p) → tab (treeCount ns') (treeIn ns' os') ≡ ts → cardOf ns' os' ≡ withTrees ts (cardOf ns os)
   but-trees ts head vias roots labels trees =
       but-rows ts (tab labelCount (labelIn ns os)) head vias roots trees (tab-ext labelCount (labelIn ns' os') (labelIn ns os) labels) ∙ unfold cardOf withTrees withLabels in refl
 
@@ -100,7 +100,7 @@ words ns v a b c d (suc (suc (suc zero))) h = d
 words ns v a b c d (suc (suc (suc (suc w)))) h = absurd (omega arith)
 
 -- all set: every label is free
-all-free : (ns : List ℕ) → ((w : ℕ) → w < wordCount → wordAt ns w ≡ 18446744073709551615) → (p : ℕ) → p < 256 → isFreeAt ns p ≡ true
+all-free : (ns : List ℕ) → ((w : ℕ) → w < wordCount → wordAt ns w ≡ 18446744073709551615) → (p : ℕ) → p < labelCount → isFreeAt ns p ≡ true
 unfolding isFreeAt
 all-free ns h p lt = rw (h (p / 64) (omega arith)) (all-set (p % 64) (omega arith))
 
@@ -176,11 +176,11 @@ remove-route ns vs os qs i n hl hn hi cv cr =
     ms : List ℕ
     ms = set vs 2 (n - 1)
 
-    limit : n ≤ 32
-    limit = omega (arith, upTo-le 32 (getD ns 2 0))
+    limit : n ≤ routeLimit
+    limit = omega (arith, upTo-le routeLimit (getD ns 2 0))
 
-    count : upTo 32 (getD ms 2 0) ≡ n - 1
-    count = ap (upTo 32) (getD-set-same vs 2 (n - 1) 0 (omega (arith, cv .long))) ∙ upTo-in 32 (n - 1) (omega (arith, limit))
+    count : upTo routeLimit (getD ms 2 0) ≡ n - 1
+    count = ap (upTo routeLimit) (getD-set-same vs 2 (n - 1) 0 (omega (arith, cv .long))) ∙ upTo-in routeLimit (n - 1) (omega (arith, limit))
 
     keep : (j : ℕ) → (j ≡ 2 → ⊥) → (routeColumn + i ≤ j → j < routeColumn + n → ⊥) → getD ms j 0 ≡ getD ns j 0
     keep j ne out = getD-set-other vs 2 j (n - 1) 0 ne ∙ cv .rest j out
@@ -200,11 +200,11 @@ remove-tree ns ks ls rs os qs i n hl hn hi lo cl cr cn =
     ms : List ℕ
     ms = set rs 3 (n - 1)
 
-    limit : n ≤ 64
-    limit = omega (arith, upTo-le 64 (getD ns 3 0))
+    limit : n ≤ treeLimit
+    limit = omega (arith, upTo-le treeLimit (getD ns 3 0))
 
-    count : upTo 64 (getD ms 3 0) ≡ n - 1
-    count = ap (upTo 64) (getD-set-same rs 3 (n - 1) 0 (omega (arith, lo .long, cl .long, cr .long))) ∙ upTo-in 64 (n - 1) (omega (arith, limit))
+    count : upTo treeLimit (getD ms 3 0) ≡ n - 1
+    count = ap (upTo treeLimit) (getD-set-same rs 3 (n - 1) 0 (omega (arith, lo .long, cl .long, cr .long))) ∙ upTo-in treeLimit (n - 1) (omega (arith, limit))
 
     -- outside the gaps and the count: what was made ready
     ready : (j : ℕ) → (j ≡ 3 → ⊥) → (ownColumn + i ≤ j → j < ownColumn + n → ⊥) → (rowColumn + i * rowWidth ≤ j → j < rowColumn + n * rowWidth → ⊥) → getD ms j 0 ≡ getD ks j 0
@@ -213,7 +213,7 @@ remove-tree ns ks ls rs os qs i n hl hn hi lo cl cr cn =
     behind : (j : ℕ) → markColumn ≤ j → getD ms j 0 ≡ getD ks j 0
     behind j h = ready j (λ e. omega arith) (λ u v. omega (arith, limit)) (λ u v. omega (arith, limit))
 
-    frees : (p : ℕ) → p < 256 → isFreeAt ms p ≡ isFreeAt ks p
+    frees : (p : ℕ) → p < labelCount → isFreeAt ms p ≡ isFreeAt ks p
     frees = free-same ks ms os os (λ j x y. behind j (omega arith))
 
     keep : (j : ℕ) → (j ≡ 3 → ⊥) → (ownColumn ≤ j → j < rowColumn → ⊥) → (markColumn ≤ j → j < wordColumn → ⊥) → (rowColumn + i * rowWidth ≤ j → j < rowColumn + n * rowWidth → ⊥) → getD ms j 0 ≡ getD ns j 0
@@ -246,7 +246,7 @@ remove-tree ns ks ls rs os qs i n hl hn hi lo cl cr cn =
 
 -- ---- a row comes
 
-new-tree : (ns os qs o : List ℕ) (n : ℕ) → length o ≤ nameLimit → getD ns (ownColumn + n) 0 ≡ 256 → ((j : ℕ) → j < rowWidth → getD ns (rowColumn + n * rowWidth + j) 0 ≡ 0) → Written (n * nameSpace) (length o ∷ o) os qs → treeIn ns qs n ≡ bare o
+new-tree : (ns os qs o : List ℕ) (n : ℕ) → length o ≤ nameLimit → getD ns (ownColumn + n) 0 ≡ noLabel → ((j : ℕ) → j < rowWidth → getD ns (rowColumn + n * rowWidth + j) 0 ≡ 0) → Written (n * nameSpace) (length o ∷ o) os qs → treeIn ns qs n ≡ bare o
 unfolding treeIn treeName bare
 new-tree ns os qs o n h l r w =
     let label : ownLabel ns n (getD ns (ownColumn + n) 0) ≡ 0 = own-none ns n (getD ns (ownColumn + n) 0) (not-far ns n (getD ns (ownColumn + n) 0) (omega arith)) in
@@ -256,9 +256,9 @@ new-tree ns os qs o n h l r w =
     let leaf : getD ns (rowColumn + n * rowWidth) 0 ≡ 0 = simp add-zero at (r 0 (omega arith)) in
     cc
 
-pub enter-tree : (ns zs os qs o : List ℕ) (n : ℕ) → Numbers ns → n ≡ treeCount ns → n < 64 → length o ≤ nameLimit
+pub enter-tree : (ns zs os qs o : List ℕ) (n : ℕ) → Numbers ns → n ≡ treeCount ns → n < treeLimit → length o ≤ nameLimit
     → Written (rowColumn + n * rowWidth) (replicate rowWidth 0) ns zs → Written (n * nameSpace) (length o ∷ o) os qs
-    → cardOf (set (set zs (ownColumn + n) 256) 3 (n + 1)) qs ≡ withTrees (cardOf ns os .trees ++ (bare o ∷ [])) (cardOf ns os)
+    → cardOf (set (set zs (ownColumn + n) noLabel) 3 (n + 1)) qs ≡ withTrees (cardOf ns os .trees ++ (bare o ∷ [])) (cardOf ns os)
 unfolding treeCount cardOf
 enter-tree ns zs os qs o n hl hn h64 ho wr wn =
     but-trees ns ms os qs _
@@ -272,13 +272,13 @@ enter-tree ns zs os qs o n hl hn h64 ho wr wn =
     (rw (count, ← hn) (tab-snoc n (treeIn ns os) (treeIn ms qs) (bare o) low new))
   where
     ms : List ℕ
-    ms = set (set zs (ownColumn + n) 256) 3 (n + 1)
+    ms = set (set zs (ownColumn + n) noLabel) 3 (n + 1)
 
-    count : upTo 64 (getD ms 3 0) ≡ n + 1
-    count = ap (upTo 64) (getD-set-same (set zs (ownColumn + n) 256) 3 (n + 1) 0 (rw length-set (omega (arith, wr .long)))) ∙ upTo-in 64 (n + 1) (omega arith)
+    count : upTo treeLimit (getD ms 3 0) ≡ n + 1
+    count = ap (upTo treeLimit) (getD-set-same (set zs (ownColumn + n) noLabel) 3 (n + 1) 0 (rw length-set (omega (arith, wr .long)))) ∙ upTo-in treeLimit (n + 1) (omega arith)
 
     keep : (j : ℕ) → (j ≡ 3 → ⊥) → (j ≡ ownColumn + n → ⊥) → (rowColumn + n * rowWidth ≤ j → j < rowColumn + n * rowWidth + rowWidth → ⊥) → getD ms j 0 ≡ getD ns j 0
-    keep j ne me out = getD-set-other (set zs (ownColumn + n) 256) 3 j (n + 1) 0 ne ∙ getD-set-other zs (ownColumn + n) j 256 0 me ∙ wr .rest j out
+    keep j ne me out = getD-set-other (set zs (ownColumn + n) noLabel) 3 j (n + 1) 0 ne ∙ getD-set-other zs (ownColumn + n) j noLabel 0 me ∙ wr .rest j out
 
     low : (j : ℕ) → j < n → treeIn ms qs j ≡ treeIn ns os j
     low j lt =
@@ -293,8 +293,8 @@ enter-tree ns zs os qs o n hl hn h64 ho wr wn =
     new : treeIn ms qs n ≡ bare o
     new =
         new-tree ms os qs o n ho
-        (getD-set-other (set zs (ownColumn + n) 256) 3 (ownColumn + n) (n + 1) 0 (λ e. omega arith) ∙ getD-set-same zs (ownColumn + n) 256 0 (omega (arith, wr .long)))
-        (λ j lt. getD-set-other (set zs (ownColumn + n) 256) 3 (rowColumn + n * rowWidth + j) (n + 1) 0 (λ e. omega arith) ∙ getD-set-other zs (ownColumn + n) (rowColumn + n * rowWidth + j) 256 0 (λ e. omega arith) ∙ wr .here j lt ∙ zeros 17 j)
+        (getD-set-other (set zs (ownColumn + n) noLabel) 3 (ownColumn + n) (n + 1) 0 (λ e. omega arith) ∙ getD-set-same zs (ownColumn + n) noLabel 0 (omega (arith, wr .long)))
+        (λ j lt. getD-set-other (set zs (ownColumn + n) noLabel) 3 (rowColumn + n * rowWidth + j) (n + 1) 0 (λ e. omega arith) ∙ getD-set-other zs (ownColumn + n) (rowColumn + n * rowWidth + j) noLabel 0 (λ e. omega arith) ∙ wr .here j lt ∙ zeros 17 j)
         wn
 
 -- ---- a root's route
@@ -336,14 +336,14 @@ set-route ns os o i via hl e h =
     ms : List ℕ
     ms = set ns (routeColumn + i) via
 
-    limit : i < 32
-    limit = omega (arith, upTo-le 32 (getD ns 2 0))
+    limit : i < routeLimit
+    limit = omega (arith, upTo-le routeLimit (getD ns 2 0))
 
     count : getD ms 2 0 ≡ getD ns 2 0
     count = getD-set-other ns (routeColumn + i) 2 via 0 (λ e. omega arith)
 
 -- one behind the others
-pub append-route : (ns os qs o : List ℕ) (n via : ℕ) → Numbers ns → n ≡ routeCount ns → n < 32 → length o ≤ rootLimit
+pub append-route : (ns os qs o : List ℕ) (n via : ℕ) → Numbers ns → n ≡ routeCount ns → n < routeLimit → length o ≤ rootLimit
     → Written (rootNames + n * rootSpace) (length o ∷ o) os qs
     → cardOf (set (set ns (routeColumn + n) via) 2 (n + 1)) qs ≡ withRoutes (cardOf ns os .routes ++ (record { root = o; via = via } ∷ [])) (cardOf ns os)
 unfolding routeCount cardOf rootName
@@ -362,8 +362,8 @@ append-route ns os qs o n via hl hn h32 ho w =
     ms : List ℕ
     ms = set (set ns (routeColumn + n) via) 2 (n + 1)
 
-    count : upTo 32 (getD ms 2 0) ≡ n + 1
-    count = ap (upTo 32) (getD-set-same (set ns (routeColumn + n) via) 2 (n + 1) 0 (rw length-set (omega arith))) ∙ upTo-in 32 (n + 1) (omega arith)
+    count : upTo routeLimit (getD ms 2 0) ≡ n + 1
+    count = ap (upTo routeLimit) (getD-set-same (set ns (routeColumn + n) via) 2 (n + 1) 0 (rw length-set (omega arith))) ∙ upTo-in routeLimit (n + 1) (omega arith)
 
     keep : (j : ℕ) → (j ≡ 2 → ⊥) → (j ≡ routeColumn + n → ⊥) → getD ms j 0 ≡ getD ns j 0
     keep j ne me = getD-set-other (set ns (routeColumn + n) via) 2 j (n + 1) 0 ne ∙ getD-set-other ns (routeColumn + n) j via 0 me

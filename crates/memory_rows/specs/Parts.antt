@@ -3,6 +3,7 @@ use Prim.Native.Nat.{ℕ, _+_, _≤_, _<_}
 use mathlib.Core.Path.{_≡_}
 use mathlib.Core.List.{List}
 use lib.ListN.{length, getD}
+use Rattle.meaning.specs.Card.{labelCount, treeLimit}
 use Rattle.memory.specs.Sizes.{ownColumn, rowColumn, markColumn, wordColumn}
 use Rattle.memory.specs.Memory.{labelIn, ownPlace, ownLabel}
 
@@ -23,15 +24,15 @@ pub record Closed (a e w : ℕ) (xs ys : List ℕ) : Type 0 where
 pub record Lowered (i j : ℕ) (ns ms : List ℕ) : Type 0 where
   pub long : length ms ≡ length ns
   pub rest : (k : ℕ) → (ownColumn ≤ k → k < rowColumn → ⊥) → (markColumn ≤ k → k < wordColumn → ⊥) → getD ms k 0 ≡ getD ns k 0
-  pub uses : (os : List ℕ) (p : ℕ) → p < 256 → labelIn ms os p ≡ labelIn ns os p
-  pub before : (q : ℕ) → q < i → q < 64 → ownLabel ms q (ownPlace ms q) ≡ ownLabel ns q (ownPlace ns q)
+  pub uses : (os : List ℕ) (p : ℕ) → p < labelCount → labelIn ms os p ≡ labelIn ns os p
+  pub before : (q : ℕ) → q < i → q < treeLimit → ownLabel ms q (ownPlace ms q) ≡ ownLabel ns q (ownPlace ns q)
   pub moved : (q : ℕ) → i ≤ q → q < j → ownLabel ms q (ownPlace ms (q + 1)) ≡ ownLabel ns (q + 1) (ownPlace ns (q + 1))
-  pub behind : (q : ℕ) → j < q → q < 64 → ownLabel ms q (ownPlace ms q) ≡ ownLabel ns q (ownPlace ns q)
+  pub behind : (q : ℕ) → j < q → q < treeLimit → ownLabel ms q (ownPlace ms q) ≡ ownLabel ns q (ownPlace ns q)
 
 -- one of them, from place j + 1 to place j: a tree at another place q carries what it did, read as at any place a but these two
 pub record LoweredOne (j : ℕ) (ns ms : List ℕ) : Type 0 where
   pub long : length ms ≡ length ns
   pub rest : (k : ℕ) → (ownColumn ≤ k → k < rowColumn → ⊥) → (markColumn ≤ k → k < wordColumn → ⊥) → getD ms k 0 ≡ getD ns k 0
-  pub uses : (os : List ℕ) (p : ℕ) → p < 256 → labelIn ms os p ≡ labelIn ns os p
+  pub uses : (os : List ℕ) (p : ℕ) → p < labelCount → labelIn ms os p ≡ labelIn ns os p
   pub moved : ownLabel ms j (ownPlace ms (j + 1)) ≡ ownLabel ns (j + 1) (ownPlace ns (j + 1))
-  pub others : (q a : ℕ) → q < 64 → (q ≡ j + 1 → ⊥) → (a ≡ j → ⊥) → (a ≡ j + 1 → ⊥) → ownLabel ms a (ownPlace ms q) ≡ ownLabel ns a (ownPlace ns q)
+  pub others : (q a : ℕ) → q < treeLimit → (q ≡ j + 1 → ⊥) → (a ≡ j → ⊥) → (a ≡ j + 1 → ⊥) → ownLabel ms a (ownPlace ms q) ≡ ownLabel ns a (ownPlace ns q)

@@ -5,13 +5,14 @@ ghost use Prim.Native.Nat.{ℕ, _+_, _-_, _≤_, _<_};
 ghost use lib.ListN.{length, replicate};
 ghost use Rattle.meaning.specs.Octets.{put, cut};
 ghost use Rattle.meaning.specs.Wire.{rootLimit, nameLimit};
-ghost use Rattle.meaning.specs.Card.{fresh, withTrees, withRoutes, bare, routePlace};
+ghost use Rattle.meaning.specs.Card.{fresh, withTrees, withRoutes, bare, routePlace, routeLimit, treeLimit};
 ghost use Rattle.memory.specs.Sizes.{Numbers, Names};
 ghost use Rattle.memory.specs.Memory.{cardOf, treeCount, routeCount};
 ghost use Rattle.memory_rows.specs.Parts.{Written, Closed, Lowered, LoweredOne};
 use memory::FOURTH_WORD;
 use memory::MARK_COLUMN;
 use memory::NAME_SPACE;
+use memory::NO_LABEL;
 use memory::OWN_COLUMN;
 use memory::ROOT_NAMES;
 use memory::ROOT_SPACE;
@@ -61,21 +62,21 @@ pub fn put_text(names: &mut [u8], at: usize, text: &[u8])
 
 // A tree comes, with neither branch nor leaf nor label: the newest.
 pub fn enter_tree(numbers: &mut [u64], names: &mut [u8], name: &[u8])
-    requires { ⌜ Numbers (now numbers) × Names (now names) × (treeCount (now numbers) < 64) × (length (now name) ≤ nameLimit) ⌝ }
+    requires { ⌜ Numbers (now numbers) × Names (now names) × (treeCount (now numbers) < treeLimit) × (length (now name) ≤ nameLimit) ⌝ }
     ensures { λ _. ⌜ cardOf (now (numbers .exit)) (now (names .exit))
         ≡ withTrees (cardOf (now (numbers .entry)) (now (names .entry)) .trees ++ (bare (now (name .entry)) ∷ [])) (cardOf (now (numbers .entry)) (now (names .entry))) ⌝ }
 {
     let n = memory::tree_count(numbers);
     clear(numbers, ROW_COLUMN + n * ROW_WIDTH, ROW_WIDTH);
     put_text(names, n * NAME_SPACE, name);
-    numbers[OWN_COLUMN + n] = 256;
+    numbers[OWN_COLUMN + n] = NO_LABEL;
     numbers[3] = (n + 1) as u64;
 }
 
 // The tree at place j + 1 is to stand at place j: the mark of its label names that place. Where it does not carry the label that
 // it has for its own it has none from now on, so that it cannot come to carry that one.
 fn lower_one(numbers: &mut [u64], j: usize)
-    requires { ⌜ Numbers (now numbers) × (j + 1 < 64) ⌝ }
+    requires { ⌜ Numbers (now numbers) × (j + 1 < treeLimit) ⌝ }
     ensures { λ _. ⌜ LoweredOne j (now (numbers .entry)) (now (numbers .exit)) ⌝ }
 {
     let t = j + 1;
@@ -84,12 +85,12 @@ fn lower_one(numbers: &mut [u64], j: usize)
         numbers[k] = numbers[k] - 256;
         return;
     }
-    numbers[OWN_COLUMN + t] = 256;
+    numbers[OWN_COLUMN + t] = NO_LABEL;
 }
 
 // Each of the n trees that stands behind place i is to stand one place lower.
 fn lower_behind(numbers: &mut [u64], i: usize, n: usize)
-    requires { ⌜ Numbers (now numbers) × (i < n) × (n ≤ 64) ⌝ }
+    requires { ⌜ Numbers (now numbers) × (i < n) × (n ≤ treeLimit) ⌝ }
     ensures { λ _. ⌜ Lowered i (n - 1) (now (numbers .entry)) (now (numbers .exit)) ⌝ }
 {
     let mut j = i;
@@ -101,7 +102,7 @@ fn lower_behind(numbers: &mut [u64], i: usize, n: usize)
 
 // A tree goes, and the gap is closed.
 pub fn remove_tree(numbers: &mut [u64], names: &mut [u8], i: usize)
-    requires { ⌜ Numbers (now numbers) × Names (now names) × (i < treeCount (now numbers)) × (i < 64) ⌝ }
+    requires { ⌜ Numbers (now numbers) × Names (now names) × (i < treeCount (now numbers)) × (i < treeLimit) ⌝ }
     ensures { λ _. ⌜ cardOf (now (numbers .exit)) (now (names .exit))
         ≡ withTrees (cut (cardOf (now (numbers .entry)) (now (names .entry)) .trees) i) (cardOf (now (numbers .entry)) (now (names .entry))) ⌝ }
 {
@@ -122,7 +123,7 @@ pub fn remove_tree(numbers: &mut [u64], names: &mut [u8], i: usize)
 
 // A route comes, behind the others.
 pub fn append_route(numbers: &mut [u64], names: &mut [u8], root: &[u8], via: u64)
-    requires { ⌜ Numbers (now numbers) × Names (now names) × (routeCount (now numbers) < 32) × (length (now root) ≤ rootLimit) ⌝ }
+    requires { ⌜ Numbers (now numbers) × Names (now names) × (routeCount (now numbers) < routeLimit) × (length (now root) ≤ rootLimit) ⌝ }
     ensures { λ _. ⌜ cardOf (now (numbers .exit)) (now (names .exit))
         ≡ withRoutes (cardOf (now (numbers .entry)) (now (names .entry)) .routes ++ (record { root = now (root .entry); via = via } ∷ [])) (cardOf (now (numbers .entry)) (now (names .entry))) ⌝ }
 {
@@ -136,7 +137,7 @@ pub fn append_route(numbers: &mut [u64], names: &mut [u8], root: &[u8], via: u64
 pub fn put_route(numbers: &mut [u64], names: &mut [u8], i: usize, root: &[u8], via: u64)
     requires { ⌜ Numbers (now numbers) × Names (now names) × (length (now root) ≤ rootLimit)
         × (i ≡ routePlace (now root) (cardOf (now numbers) (now names)))
-        × (routeCount (now numbers) ≤ routePlace (now root) (cardOf (now numbers) (now names)) → routeCount (now numbers) < 32) ⌝ }
+        × (routeCount (now numbers) ≤ routePlace (now root) (cardOf (now numbers) (now names)) → routeCount (now numbers) < routeLimit) ⌝ }
     ensures { λ _. ⌜ cardOf (now (numbers .exit)) (now (names .exit))
         ≡ withRoutes (put (cardOf (now (numbers .entry)) (now (names .entry)) .routes) (routePlace (now (root .entry)) (cardOf (now (numbers .entry)) (now (names .entry)))) (record { root = now (root .entry); via = via })) (cardOf (now (numbers .entry)) (now (names .entry))) ⌝ }
 {
@@ -150,7 +151,7 @@ pub fn put_route(numbers: &mut [u64], names: &mut [u8], i: usize, root: &[u8], v
 
 // A root's entry goes, and the gap is closed.
 pub fn remove_route(numbers: &mut [u64], names: &mut [u8], i: usize)
-    requires { ⌜ Numbers (now numbers) × Names (now names) × (i < routeCount (now numbers)) × (i < 32) ⌝ }
+    requires { ⌜ Numbers (now numbers) × Names (now names) × (i < routeCount (now numbers)) × (i < routeLimit) ⌝ }
     ensures { λ _. ⌜ cardOf (now (numbers .exit)) (now (names .exit))
         ≡ withRoutes (cut (cardOf (now (numbers .entry)) (now (names .entry)) .routes) i) (cardOf (now (numbers .entry)) (now (names .entry))) ⌝ }
 {

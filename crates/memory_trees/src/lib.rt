@@ -6,13 +6,14 @@ ghost use Prim.Native.Nat.{ℕ, _+_, _-_, _≤_, _<_};
 ghost use lib.ListN.{length, getD, set};
 ghost use Rattle.meaning.specs.Octets.{place, any};
 ghost use Rattle.meaning.specs.Wire.{nameLimit};
-ghost use Rattle.meaning.specs.Card.{withTrees, withBranch, withLeaf, treePlace, treeAt, isBranch, useOf, heldFor, routePlace, routeOf, carries};
+ghost use Rattle.meaning.specs.Card.{withTrees, withBranch, withLeaf, treePlace, treeAt, isBranch, useOf, heldFor, routePlace, routeOf, carries, labelCount, routeLimit, treeLimit};
 ghost use Rattle.meaning.specs.Events.{setUse, setLabel, ended};
 ghost use Rattle.memory.specs.Sizes.{Numbers, Names};
 ghost use Rattle.memory.specs.Memory.{cardOf, baseIn, treeCount, routeCount, treeName, rootName, routeIn, carriesAt, ownPlace};
 use meaning::NAME_LIMIT;
 use meaning::ROOT_LIMIT;
 use memory::BRANCH_COLUMN;
+use memory::LABELS;
 use memory::MARK_COLUMN;
 use memory::NAME_SPACE;
 use memory::OWN_COLUMN;
@@ -29,7 +30,7 @@ fn carries_at(numbers: &[u64], i: usize, p: u64) -> bool
     requires { ⌜ Numbers (now numbers) ⌝ }
     ensures { λ r. ⌜ r ≡ carriesAt (now (numbers .entry)) i p ⌝ }
 {
-    if 256 <= p {
+    if LABELS <= p {
         return false;
     }
     let k = p as usize;
@@ -43,14 +44,14 @@ fn carries_at(numbers: &[u64], i: usize, p: u64) -> bool
 
 // Whether the tree at place i carries the label that it has for its own.
 pub fn carries_own(numbers: &[u64], i: usize) -> bool
-    requires { ⌜ Numbers (now numbers) × (i < 64) ⌝ }
+    requires { ⌜ Numbers (now numbers) × (i < treeLimit) ⌝ }
     ensures { λ r. ⌜ r ≡ carriesAt (now (numbers .entry)) i (ownPlace (now (numbers .entry)) i) ⌝ }
 {
     carries_at(numbers, i, numbers[OWN_COLUMN + i])
 }
 
 pub fn tree_label(numbers: &[u64], i: usize) -> u64
-    requires { ⌜ Numbers (now numbers) × (i < treeCount (now numbers)) × (i < 64) ⌝ }
+    requires { ⌜ Numbers (now numbers) × (i < treeCount (now numbers)) × (i < treeLimit) ⌝ }
     ensures { λ r. ⌜ ((os : List ℕ) → r ≡ treeAt i (cardOf (now (numbers .entry)) os) .label) ⌝ }
 {
     if carries_own(numbers, i) {
@@ -61,14 +62,14 @@ pub fn tree_label(numbers: &[u64], i: usize) -> u64
 }
 
 pub fn is_leaf(numbers: &[u64], i: usize) -> bool
-    requires { ⌜ Numbers (now numbers) × (i < treeCount (now numbers)) × (i < 64) ⌝ }
+    requires { ⌜ Numbers (now numbers) × (i < treeCount (now numbers)) × (i < treeLimit) ⌝ }
     ensures { λ r. ⌜ ((os : List ℕ) → r ≡ treeAt i (cardOf (now (numbers .entry)) os) .leaf) ⌝ }
 {
     numbers[ROW_COLUMN + i * ROW_WIDTH] != 0
 }
 
 pub fn branch(numbers: &[u64], i: usize, n: usize) -> u64
-    requires { ⌜ Numbers (now numbers) × (i < treeCount (now numbers)) × (i < 64) × (n < 16) ⌝ }
+    requires { ⌜ Numbers (now numbers) × (i < treeCount (now numbers)) × (i < treeLimit) × (n < 16) ⌝ }
     ensures { λ r. ⌜ ((os : List ℕ) → r ≡ getD (treeAt i (cardOf (now (numbers .entry)) os) .branches) n 0) ⌝ }
 {
     numbers[BRANCH_COLUMN + i * ROW_WIDTH + n]
@@ -76,7 +77,7 @@ pub fn branch(numbers: &[u64], i: usize, n: usize) -> u64
 
 // The sixteen branches, all read before the caller writes one: so a lookup makes no copy on the way to the lent array.
 pub fn branches(numbers: &[u64], i: usize) -> [u64; 16]
-    requires { ⌜ Numbers (now numbers) × (i < treeCount (now numbers)) × (i < 64) ⌝ }
+    requires { ⌜ Numbers (now numbers) × (i < treeCount (now numbers)) × (i < treeLimit) ⌝ }
     ensures { λ r. ⌜ ((os : List ℕ) → r ≡ treeAt i (cardOf (now (numbers .entry)) os) .branches) ⌝ }
 {
     let a = BRANCH_COLUMN + i * ROW_WIDTH;
@@ -102,7 +103,7 @@ pub fn branches(numbers: &[u64], i: usize) -> [u64; 16]
 
 // The branch of neighbour k, once that of neighbour n is x (16: nobody's changes).
 fn branch_then(numbers: &[u64], i: usize, n: usize, x: u64, k: usize) -> u64
-    requires { ⌜ Numbers (now numbers) × (i < treeCount (now numbers)) × (i < 64) × (k < 16) ⌝ }
+    requires { ⌜ Numbers (now numbers) × (i < treeCount (now numbers)) × (i < treeLimit) × (k < 16) ⌝ }
     ensures { λ r. ⌜ ((os : List ℕ) → r ≡ getD (set (treeAt i (cardOf (now (numbers .entry)) os) .branches) n x) k 0) ⌝ }
 {
     if k == n {
@@ -113,7 +114,7 @@ fn branch_then(numbers: &[u64], i: usize, n: usize, x: u64, k: usize) -> u64
 
 // Whether the tree then has a branch, apart from that of neighbour `but` (16: none apart).
 pub fn any_branch(numbers: &[u64], i: usize, n: usize, x: u64, but: usize) -> bool
-    requires { ⌜ Numbers (now numbers) × (i < treeCount (now numbers)) × (i < 64) ⌝ }
+    requires { ⌜ Numbers (now numbers) × (i < treeCount (now numbers)) × (i < treeLimit) ⌝ }
     ensures { λ r. ⌜ ((os : List ℕ) → r ≡ any isBranch (set (set (treeAt i (cardOf (now (numbers .entry)) os) .branches) n x) but 0)) ⌝ }
 {
     let mut k = 0;
@@ -129,7 +130,7 @@ pub fn any_branch(numbers: &[u64], i: usize, n: usize, x: u64, but: usize) -> bo
 }
 
 pub fn tree_name(names: &[u8], i: usize) -> &[u8]
-    requires { ⌜ Names (now names) × (i < 64) ⌝ }
+    requires { ⌜ Names (now names) × (i < treeLimit) ⌝ }
     ensures { λ r. ⌜ ((ns : List ℕ) → i < treeCount ns → now r ≡ treeAt i (cardOf ns (now (names .entry))) .name) × (length (now r) ≤ nameLimit) × (now r ≡ treeName (now (names .entry)) i) ⌝ }
 {
     memory::text(names, NAME_LIMIT, i * NAME_SPACE)
@@ -138,7 +139,7 @@ pub fn tree_name(names: &[u8], i: usize) -> &[u8]
 // The place of the tree of that name; the number of trees where it does not stand.
 pub fn tree_place(numbers: &[u64], names: &[u8], name: &[u8]) -> usize
     requires { ⌜ Numbers (now numbers) × Names (now names) ⌝ }
-    ensures { λ r. ⌜ (r ≡ treePlace (now (name .entry)) (cardOf (now (numbers .entry)) (now (names .entry)))) × (r ≤ treeCount (now (numbers .entry))) × (r ≤ 64) ⌝ }
+    ensures { λ r. ⌜ (r ≡ treePlace (now (name .entry)) (cardOf (now (numbers .entry)) (now (names .entry)))) × (r ≤ treeCount (now (numbers .entry))) × (r ≤ treeLimit) ⌝ }
 {
     let n = memory::tree_count(numbers);
     let mut i = 0;
@@ -152,7 +153,7 @@ pub fn tree_place(numbers: &[u64], names: &[u8], name: &[u8]) -> usize
 }
 
 pub fn set_branch(numbers: &mut [u64], i: usize, n: usize, label: u64)
-    requires { ⌜ Numbers (now numbers) × (i < treeCount (now numbers)) × (i < 64) × (n < 16) ⌝ }
+    requires { ⌜ Numbers (now numbers) × (i < treeCount (now numbers)) × (i < treeLimit) × (n < 16) ⌝ }
     ensures { λ _. ⌜ ((os : List ℕ) → cardOf (now (numbers .exit)) os
         ≡ withTrees (set (cardOf (now (numbers .entry)) os .trees) i (withBranch n label (treeAt i (cardOf (now (numbers .entry)) os)))) (cardOf (now (numbers .entry)) os)) ⌝ }
 {
@@ -160,7 +161,7 @@ pub fn set_branch(numbers: &mut [u64], i: usize, n: usize, label: u64)
 }
 
 pub fn set_leaf(numbers: &mut [u64], i: usize, leaf: bool)
-    requires { ⌜ Numbers (now numbers) × (i < treeCount (now numbers)) × (i < 64) ⌝ }
+    requires { ⌜ Numbers (now numbers) × (i < treeCount (now numbers)) × (i < treeLimit) ⌝ }
     ensures { λ _. ⌜ ((os : List ℕ) → cardOf (now (numbers .exit)) os
         ≡ withTrees (set (cardOf (now (numbers .entry)) os .trees) i (withLeaf leaf (treeAt i (cardOf (now (numbers .entry)) os)))) (cardOf (now (numbers .entry)) os)) ⌝ }
 {
@@ -171,7 +172,7 @@ pub fn set_leaf(numbers: &mut [u64], i: usize, leaf: bool)
 
 // The neighbour for which the tree at place i holds its label; 17 for none.
 pub fn held_for(numbers: &[u64], i: usize) -> u64
-    requires { ⌜ Numbers (now numbers) × (i < treeCount (now numbers)) × (i < 64) ⌝ }
+    requires { ⌜ Numbers (now numbers) × (i < treeCount (now numbers)) × (i < treeLimit) ⌝ }
     ensures { λ r. ⌜ ((os : List ℕ) → r ≡ heldFor (cardOf (now (numbers .entry)) os) (treeAt i (cardOf (now (numbers .entry)) os))) × (r ≤ 17) ⌝ }
 {
     if carries_own(numbers, i) {
@@ -183,8 +184,8 @@ pub fn held_for(numbers: &[u64], i: usize) -> u64
 
 // The place of the tree that carries a label of the block; the number of trees where none does. The label's mark names it.
 pub fn carrier_place(numbers: &[u64], label: u64) -> usize
-    requires { ⌜ Numbers (now numbers) × (baseIn (now numbers) ≤ label) × (label < baseIn (now numbers) + 256) ⌝ }
-    ensures { λ r. ⌜ ((os : List ℕ) → r ≡ place (carries label) (cardOf (now (numbers .entry)) os .trees)) × (r ≤ treeCount (now (numbers .entry))) × (r ≤ 64) ⌝ }
+    requires { ⌜ Numbers (now numbers) × (baseIn (now numbers) ≤ label) × (label < baseIn (now numbers) + labelCount) ⌝ }
+    ensures { λ r. ⌜ ((os : List ℕ) → r ≡ place (carries label) (cardOf (now (numbers .entry)) os .trees)) × (r ≤ treeCount (now (numbers .entry))) × (r ≤ treeLimit) ⌝ }
 {
     let p = label - memory::base(numbers);
     let n = memory::tree_count(numbers);
@@ -201,7 +202,7 @@ pub fn carrier_place(numbers: &[u64], label: u64) -> usize
 
 // The label that the tree carries awaits release from now on, and the tree carries none: a label that is not mapped has no carrier.
 pub fn end_label(numbers: &mut [u64], i: usize)
-    requires { ⌜ Numbers (now numbers) × (i < treeCount (now numbers)) × (i < 64) × ((os : List ℕ) → treeAt i (cardOf (now numbers) os) .label ≡ 0 → ⊥) ⌝ }
+    requires { ⌜ Numbers (now numbers) × (i < treeCount (now numbers)) × (i < treeLimit) × ((os : List ℕ) → treeAt i (cardOf (now numbers) os) .label ≡ 0 → ⊥) ⌝ }
     ensures { λ _. ⌜ ((os : List ℕ) → cardOf (now (numbers .exit)) os
         ≡ setLabel i 0 (setUse (treeAt i (cardOf (now (numbers .entry)) os) .label) (ended (useOf (treeAt i (cardOf (now (numbers .entry)) os) .label) (cardOf (now (numbers .entry)) os))) (cardOf (now (numbers .entry)) os))) ⌝ }
 {
@@ -212,14 +213,14 @@ pub fn end_label(numbers: &mut [u64], i: usize)
 // ---- routes
 
 pub fn root_name(names: &[u8], i: usize) -> &[u8]
-    requires { ⌜ Names (now names) × (i < 32) ⌝ }
+    requires { ⌜ Names (now names) × (i < routeLimit) ⌝ }
     ensures { λ r. ⌜ now r ≡ rootName (now (names .entry)) i ⌝ }
 {
     memory::text(names, ROOT_LIMIT, ROOT_NAMES + i * ROOT_SPACE)
 }
 
 pub fn route_via(numbers: &[u64], i: usize) -> u64
-    requires { ⌜ Numbers (now numbers) × (i < 32) ⌝ }
+    requires { ⌜ Numbers (now numbers) × (i < routeLimit) ⌝ }
     ensures { λ r. ⌜ ((os : List ℕ) → r ≡ routeIn (now (numbers .entry)) os i .via) ⌝ }
 {
     numbers[ROUTE_COLUMN + i]
@@ -227,7 +228,7 @@ pub fn route_via(numbers: &[u64], i: usize) -> u64
 
 pub fn route_place(numbers: &[u64], names: &[u8], root: &[u8]) -> usize
     requires { ⌜ Numbers (now numbers) × Names (now names) ⌝ }
-    ensures { λ r. ⌜ (r ≡ routePlace (now (root .entry)) (cardOf (now (numbers .entry)) (now (names .entry)))) × (r ≤ routeCount (now (numbers .entry))) × (r ≤ 32) ⌝ }
+    ensures { λ r. ⌜ (r ≡ routePlace (now (root .entry)) (cardOf (now (numbers .entry)) (now (names .entry)))) × (r ≤ routeCount (now (numbers .entry))) × (r ≤ routeLimit) ⌝ }
 {
     let n = memory::route_count(numbers);
     let mut i = 0;

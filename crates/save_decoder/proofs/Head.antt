@@ -10,7 +10,7 @@ use borrow.Author.Tests.{leb-true, not-true, not-false}
 use Rattle.meaning.specs.Octets.{any, two, four, twoAt, fourAt}
 use Rattle.meaning.specs.Lists.{by-test, same-eq}
 use Rattle.meaning.specs.RoundTrip.{both}
-use Rattle.meaning.specs.Card.{Tree, Use, free, Card, withTrees, withLabel, named}
+use Rattle.meaning.specs.Card.{Tree, Use, free, Card, withTrees, withLabel, named, labelCount, routeLimit, treeLimit}
 use Rattle.meaning.specs.Events.{baseOutside}
 use Rattle.meaning.specs.Save.{marked, headSaved, treesRead, usesRead, labelled, allLabelled, onceEach, sameName, keepsRules, saved, tableIn, isSave, headSize, routeSize, treeSize}
 use Rattle.memory.proofs.Marks.{never}
@@ -19,7 +19,7 @@ use Rattle.save_rows.proofs.Rows.{routes-many, trees-many}
 
 -- ---- what the rules ask, of which the code needs some
 
-keeps-parts : (c : Card) → keepsRules c ≡ true → (baseOutside (c .base) ≡ false) × (length (c .routes) ≤ 32) × (length (c .trees) ≤ 64) × (onceEach sameName (c .trees) ≡ true)
+keeps-parts : (c : Card) → keepsRules c ≡ true → (baseOutside (c .base) ≡ false) × (length (c .routes) ≤ routeLimit) × (length (c .trees) ≤ treeLimit) × (onceEach sameName (c .trees) ≡ true)
 unfolding keepsRules
 keeps-parts c e =
     let names = both _ _ (both _ _ (both _ _ (both _ _ (both _ _ e .0) .0) .0) .0) in
@@ -48,11 +48,11 @@ all-once b us [] = refl
 all-once b us (t ∷ ts) = rw (any-named b us t ts, all-once b us ts) refl
 
 -- the number of labels in the head of a save, which has not more than there are
-written-labels : (c : Card) (rest : List ℕ) → twoAt (headSaved c ++ rest) 13 ≤ 256
+written-labels : (c : Card) (rest : List ℕ) → twoAt (headSaved c ++ rest) 13 ≤ labelCount
 unfolding headSaved marked four two twoAt
 written-labels c rest = omega arith
 
-saved-labels : (c : Card) → twoAt (saved c) 13 ≤ 256
+saved-labels : (c : Card) → twoAt (saved c) 13 ≤ labelCount
 unfolding saved
 saved-labels c = written-labels c _
 
@@ -60,9 +60,9 @@ module _ (o : List ℕ) where
   pub record Head : Type 0 where
     pub low : 16 ≤ fourAt o 3
     pub high : fourAt o 3 ≤ 1048320
-    pub routes : getD o 11 0 ≤ 32
-    pub trees : getD o 12 0 ≤ 64
-    pub labels : twoAt o 13 ≤ 256
+    pub routes : getD o 11 0 ≤ routeLimit
+    pub trees : getD o 12 0 ≤ treeLimit
+    pub labels : twoAt o 13 ≤ labelCount
     pub names : onceEach sameName (rowsRead o .trees) ≡ true
 
   saved-head : isSave o ≡ true → Head

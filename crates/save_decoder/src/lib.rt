@@ -5,12 +5,16 @@ ghost use Prim.Native.Nat.{_≤_};
 ghost use lib.ListN.{getD};
 ghost use Rattle.meaning.specs.Octets.{fourAt};
 ghost use Rattle.meaning.specs.Save.{tableIn, isSave};
+ghost use Rattle.meaning.specs.Card.{routeLimit, treeLimit};
 ghost use Rattle.memory.specs.Sizes.{Numbers, Names};
 ghost use Rattle.memory.specs.Memory.{cardOf};
+use memory::LABELS;
+use memory::ROUTES;
+use memory::TREES;
 
 // Whether the head may be that of a save: its base is in range, and its routes, trees and labels are not too many.
 fn is_head(octets: &[u8]) -> bool
-    ensures { λ r. ⌜ (r ≡ true → (16 ≤ fourAt (now (octets .entry)) 3) × (fourAt (now (octets .entry)) 3 ≤ 1048320) × (getD (now (octets .entry)) 11 0 ≤ 32) × (getD (now (octets .entry)) 12 0 ≤ 64))
+    ensures { λ r. ⌜ (r ≡ true → (16 ≤ fourAt (now (octets .entry)) 3) × (fourAt (now (octets .entry)) 3 ≤ 1048320) × (getD (now (octets .entry)) 11 0 ≤ routeLimit) × (getD (now (octets .entry)) 12 0 ≤ treeLimit))
         × (r ≡ false → isSave (now (octets .entry)) ≡ false) ⌝ }
 {
     let base = octets::four_at(octets, 3);
@@ -20,13 +24,13 @@ fn is_head(octets: &[u8]) -> bool
     if 1048320 < base {
         return false;
     }
-    if 32 < octets::at(octets, 11) {
+    if ROUTES < octets::at(octets, 11) {
         return false;
     }
-    if 256 < octets::two_at(octets, 13) {
+    if LABELS < octets::two_at(octets, 13) {
         return false;
     }
-    octets::at(octets, 12) <= 64
+    octets::at(octets, 12) <= TREES
 }
 
 // The table in the octets, into memory that held anything. False where the octets can be no save.

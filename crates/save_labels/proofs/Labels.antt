@@ -12,7 +12,7 @@ use lib.Dec.{eqb, ltb}
 use borrow.Author.Tests.{lt-ltb, le-ltb, ltb-true, ltb-false}
 use Rattle.meaning.specs.Octets.{pick, place, any, same, twoAt, fourAt}
 use Rattle.meaning.specs.Lists.{by-test, place-finds, same-eq, same-no}
-use Rattle.meaning.specs.Card.{Tree, Use, free, mapped, awaiting, Card, fresh, withNext, withRoutes, withTrees, withLabels, withLabel, bare, treeAt, named}
+use Rattle.meaning.specs.Card.{Tree, Use, free, mapped, awaiting, Card, fresh, withNext, withRoutes, withTrees, withLabels, withLabel, bare, treeAt, named, labelCount}
 use Rattle.meaning.specs.Events.{setLabel}
 use Rattle.meaning.specs.Save.{nameIn, useRead, usesRead, isMappedFor, labelled, allLabelled, onceEach, sameName, tableIn, headSize, routeSize, treeSize, useSize}
 use Rattle.octets.specs.Part.{tab}
@@ -53,7 +53,7 @@ module _ (ns os o : List ℕ) (at p l b : ℕ) (hp : p ≡ l - b) (hl : l ≡ fo
   unfolding cardOf
   place-is = let e = four-drop o at 3 in omega arith
 
-  pub use-out : (u : Use) → 256 ≤ p → cardOf ns os ≡ withLabels (set (cardOf ns os .labels) (fourAt (drop at o) 3 - cardOf ns os .base) u) (cardOf ns os)
+  pub use-out : (u : Use) → labelCount ≤ p → cardOf ns os ≡ withLabels (set (cardOf ns os .labels) (fourAt (drop at o) 3 - cardOf ns os .base) u) (cardOf ns os)
   unfolding withLabels
   use-out u h = rw (place-is, set-out (cardOf ns os .labels) p u (rw labels-length h)) refl
 
@@ -103,7 +103,7 @@ module _ (ns os a : List ℕ) where
   unfolding isMappedFor
   mapped-named p m = let u = mapped-use ns p m in rw (label-mapped ns p os (u .0) (u .1)) refl
 
-  pub mapped-start : place (isMappedFor a) (cardOf ns os .labels) ≡ 0 + place (isMappedFor a) (drop 0 (tab 256 (labelIn ns os)))
+  pub mapped-start : place (isMappedFor a) (cardOf ns os .labels) ≡ 0 + place (isMappedFor a) (drop 0 (tab labelCount (labelIn ns os)))
   unfolding cardOf
   mapped-start = omega arith
 
@@ -117,20 +117,20 @@ module _ (ns os : List ℕ) (i p : ℕ) (a : List ℕ) (ha : a ≡ treeAt i (car
   found-at : place (isMappedFor (treeAt i (cardOf ns os) .name)) (cardOf ns os .labels) ≡ p
   found-at = rw (← ha) (sym hp)
 
-  no-label : treeAt i (cardOf ns os) .label ≡ 0 → 256 ≤ p → labelled (cardOf ns os .base) (cardOf ns os .labels) (treeAt i (cardOf ns os)) ≡ treeAt i (cardOf ns os)
+  no-label : treeAt i (cardOf ns os) .label ≡ 0 → labelCount ≤ p → labelled (cardOf ns os .base) (cardOf ns os .labels) (treeAt i (cardOf ns os)) ≡ treeAt i (cardOf ns os)
   unfolding labelled
   no-label r h =
       let l : ltb p (length (cardOf ns os .labels)) ≡ false = le-ltb p _ (rw labels-length h) in
       rw (found-at, l) (bare-label (treeAt i (cardOf ns os)) r)
 
-  pub label-out : Ready i (cardOf ns os) → 256 ≤ p → cardOf ns os ≡ withTrees (set (cardOf ns os .trees) i (labelled (cardOf ns os .base) (cardOf ns os .labels) (treeAt i (cardOf ns os)))) (cardOf ns os)
+  pub label-out : Ready i (cardOf ns os) → labelCount ≤ p → cardOf ns os ≡ withTrees (set (cardOf ns os .trees) i (labelled (cardOf ns os .base) (cardOf ns os .labels) (treeAt i (cardOf ns os)))) (cardOf ns os)
   unfolding withTrees treeAt
   label-out r h =
       let k : set (cardOf ns os .trees) i (labelled (cardOf ns os .base) (cardOf ns os .labels) (treeAt i (cardOf ns os))) ≡ cardOf ns os .trees =
       ap (set (cardOf ns os .trees) i) (no-label (r .none) h) ∙ set-getD (cardOf ns os .trees) i (bare []) in
       ap (λ (ts : List Tree). withTrees ts (cardOf ns os)) (sym k)
 
-  pub label-in : (d : Card) → p < 256 → d ≡ setLabel i (baseIn ns + p) (cardOf ns os) → d ≡ withTrees (set (cardOf ns os .trees) i (labelled (cardOf ns os .base) (cardOf ns os .labels) (treeAt i (cardOf ns os)))) (cardOf ns os)
+  pub label-in : (d : Card) → p < labelCount → d ≡ setLabel i (baseIn ns + p) (cardOf ns os) → d ≡ withTrees (set (cardOf ns os .trees) i (labelled (cardOf ns os .base) (cardOf ns os .labels) (treeAt i (cardOf ns os)))) (cardOf ns os)
   unfolding labelled setLabel cardOf
   label-in d h e =
       let l : ltb p (length (cardOf ns os .labels)) ≡ true = lt-ltb p _ (rw labels-length h) in

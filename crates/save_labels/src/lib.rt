@@ -4,17 +4,19 @@ ghost use mathlib.Core.Bool.{true, false};
 ghost use Prim.Native.Nat.{_-_, _≤_, _<_};
 ghost use lib.ListN.{drop, set, getD};
 ghost use Rattle.meaning.specs.Octets.{place, fourAt};
-ghost use Rattle.meaning.specs.Card.{withTrees, withLabels, treeAt};
+ghost use Rattle.meaning.specs.Card.{withTrees, withLabels, treeAt, labelCount, routeLimit, treeLimit};
 ghost use Rattle.meaning.specs.Save.{useRead, usesRead, isMappedFor, labelled, allLabelled, sameName, onceEach, tableIn};
 ghost use Rattle.memory.specs.Sizes.{Numbers, Names};
 ghost use Rattle.memory.specs.Memory.{cardOf, treeCount, isMappedAt, labelIn};
 ghost use Rattle.save_rows.specs.Stages.{rowsRead};
 ghost use Rattle.save_labels.specs.Labels.{Unlabelled, Ready};
 use meaning::HEAD_SIZE;
+use meaning::LABEL_COUNT;
 use meaning::NAME_LIMIT;
 use meaning::ROUTE_SIZE;
 use meaning::TREE_SIZE;
 use meaning::USE_SIZE;
+use memory::LABELS;
 
 // ---- labels in use
 
@@ -31,7 +33,7 @@ fn read_use(octets: &[u8], at: usize, numbers: &mut [u64], names: &mut [u8])
         ≡ withLabels (set (cardOf (now (numbers .entry)) (now (names .entry)) .labels) (fourAt (drop at (now (octets .entry))) 3 - cardOf (now (numbers .entry)) (now (names .entry)) .base) (useRead (drop at (now (octets .entry))))) (cardOf (now (numbers .entry)) (now (names .entry))) ⌝ }
 {
     let p = place_of(octets::four_at(octets, at + 3), memory::base(numbers));
-    if 256 <= p {
+    if LABELS <= p {
         return;
     }
     let mut name = [0u8; NAME_LIMIT];
@@ -56,7 +58,7 @@ fn read_uses(octets: &[u8], at: usize, n: usize, numbers: &mut [u64], names: &mu
 // ---- the label that each tree carries
 
 fn is_mapped_for(numbers: &[u64], names: &[u8], p: usize, name: &[u8]) -> bool
-    requires { ⌜ Numbers (now numbers) × Names (now names) × (p < 256) ⌝ }
+    requires { ⌜ Numbers (now numbers) × Names (now names) × (p < labelCount) ⌝ }
     ensures { λ r. ⌜ (r ≡ isMappedFor (now (name .entry)) (labelIn (now (numbers .entry)) (now (names .entry)) p)) × (r ≡ true → isMappedAt (now (numbers .entry)) p ≡ true) ⌝ }
 {
     if memory_labels::mapped_at(numbers, p) == 17 {
@@ -68,25 +70,25 @@ fn is_mapped_for(numbers: &[u64], names: &[u8], p: usize, name: &[u8]) -> bool
 // The place of the first label that is mapped for a name; 256 where none is.
 fn mapped_place(numbers: &[u64], names: &[u8], name: &[u8]) -> usize
     requires { ⌜ Numbers (now numbers) × Names (now names) ⌝ }
-    ensures { λ r. ⌜ (r ≡ place (isMappedFor (now (name .entry))) (cardOf (now (numbers .entry)) (now (names .entry)) .labels)) × (r ≤ 256) × (r < 256 → isMappedAt (now (numbers .entry)) r ≡ true) ⌝ }
+    ensures { λ r. ⌜ (r ≡ place (isMappedFor (now (name .entry))) (cardOf (now (numbers .entry)) (now (names .entry)) .labels)) × (r ≤ labelCount) × (r < labelCount → isMappedAt (now (numbers .entry)) r ≡ true) ⌝ }
 {
     let mut p = 0;
-    while p < 256 {
+    while p < LABEL_COUNT {
         if is_mapped_for(numbers, names, p, name) {
             return p;
         }
         p += 1;
     }
-    256
+    LABEL_COUNT
 }
 
 fn label_tree(numbers: &mut [u64], names: &[u8], i: usize)
-    requires { ⌜ Numbers (now numbers) × Names (now names) × (i < treeCount (now numbers)) × (i < 64) × Ready i (cardOf (now numbers) (now names)) ⌝ }
+    requires { ⌜ Numbers (now numbers) × Names (now names) × (i < treeCount (now numbers)) × (i < treeLimit) × Ready i (cardOf (now numbers) (now names)) ⌝ }
     ensures { λ _. ⌜ cardOf (now (numbers .exit)) (now (names .entry))
         ≡ withTrees (set (cardOf (now (numbers .entry)) (now (names .entry)) .trees) i (labelled (cardOf (now (numbers .entry)) (now (names .entry)) .base) (cardOf (now (numbers .entry)) (now (names .entry)) .labels) (treeAt i (cardOf (now (numbers .entry)) (now (names .entry)))))) (cardOf (now (numbers .entry)) (now (names .entry))) ⌝ }
 {
     let p = mapped_place(numbers, names, memory_trees::tree_name(names, i));
-    if 256 <= p {
+    if LABEL_COUNT <= p {
         return;
     }
     memory_marks::attach(numbers, i, p);
@@ -109,7 +111,7 @@ fn label_trees(numbers: &mut [u64], names: &[u8])
 
 // The labels, where no two trees have one name.
 pub fn read_labels(octets: &[u8], numbers: &mut [u64], names: &mut [u8])
-    requires { ⌜ Numbers (now numbers) × Names (now names) × (getD (now octets) 11 0 ≤ 32) × (getD (now octets) 12 0 ≤ 64)
+    requires { ⌜ Numbers (now numbers) × Names (now names) × (getD (now octets) 11 0 ≤ routeLimit) × (getD (now octets) 12 0 ≤ treeLimit)
         × (cardOf (now numbers) (now names) ≡ rowsRead (now octets)) × (onceEach sameName (cardOf (now numbers) (now names) .trees) ≡ true) ⌝ }
     ensures { λ _. ⌜ cardOf (now (numbers .exit)) (now (names .exit)) ≡ tableIn (now (octets .entry)) ⌝ }
 {

@@ -5,11 +5,12 @@ ghost use mathlib.Core.List.{List, _∷_, _++_};
 ghost use Prim.Native.Nat.{ℕ, _+_, _<_};
 ghost use lib.ListN.{length};
 ghost use Rattle.meaning.specs.Octets.{pick, four};
-ghost use Rattle.meaning.specs.Card.{treeAt};
+ghost use Rattle.meaning.specs.Card.{treeAt, labelCount, neighbourCount, routeLimit, treeLimit};
 ghost use Rattle.meaning.specs.Save.{nameSaved, marked, headSaved, routeSaved, foursOf, treeSaved, useSaved, headSize, routeSize, treeSize, useSize};
 ghost use Rattle.memory.specs.Sizes.{Numbers, Names};
 ghost use Rattle.memory.specs.Memory.{cardOf, baseIn, treeCount, routeIn, isFreeAt, labelIn};
 use meaning::BRANCH_PLACE;
+use meaning::LABEL_COUNT;
 use meaning::LEAF_PLACE;
 use meaning::ROOT_LIMIT;
 use meaning::ROUTE_SIZE;
@@ -24,7 +25,7 @@ pub fn put_head(numbers: &[u64], out: &mut [u8])
 {
     let base = memory::base(numbers);
     let next = memory::next_id(numbers);
-    let uses = 256 - memory_labels::free_labels(numbers);
+    let uses = LABEL_COUNT - memory_labels::free_labels(numbers);
     let head = [
         0x4c,
         0x53,
@@ -48,7 +49,7 @@ pub fn put_head(numbers: &[u64], out: &mut [u8])
 // ---- a route
 
 pub fn put_route(numbers: &[u64], names: &[u8], i: usize, out: &mut [u8])
-    requires { ⌜ Numbers (now numbers) × Names (now names) × (i < 32) × (length (now out) ≡ routeSize) ⌝ }
+    requires { ⌜ Numbers (now numbers) × Names (now names) × (i < routeLimit) × (length (now out) ≡ routeSize) ⌝ }
     ensures { λ _. ⌜ now (out .exit) ≡ routeSaved (routeIn (now (numbers .entry)) (now (names .entry)) i) ⌝ }
 {
     let head = [
@@ -83,7 +84,7 @@ fn put_four(out: &mut [u8], n: u64)
 
 // The sixteen branch labels of the tree at place i.
 fn put_branches(numbers: &[u64], i: usize, out: &mut [u8])
-    requires { ⌜ Numbers (now numbers) × (i < treeCount (now numbers)) × (i < 64) × (length (now out) ≡ 64) ⌝ }
+    requires { ⌜ Numbers (now numbers) × (i < treeCount (now numbers)) × (i < treeLimit) × (length (now out) ≡ 4 * neighbourCount) ⌝ }
     ensures { λ _. ⌜ ((os : List ℕ) → now (out .exit) ≡ foursOf (treeAt i (cardOf (now (numbers .entry)) os) .branches)) ⌝ }
 {
     let mut k = 0;
@@ -96,7 +97,7 @@ fn put_branches(numbers: &[u64], i: usize, out: &mut [u8])
 }
 
 fn leaf_octet(numbers: &[u64], i: usize) -> u8
-    requires { ⌜ Numbers (now numbers) × (i < treeCount (now numbers)) × (i < 64) ⌝ }
+    requires { ⌜ Numbers (now numbers) × (i < treeCount (now numbers)) × (i < treeLimit) ⌝ }
     ensures { λ r. ⌜ ((os : List ℕ) → r ≡ pick (treeAt i (cardOf (now (numbers .entry)) os) .leaf) 1 0) ⌝ }
 {
     if memory_trees::is_leaf(numbers, i) {
@@ -107,7 +108,7 @@ fn leaf_octet(numbers: &[u64], i: usize) -> u8
 }
 
 pub fn put_tree(numbers: &[u64], names: &[u8], i: usize, out: &mut [u8])
-    requires { ⌜ Numbers (now numbers) × Names (now names) × (i < treeCount (now numbers)) × (i < 64) × (length (now out) ≡ treeSize) ⌝ }
+    requires { ⌜ Numbers (now numbers) × Names (now names) × (i < treeCount (now numbers)) × (i < treeLimit) × (length (now out) ≡ treeSize) ⌝ }
     ensures { λ _. ⌜ now (out .exit) ≡ treeSaved (treeAt i (cardOf (now (numbers .entry)) (now (names .entry)))) ⌝ }
 {
     let head = [0x4c, 0x53, 3];
@@ -142,7 +143,7 @@ fn put_state(out: &mut [u8], label: u64, state: u8, neighbour: u64, name: &[u8])
 
 // The label at place p of the block, which is not free.
 pub fn put_use(numbers: &[u64], names: &[u8], p: usize, out: &mut [u8])
-    requires { ⌜ Numbers (now numbers) × Names (now names) × (p < 256) × (isFreeAt (now numbers) p ≡ false) × (length (now out) ≡ useSize) ⌝ }
+    requires { ⌜ Numbers (now numbers) × Names (now names) × (p < labelCount) × (isFreeAt (now numbers) p ≡ false) × (length (now out) ≡ useSize) ⌝ }
     ensures { λ _. ⌜ now (out .exit) ≡ useSaved (baseIn (now (numbers .entry)) + p) (labelIn (now (numbers .entry)) (now (names .entry)) p) ⌝ }
 {
     let label = memory::base(numbers) + p as u64;

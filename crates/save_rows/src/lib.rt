@@ -4,7 +4,7 @@ ghost use mathlib.Core.List.{List, [], _∷_, _++_};
 ghost use Prim.Native.Nat.{ℕ, _≤_, _<_};
 ghost use lib.ListN.{drop, set, getD};
 ghost use Rattle.meaning.specs.Octets.{fourAt};
-ghost use Rattle.meaning.specs.Card.{withRoutes, withTrees, bare, treeAt};
+ghost use Rattle.meaning.specs.Card.{withRoutes, withTrees, bare, treeAt, routeLimit, treeLimit};
 ghost use Rattle.meaning.specs.Save.{nameIn, routeRead, treeRead, foursIn, routesRead, treesRead, headSize};
 ghost use Rattle.memory.specs.Sizes.{Numbers, Names};
 ghost use Rattle.memory.specs.Memory.{cardOf, treeCount, routeCount};
@@ -19,7 +19,7 @@ use meaning::TREE_SIZE;
 // ---- routes
 
 fn read_route(octets: &[u8], at: usize, numbers: &mut [u64], names: &mut [u8])
-    requires { ⌜ Numbers (now numbers) × Names (now names) × (routeCount (now numbers) < 32) × (at < 1000000000) ⌝ }
+    requires { ⌜ Numbers (now numbers) × Names (now names) × (routeCount (now numbers) < routeLimit) × (at < 1000000000) ⌝ }
     ensures { λ _. ⌜ cardOf (now (numbers .exit)) (now (names .exit))
         ≡ withRoutes (cardOf (now (numbers .entry)) (now (names .entry)) .routes ++ (routeRead (drop at (now (octets .entry))) ∷ [])) (cardOf (now (numbers .entry)) (now (names .entry))) ⌝ }
 {
@@ -29,7 +29,7 @@ fn read_route(octets: &[u8], at: usize, numbers: &mut [u64], names: &mut [u8])
 }
 
 fn read_routes(octets: &[u8], n: usize, numbers: &mut [u64], names: &mut [u8])
-    requires { ⌜ Numbers (now numbers) × Names (now names) × (n ≤ 32) × (cardOf (now numbers) (now names) .routes ≡ []) ⌝ }
+    requires { ⌜ Numbers (now numbers) × Names (now names) × (n ≤ routeLimit) × (cardOf (now numbers) (now names) .routes ≡ []) ⌝ }
     ensures { λ _. ⌜ cardOf (now (numbers .exit)) (now (names .exit)) ≡ withRoutes (routesRead n (drop headSize (now (octets .entry)))) (cardOf (now (numbers .entry)) (now (names .entry))) ⌝ }
 {
     let mut i = 0;
@@ -42,7 +42,7 @@ fn read_routes(octets: &[u8], n: usize, numbers: &mut [u64], names: &mut [u8])
 // ---- trees
 
 fn read_branches(octets: &[u8], at: usize, numbers: &mut [u64], i: usize)
-    requires { ⌜ Numbers (now numbers) × (i < treeCount (now numbers)) × (i < 64) × (at < 1073741824) ⌝ }
+    requires { ⌜ Numbers (now numbers) × (i < treeCount (now numbers)) × (i < treeLimit) × (at < 1073741824) ⌝ }
     ensures { λ _. ⌜ ((os : List ℕ) → cardOf (now (numbers .exit)) os
         ≡ withTrees (set (cardOf (now (numbers .entry)) os .trees) i (withBranches (foursIn 16 (drop at (now (octets .entry)))) (treeAt i (cardOf (now (numbers .entry)) os)))) (cardOf (now (numbers .entry)) os)) ⌝ }
 {
@@ -55,7 +55,7 @@ fn read_branches(octets: &[u8], at: usize, numbers: &mut [u64], i: usize)
 }
 
 fn enter_name(octets: &[u8], at: usize, numbers: &mut [u64], names: &mut [u8])
-    requires { ⌜ Numbers (now numbers) × Names (now names) × (treeCount (now numbers) < 64) × (at < 1073741824) ⌝ }
+    requires { ⌜ Numbers (now numbers) × Names (now names) × (treeCount (now numbers) < treeLimit) × (at < 1073741824) ⌝ }
     ensures { λ _. ⌜ cardOf (now (numbers .exit)) (now (names .exit))
         ≡ withTrees (cardOf (now (numbers .entry)) (now (names .entry)) .trees ++ (bare (nameIn (drop at (now (octets .entry)))) ∷ [])) (cardOf (now (numbers .entry)) (now (names .entry))) ⌝ }
 {
@@ -65,7 +65,7 @@ fn enter_name(octets: &[u8], at: usize, numbers: &mut [u64], names: &mut [u8])
 }
 
 fn read_tree(octets: &[u8], at: usize, numbers: &mut [u64], names: &mut [u8])
-    requires { ⌜ Numbers (now numbers) × Names (now names) × (treeCount (now numbers) < 64) × (at < 1000000000) ⌝ }
+    requires { ⌜ Numbers (now numbers) × Names (now names) × (treeCount (now numbers) < treeLimit) × (at < 1000000000) ⌝ }
     ensures { λ _. ⌜ cardOf (now (numbers .exit)) (now (names .exit))
         ≡ withTrees (cardOf (now (numbers .entry)) (now (names .entry)) .trees ++ (treeRead (drop at (now (octets .entry))) ∷ [])) (cardOf (now (numbers .entry)) (now (names .entry))) ⌝ }
 {
@@ -77,7 +77,7 @@ fn read_tree(octets: &[u8], at: usize, numbers: &mut [u64], names: &mut [u8])
 }
 
 fn read_trees(octets: &[u8], at: usize, n: usize, numbers: &mut [u64], names: &mut [u8])
-    requires { ⌜ Numbers (now numbers) × Names (now names) × (n ≤ 64) × (at < 65536) × (cardOf (now numbers) (now names) .trees ≡ []) ⌝ }
+    requires { ⌜ Numbers (now numbers) × Names (now names) × (n ≤ treeLimit) × (at < 65536) × (cardOf (now numbers) (now names) .trees ≡ []) ⌝ }
     ensures { λ _. ⌜ cardOf (now (numbers .exit)) (now (names .exit)) ≡ withTrees (treesRead n (drop at (now (octets .entry)))) (cardOf (now (numbers .entry)) (now (names .entry))) ⌝ }
 {
     let mut i = 0;
@@ -91,7 +91,7 @@ fn read_trees(octets: &[u8], at: usize, n: usize, numbers: &mut [u64], names: &m
 
 // The head, the routes and the trees, into memory that held anything.
 pub fn read_rows(octets: &[u8], numbers: &mut [u64], names: &mut [u8])
-    requires { ⌜ Numbers (now numbers) × Names (now names) × (16 ≤ fourAt (now octets) 3) × (fourAt (now octets) 3 ≤ 1048320) × (getD (now octets) 11 0 ≤ 32) × (getD (now octets) 12 0 ≤ 64) ⌝ }
+    requires { ⌜ Numbers (now numbers) × Names (now names) × (16 ≤ fourAt (now octets) 3) × (fourAt (now octets) 3 ≤ 1048320) × (getD (now octets) 11 0 ≤ routeLimit) × (getD (now octets) 12 0 ≤ treeLimit) ⌝ }
     ensures { λ _. ⌜ cardOf (now (numbers .exit)) (now (names .exit)) ≡ rowsRead (now (octets .entry)) ⌝ }
 {
     memory_rows::start_fresh(numbers, octets::four_at(octets, 3));

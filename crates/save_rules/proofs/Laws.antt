@@ -9,7 +9,7 @@ use lib.Dec.{eqb, leb, ltb}
 use borrow.Author.Tests.{lt-ltb, le-leb, eq-eqb, ne-eqb}
 use Rattle.meaning.specs.Octets.{same, all}
 use Rattle.meaning.specs.Lists.{getD-out, getD-same}
-use Rattle.meaning.specs.Card.{Tree, mapped, awaiting, Card, treeAt, treeOf, treePlace, bare, isFree, mappedTo, useOf}
+use Rattle.meaning.specs.Card.{Tree, mapped, awaiting, Card, treeAt, treeOf, treePlace, bare, isFree, mappedTo, useOf, labelCount, routeLimit, treeLimit}
 use Rattle.meaning.specs.Events.{baseOutside}
 use Rattle.meaning.specs.Save.{isName, onceEach, isRoute, sameRoot, isTree, sameName, isUse, isCarried, allCarried, isMappedFor, carriesOwn, holdsRight, keepsRules}
 use Rattle.memory.specs.Memory.{baseIn, nextIn, treeCount, labelName, labelIn, cardOf}
@@ -101,11 +101,11 @@ module _ (ns os a : List ℕ) (label b : ℕ) (e : b ≡ baseIn ns) where
   unfolding isMappedFor
   for-under h = rw (use-under ns os label b e h) refl
 
-  pub for-above : b ≤ label → 256 ≤ label - b → isMappedFor a (useOf label (cardOf ns os)) ≡ false
+  pub for-above : b ≤ label → labelCount ≤ label - b → isMappedFor a (useOf label (cardOf ns os)) ≡ false
   unfolding isMappedFor
   for-above h k = rw (use-above ns os label b e h k) refl
 
-  pub for-at : b ≤ label → label - b < 256 → isMappedFor a (useOf label (cardOf ns os)) ≡ isMappedFor a (labelIn ns os (label - b))
+  pub for-at : b ≤ label → label - b < labelCount → isMappedFor a (useOf label (cardOf ns os)) ≡ isMappedFor a (labelIn ns os (label - b))
   for-at h k = ap (isMappedFor a) (use-at ns os label b e h k)
 
 module _ (c : Card) (t : Tree) (l : ℕ) (e : l ≡ t .label) where
@@ -129,11 +129,11 @@ module _ (ns os : List ℕ) where
   unfolding cardOf nextIn
   next-kept = lt-ltb (getD ns 1 0 % 4294967296) 4294967296 (omega arith)
 
-  routes-kept : leb (length (cardOf ns os .routes)) 32 ≡ true
-  routes-kept = le-leb (length (cardOf ns os .routes)) 32 (rw routes-length (routeCount-le ns))
+  routes-kept : leb (length (cardOf ns os .routes)) routeLimit ≡ true
+  routes-kept = le-leb (length (cardOf ns os .routes)) routeLimit (rw routes-length (routeCount-le ns))
 
-  trees-kept : leb (length (cardOf ns os .trees)) 64 ≡ true
-  trees-kept = le-leb (length (cardOf ns os .trees)) 64 (rw trees-length (treeCount-le ns))
+  trees-kept : leb (length (cardOf ns os .trees)) treeLimit ≡ true
+  trees-kept = le-leb (length (cardOf ns os .trees)) treeLimit (rw trees-length (treeCount-le ns))
 
   labels-kept : eqb (length (cardOf ns os .labels)) 256 ≡ true
   labels-kept = eq-eqb _ 256 (labels-length ns os)

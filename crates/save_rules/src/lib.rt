@@ -6,16 +6,18 @@ ghost use mathlib.Core.Bool.{false, _&&_};
 ghost use mathlib.Core.List.{List};
 ghost use Prim.Native.Nat.{ℕ, _+_, _<_};
 ghost use Rattle.meaning.specs.Octets.{all};
-ghost use Rattle.meaning.specs.Card.{treeAt, useOf};
+ghost use Rattle.meaning.specs.Card.{treeAt, useOf, labelCount, treeLimit};
 ghost use Rattle.meaning.specs.Save.{isName, isUse, isCarried, allCarried, isMappedFor, carriesOwn, holdsRight, keepsRules};
 ghost use Rattle.memory.specs.Sizes.{Numbers, Names};
-ghost use Rattle.memory.specs.Memory.{cardOf, baseIn, treeCount, isFreeAt, labelIn, labelName};
+ghost use Rattle.memory.specs.Memory.{cardOf, baseIn, isFreeAt, labelIn, labelName, treeCount};
+use meaning::LABEL_COUNT;
+use memory::LABELS;
 
 // ---- labels
 
 // Whether the label at place p, which is not free, is used for one of the sixteen neighbours.
 fn is_near(numbers: &[u64], p: usize) -> bool
-    requires { ⌜ Numbers (now numbers) × (p < 256) × (isFreeAt (now numbers) p ≡ false) ⌝ }
+    requires { ⌜ Numbers (now numbers) × (p < labelCount) × (isFreeAt (now numbers) p ≡ false) ⌝ }
     ensures { λ r. ⌜ ((os : List ℕ) → isUse (labelIn (now (numbers .entry)) os p) ≡ (r && isName (labelName os p))) ⌝ }
 {
     if memory_labels::mapped_at(numbers, p) != 17 {
@@ -26,7 +28,7 @@ fn is_near(numbers: &[u64], p: usize) -> bool
 
 // The neighbour of a label in use is one of the sixteen, whatever the memory holds: its name is what can be wrong.
 fn is_use(numbers: &[u64], names: &[u8], p: usize) -> bool
-    requires { ⌜ Numbers (now numbers) × Names (now names) × (p < 256) ⌝ }
+    requires { ⌜ Numbers (now numbers) × Names (now names) × (p < labelCount) ⌝ }
     ensures { λ r. ⌜ r ≡ isUse (labelIn (now (numbers .entry)) (now (names .entry)) p) ⌝ }
 {
     if memory_labels::is_free(numbers, p) {
@@ -43,7 +45,7 @@ fn uses_good(numbers: &[u64], names: &[u8]) -> bool
     ensures { λ r. ⌜ r ≡ all isUse (cardOf (now (numbers .entry)) (now (names .entry)) .labels) ⌝ }
 {
     let mut p = 0;
-    while p < 256 {
+    while p < LABEL_COUNT {
         if !is_use(numbers, names, p) {
             return false;
         }
@@ -54,7 +56,7 @@ fn uses_good(numbers: &[u64], names: &[u8]) -> bool
 
 // Whether the label at place p, if it is mapped, is that of the tree of its name.
 fn is_carried(numbers: &[u64], names: &[u8], p: usize) -> bool
-    requires { ⌜ Numbers (now numbers) × Names (now names) × (p < 256) ⌝ }
+    requires { ⌜ Numbers (now numbers) × Names (now names) × (p < labelCount) ⌝ }
     ensures { λ r. ⌜ r ≡ isCarried (cardOf (now (numbers .entry)) (now (names .entry))) (baseIn (now (numbers .entry)) + p) (labelIn (now (numbers .entry)) (now (names .entry)) p) ⌝ }
 {
     if memory_labels::mapped_at(numbers, p) == 17 {
@@ -72,7 +74,7 @@ fn all_carried(numbers: &[u64], names: &[u8]) -> bool
     ensures { λ r. ⌜ r ≡ allCarried (cardOf (now (numbers .entry)) (now (names .entry))) (cardOf (now (numbers .entry)) (now (names .entry)) .base) (cardOf (now (numbers .entry)) (now (names .entry)) .labels) ⌝ }
 {
     let mut p = 0;
-    while p < 256 {
+    while p < LABEL_COUNT {
         if !is_carried(numbers, names, p) {
             return false;
         }
@@ -90,7 +92,7 @@ fn is_mapped_for(numbers: &[u64], names: &[u8], label: u64, name: &[u8]) -> bool
     if label < b {
         return false;
     }
-    if 256 <= label - b {
+    if LABELS <= label - b {
         return false;
     }
     let p = (label - b) as usize;
@@ -101,7 +103,7 @@ fn is_mapped_for(numbers: &[u64], names: &[u8], label: u64, name: &[u8]) -> bool
 }
 
 fn carries_own(numbers: &[u64], names: &[u8], i: usize) -> bool
-    requires { ⌜ Numbers (now numbers) × Names (now names) × (i < treeCount (now numbers)) × (i < 64) ⌝ }
+    requires { ⌜ Numbers (now numbers) × Names (now names) × (i < treeCount (now numbers)) × (i < treeLimit) ⌝ }
     ensures { λ r. ⌜ r ≡ carriesOwn (cardOf (now (numbers .entry)) (now (names .entry))) (treeAt i (cardOf (now (numbers .entry)) (now (names .entry)))) ⌝ }
 {
     let label = memory_trees::tree_label(numbers, i);
@@ -127,7 +129,7 @@ fn own_labels(numbers: &[u64], names: &[u8]) -> bool
 }
 
 fn holds_right(numbers: &[u64], names: &[u8], i: usize) -> bool
-    requires { ⌜ Numbers (now numbers) × Names (now names) × (i < treeCount (now numbers)) × (i < 64) ⌝ }
+    requires { ⌜ Numbers (now numbers) × Names (now names) × (i < treeCount (now numbers)) × (i < treeLimit) ⌝ }
     ensures { λ r. ⌜ r ≡ holdsRight (cardOf (now (numbers .entry)) (now (names .entry))) (treeAt i (cardOf (now (numbers .entry)) (now (names .entry)))) ⌝ }
 {
     let u = event_holder::upstream_of(numbers, names, memory_trees::tree_name(names, i));

@@ -12,7 +12,7 @@ use borrow.Author.Tests.{le-leb, lt-leb, eq-eqb, ne-eqb, not-true, not-false}
 use Rattle.meaning.specs.Octets.{any, same, all}
 use Rattle.meaning.specs.Lists.{getD-same}
 use Rattle.meaning.specs.Wire.{rootIn}
-use Rattle.meaning.specs.Card.{Route, Tree, Use, Card, treeAt, bare, isBranch, isEmpty, isFor, named, routeOf, heldFor}
+use Rattle.meaning.specs.Card.{Route, Tree, Use, Card, treeAt, bare, isBranch, isEmpty, isFor, named, routeOf, heldFor, labelCount}
 use Rattle.meaning.specs.Events.{notRoot, upstream, upstreamOf, holder}
 use Rattle.meaning.specs.Save.{isName, onceEach, isRoute, sameRoot, isBranchLabel, isTree, sameName, isCarried, allCarried, holdsRight}
 use Rattle.octets.proofs.Tab.{tab-get}
@@ -111,10 +111,10 @@ module _ (ns os : List ℕ) where
   pub trees-end : (n i : ℕ) → n ≡ treeCount ns → n ≤ i → length (cardOf ns os .trees) ≤ i
   trees-end n i e h = rw trees-length (omega arith)
 
-  pub label-there : (p : ℕ) → p < 256 → At (cardOf ns os .labels) p (labelIn ns os p)
-  label-there p h = record { inside = rw labels-length h; reads = unfold cardOf in tab-get 256 (labelIn ns os) p _ h }
+  pub label-there : (p : ℕ) → p < labelCount → At (cardOf ns os .labels) p (labelIn ns os p)
+  label-there p h = record { inside = rw labels-length h; reads = unfold cardOf in tab-get labelCount (labelIn ns os) p _ h }
 
-  pub labels-end : (p : ℕ) → 256 ≤ p → length (cardOf ns os .labels) ≤ p
+  pub labels-end : (p : ℕ) → labelCount ≤ p → length (cardOf ns os .labels) ≤ p
   labels-end p h = rw labels-length h
 
   pub branch-there : (i k : ℕ) → i < treeCount ns → k < 16 → At (treeAt i (cardOf ns os) .branches) k (getD (treeAt i (cardOf ns os) .branches) k 0)

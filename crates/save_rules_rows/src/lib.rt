@@ -5,15 +5,15 @@ ghost use mathlib.Core.List.{List};
 ghost use Prim.Native.Nat.{ℕ, _+_, _<_};
 ghost use lib.ListN.{drop};
 ghost use Rattle.meaning.specs.Octets.{any, all};
-ghost use Rattle.meaning.specs.Card.{treeAt, isEmpty, isFor, named};
+ghost use Rattle.meaning.specs.Card.{treeAt, isEmpty, isFor, named, routeLimit, treeLimit};
 ghost use Rattle.meaning.specs.Save.{isName, onceEach, isRoute, sameRoot, isBranchLabel, isTree, sameName};
 ghost use Rattle.memory.specs.Sizes.{Numbers, Names};
-ghost use Rattle.memory.specs.Memory.{cardOf, treeCount, routeIn};
+ghost use Rattle.memory.specs.Memory.{cardOf, routeIn, treeCount};
 
 // ---- routes
 
 fn is_route(numbers: &[u64], names: &[u8], i: usize) -> bool
-    requires { ⌜ Numbers (now numbers) × Names (now names) × (i < 32) ⌝ }
+    requires { ⌜ Numbers (now numbers) × Names (now names) × (i < routeLimit) ⌝ }
     ensures { λ r. ⌜ r ≡ isRoute (routeIn (now (numbers .entry)) (now (names .entry)) i) ⌝ }
 {
     if 16 < memory_trees::route_via(numbers, i) {
@@ -77,7 +77,7 @@ pub fn roots_once(numbers: &[u64], names: &[u8]) -> bool
 pub fn is_name(name: &[u8]) -> bool
     ensures { λ r. ⌜ r ≡ isName (now (name .entry)) ⌝ }
 {
-    wire_reader::element_refusal(name) == 0
+    wire_name::element_refusal(name) == 0
 }
 
 fn is_branch_label(label: u64) -> bool
@@ -93,7 +93,7 @@ fn is_branch_label(label: u64) -> bool
 }
 
 fn branches_good(numbers: &[u64], i: usize) -> bool
-    requires { ⌜ Numbers (now numbers) × (i < treeCount (now numbers)) × (i < 64) ⌝ }
+    requires { ⌜ Numbers (now numbers) × (i < treeCount (now numbers)) × (i < treeLimit) ⌝ }
     ensures { λ r. ⌜ ((os : List ℕ) → r ≡ all isBranchLabel (treeAt i (cardOf (now (numbers .entry)) os) .branches)) ⌝ }
 {
     let mut k = 0;
@@ -108,7 +108,7 @@ fn branches_good(numbers: &[u64], i: usize) -> bool
 
 // Whether the tree at place i has a branch or a leaf.
 fn leads_somewhere(numbers: &[u64], i: usize) -> bool
-    requires { ⌜ Numbers (now numbers) × (i < treeCount (now numbers)) × (i < 64) ⌝ }
+    requires { ⌜ Numbers (now numbers) × (i < treeCount (now numbers)) × (i < treeLimit) ⌝ }
     ensures { λ r. ⌜ ((os : List ℕ) → r ≡ not (isEmpty (treeAt i (cardOf (now (numbers .entry)) os)))) ⌝ }
 {
     if memory_trees::is_leaf(numbers, i) {
@@ -118,7 +118,7 @@ fn leads_somewhere(numbers: &[u64], i: usize) -> bool
 }
 
 fn is_tree(numbers: &[u64], names: &[u8], i: usize) -> bool
-    requires { ⌜ Numbers (now numbers) × Names (now names) × (i < treeCount (now numbers)) × (i < 64) ⌝ }
+    requires { ⌜ Numbers (now numbers) × Names (now names) × (i < treeCount (now numbers)) × (i < treeLimit) ⌝ }
     ensures { λ r. ⌜ r ≡ isTree (treeAt i (cardOf (now (numbers .entry)) (now (names .entry)))) ⌝ }
 {
     if !is_name(memory_trees::tree_name(names, i)) {

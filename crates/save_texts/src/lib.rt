@@ -43,7 +43,7 @@ pub fn put_space(out: &mut [u8], room: usize, text: &[u8])
 fn opaque_of(name: &[u8]) -> &[u8]
     ensures { λ r. ⌜ now r ≡ opaqueIn (now (name .entry)) ⌝ }
 {
-    let n = 6 + wire_reader::root_length(name);
+    let n = 6 + wire_name::root_length(name);
     if name.len() < n {
         return &name[0..0];
     }
@@ -57,7 +57,7 @@ pub fn put_name(out: &mut [u8], name: &[u8])
     put_space(
         &mut out[0..SAVED_ROOT_SPACE],
         ROOT_LIMIT,
-        wire_reader::root_of(name),
+        wire_name::root_of(name),
     );
     put_space(
         &mut out[SAVED_ROOT_SPACE..NAME_SIZE],

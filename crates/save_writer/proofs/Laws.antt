@@ -6,7 +6,7 @@ use mathlib.Core.Bool.{true, false}
 use mathlib.Core.List.{List, _++_, append-assoc}
 use lib.ListN.{length, length-append}
 use borrow.Author.Tests.{lt-ltb, le-ltb}
-use Rattle.meaning.specs.Card.{Card, Use, isFree, treeAt, freeLabels}
+use Rattle.meaning.specs.Card.{Card, Use, isFree, treeAt, freeLabels, labelCount}
 use Rattle.meaning.specs.Save.{headSaved, routeSaved, treeSaved, useSaved, routesSaved, treesSaved, usesSaved, saved, save, headSize, routeSize, treeSize, useSize}
 use Rattle.meaning.specs.Events.{roomShort, refuse}
 use Rattle.meaning.specs.Calls.{over, Does}
@@ -50,9 +50,9 @@ module _ (ns os : List ℕ) where
   unfolding cardOf treesSaved
   trees-rows = all-joined treeSaved treesSaved refl (λ x xs. refl) (treeCount ns) (treeIn ns os)
 
-  pub labels-rows : usesSaved (baseIn ns) (cardOf ns os .labels) ≡ joined 256 labelRow
+  pub labels-rows : usesSaved (baseIn ns) (cardOf ns os .labels) ≡ joined labelCount labelRow
   unfolding cardOf
-  labels-rows = uses-joined 256 (baseIn ns) (labelIn ns os)
+  labels-rows = uses-joined labelCount (baseIn ns) (labelIn ns os)
 
   module _ (at : ℕ) (xs : List ℕ) where
     abbrev pub routes-lot : at + length (routesSaved (cardOf ns os .routes)) ≤ length xs → Lot
@@ -87,7 +87,7 @@ tree-size ns os i h = rw (sym (tree-at ns os i h)) (tree-length (treeAt i (cardO
 pub trees-size : (ns os : List ℕ) → length (treesSaved (cardOf ns os .trees)) ≡ treeCount ns * treeSize
 trees-size ns os = ap length (trees-rows ns os) ∙ joined-length (treeCount ns) treeSize (treeRow ns os) (tree-size ns os)
 
-pub saved-size : (ns os : List ℕ) → length (saved (cardOf ns os)) ≡ headSize + routeCount ns * routeSize + treeCount ns * treeSize + (256 - freeLabels (cardOf ns os)) * useSize
+pub saved-size : (ns os : List ℕ) → length (saved (cardOf ns os)) ≡ headSize + routeCount ns * routeSize + treeCount ns * treeSize + (labelCount - freeLabels (cardOf ns os)) * useSize
 unfolding saved freeLabels
 saved-size ns os =
     simp length-append

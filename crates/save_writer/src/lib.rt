@@ -7,10 +7,12 @@ ghost use lib.ListN.{length};
 ghost use denote.Ref.{ptr};
 ghost use Rattle.meaning.specs.Save.{useSaved, routesSaved, treesSaved, usesSaved, saved, save, saveLimit};
 ghost use Rattle.meaning.specs.Calls.{over, Does, Hands};
+ghost use Rattle.meaning.specs.Card.{labelCount};
 ghost use Rattle.memory.specs.Sizes.{Numbers, Names};
 ghost use Rattle.memory.specs.Memory.{cardOf, baseIn, labelIn};
 ghost use Rattle.save_texts.specs.Laid.{laid};
 use meaning::HEAD_SIZE;
+use meaning::LABEL_COUNT;
 use meaning::ROUTE_SIZE;
 use meaning::TREE_SIZE;
 use meaning::USE_SIZE;
@@ -59,7 +61,7 @@ fn put_trees(numbers: &[u64], names: &[u8], out: &mut [u8], from: usize) -> usiz
 
 // The record of the label at place p of the block, and the place behind it: of a free label nothing is written.
 fn put_label(numbers: &[u64], names: &[u8], p: usize, out: &mut [u8], at: usize) -> usize
-    requires { ⌜ Numbers (now numbers) × Names (now names) × (p < 256)
+    requires { ⌜ Numbers (now numbers) × Names (now names) × (p < labelCount)
         × (at + length (useSaved (baseIn (now numbers) + p) (labelIn (now numbers) (now names) p)) ≤ length (now out)) ⌝ }
     ensures { λ r. ⌜ (now (out .exit) ≡ laid at (useSaved (baseIn (now (numbers .entry)) + p) (labelIn (now (numbers .entry)) (now (names .entry)) p)) (now (out .entry)))
         × (r ≡ at + length (useSaved (baseIn (now (numbers .entry)) + p) (labelIn (now (numbers .entry)) (now (names .entry)) p))) ⌝ }
@@ -81,7 +83,7 @@ fn put_labels(numbers: &[u64], names: &[u8], out: &mut [u8], from: usize) -> usi
 {
     let mut at = from;
     let mut p = 0;
-    while p < 256 {
+    while p < LABEL_COUNT {
         at = put_label(numbers, names, p, out, at);
         p += 1;
     }
@@ -97,7 +99,7 @@ pub fn saved_size(numbers: &[u64]) -> usize
 {
     let routes = memory::route_count(numbers);
     let trees = memory::tree_count(numbers);
-    let uses = 256 - memory_labels::free_labels(numbers);
+    let uses = LABEL_COUNT - memory_labels::free_labels(numbers);
     HEAD_SIZE + routes * ROUTE_SIZE + trees * TREE_SIZE + uses * USE_SIZE
 }
 

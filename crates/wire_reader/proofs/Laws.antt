@@ -1,4 +1,4 @@
--- A name; what stands at a place of a message, and the TLVs from there on; the label in a value. Assumes nothing.
+-- What stands at a place of a message, and the TLVs from there on; the label in a value. Assumes nothing.
 use Prim.Native.Nat.{ℕ, suc, _+_, _-_, _≤_, _<_}
 use native.Mathlib.Omega.{arith}
 use mathlib.Core.Path.{_≡_, refl, sym, ap, _∙_, subst}
@@ -11,33 +11,12 @@ use borrow.Author.Tests.{le-ltb, lt-ltb, ltb-true, ltb-false, leb-true, le-leb, 
 use Rattle.meaning.specs.Octets.{pick, any, twoAt, fourAt}
 use Rattle.meaning.specs.Lists.{by-test, picked}
 use Rattle.meaning.specs.Wire as wire
-use Rattle.meaning.specs.Wire.{rootLength, opaqueLength, rootIn, Framed, framed, overrun, after, tlvs, isOverrun, found, must, absent, isLabel}
+use Rattle.meaning.specs.Wire.{Framed, framed, overrun, after, tlvs, isOverrun, found, must, absent, isLabel}
 use Rattle.meaning.specs.RoundTrip.{both}
 use Rattle.meaning.specs.WireLaws.{tlvs-end, tlvs-step, tlvs-short}
 use Rattle.wire_reader.specs.Read.{tlvAt, endOf, labelIn}
 use Rattle.wire_reader.specs.declared.Tlv.{Tlv}
 use Rattle.wire_reader.specs.declared.Tlv.the-variants.{Whole, End, Past}
-
--- ---- a name
-
-pub opaque-at : (e : List ℕ) (n k : ℕ) → n ≡ rootLength e → k ≡ twoAt e (4 + n) → k ≡ opaqueLength e
-unfolding opaqueLength
-opaque-at e n k p q = q ∙ ap (λ (i : ℕ). twoAt e (4 + i)) p
-
--- the root's part of an element of any length
-module _ (e : List ℕ) where
-  pub root-none : length e < 4 → [] ≡ rootIn e
-  unfolding rootIn
-  root-none h = rw (drop-of-length-le e {i = 4} (omega arith), take-nil (rootLength e))
-
-  module _ (n : ℕ) (p : n ≡ rootLength e) where
-    pub root-short : length e - 4 < n → take (length e - 4) (drop 4 e) ≡ rootIn e
-    unfolding rootIn
-    root-short h = take-all (length e - 4) (drop 4 e) (simp length-drop (omega arith)) ∙ sym (take-all (rootLength e) (drop 4 e) (simp length-drop (omega arith)))
-
-    pub root-all : take (4 + n - 4) (drop 4 e) ≡ rootIn e
-    unfolding rootIn
-    root-all = let q : 4 + n - 4 ≡ rootLength e = omega arith in ap (λ (i : ℕ). take i (drop 4 e)) q
 
 -- ---- which case of `tlvAt` holds, by the tests that `tlv_at` makes
 

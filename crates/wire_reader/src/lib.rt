@@ -1,12 +1,10 @@
-// One LDP message in: RFC 5036's TLVs, RFC 6388's P2MP element, and the refusals 2 to 9.
+// One LDP message in: RFC 5036's TLVs, and the refusals 2 to 9.
 ghost use mathlib.Core.Path.{_≡_};
 ghost use mathlib.Core.Bool.{false, not};
-ghost use Prim.Native.Nat.{_≤_};
 ghost use lib.ListN.{drop};
 ghost use Rattle.meaning.specs.Octets.{any};
-ghost use Rattle.meaning.specs.Wire.{addressLength, rootLength, rootIn, elementRefusal, tlvs, isOverrun, found, must, isKind};
+ghost use Rattle.meaning.specs.Wire.{tlvs, isOverrun, found, must, isKind};
 ghost use Rattle.wire_reader.specs.Read.{tlvAt, endOf, labelIn, headRefusal, Ordered, Reads};
-use meaning::OPAQUE_LIMIT;
 
 // ---- TLVs
 
@@ -73,68 +71,6 @@ pub fn tlv_from(message: &[u8], at: usize) -> Tlv
     ensures { λ r. ⌜ r ≡ tlvAt (now (message .entry)) at ⌝ }
 {
     next(moved(over(message), at))
-}
-
-// ---- a name: the octets of one P2MP element
-
-pub fn address_length(family: u64) -> usize
-    ensures { λ r. ⌜ (r ≡ addressLength family) × (r ≤ 16) ⌝ }
-{
-    if family == 1 {
-        return 4;
-    }
-    if family == 2 {
-        return 16;
-    }
-    0
-}
-
-pub fn root_length(e: &[u8]) -> usize
-    ensures { λ r. ⌜ (r ≡ rootLength (now (e .entry))) × (r ≤ 16) ⌝ }
-{
-    address_length(octets::two_at(e, 1))
-}
-
-// The part that holds the root address.
-pub fn root_of(e: &[u8]) -> &[u8]
-    ensures { λ r. ⌜ now r ≡ rootIn (now (e .entry)) ⌝ }
-{
-    let n = root_length(e);
-    if e.len() < 4 {
-        return &e[0..0];
-    }
-    if e.len() - 4 < n {
-        return &e[4..];
-    }
-    let end = 4 + n;
-    &e[4..end]
-}
-
-// 6, 7, or 0.
-pub fn element_refusal(e: &[u8]) -> u32
-    ensures { λ r. ⌜ r ≡ elementRefusal (now (e .entry)) ⌝ }
-{
-    if octets::at(e, 0) != 6 {
-        return 6;
-    }
-    let n = root_length(e);
-    if n == 0 {
-        return 6;
-    }
-    if octets::at(e, 3) != n as u64 {
-        return 6;
-    }
-    let k = octets::two_at(e, 4 + n) as usize;
-    if e.len() != 6 + n + k {
-        return 6;
-    }
-    if k == 0 {
-        return 7;
-    }
-    if OPAQUE_LIMIT < k {
-        return 7;
-    }
-    0
 }
 
 // ---- a message
@@ -278,7 +214,7 @@ fn read_body(message: &[u8], fec: usize, end: usize) -> Read
     requires { ⌜ Ordered (now message) fec end ⌝ }
     ensures { λ r. ⌜ Reads (now (message .entry)) r ⌝ }
 {
-    let refusal = element_refusal(&message[12..fec]);
+    let refusal = wire_name::element_refusal(&message[12..fec]);
     if refusal != 0 {
         return Read::Refused(refusal);
     }

@@ -1,6 +1,7 @@
 use native.Mathlib.Omega.{arith}
 use borrow.Author.Tests.{leb-true, leb-false}
 use borrow.Author.Needs.{needs}
+use Rattle.meaning.specs.Card.{treeLimit}
 use Rattle.memory.proofs.Marks.{never}
 use Rattle.save_decoder.proofs.Head.{no-save}
 use Rattle.save_decoder.proofs.is_head.Statement.{statement}
@@ -35,7 +36,7 @@ returns-5 c =
     let b = c .before .before .before .before .before .before .before .four-at .ensures .0 in
     let r = c .before .before .before .before .at .ensures .0 in
     let t = c .at2 .ensures .0 in
-    ((λ e. let k = leb-true (c .at2 .result) 64 e in (omega arith, omega arith, omega arith, omega arith)), (λ e. no-save _ (λ h. omega (arith, h .trees, leb-false (c .at2 .result) 64 e))))
+    ((λ e. let k = leb-true (c .at2 .result) treeLimit e in (omega arith, omega arith, omega arith, omega arith)), (λ e. no-save _ (λ h. omega (arith, h .trees, leb-false (c .at2 .result) 64 e))))
 
 pub is-head-spec : {M : Type 1} → statement M
 is-head-spec =

@@ -3,6 +3,7 @@ use native.Mathlib.Omega.{arith}
 use mathlib.Core.Path.{_≡_, sym, _∙_}
 use lib.ListN.{drop}
 use Rattle.meaning.specs.Save.{allCarried}
+use Rattle.meaning.specs.Card.{labelCount}
 use Rattle.memory.specs.Memory.{cardOf, baseIn}
 use Rattle.save_rules_rows.proofs.Laws.{carried-start, carried-hit, carried-miss, carried-none, label-there, labels-end}
 use borrow.Author.Needs.{needs}
@@ -10,10 +11,10 @@ use Rattle.save_rules.proofs.all_carried.Statement.{statement}
 use Rattle.save_rules.proofs.all_carried.Tie as tie
 
 abbrev Inv-loop : tie.InvT-loop
-Inv-loop numbers names p₀ p = (p ≤ 256) × (allCarried (cardOf numbers names) (cardOf numbers names .base) (cardOf numbers names .labels) ≡ allCarried (cardOf numbers names) (baseIn numbers + p) (drop p (cardOf numbers names .labels)))
+Inv-loop numbers names p₀ p = (p ≤ labelCount) × (allCarried (cardOf numbers names) (cardOf numbers names .base) (cardOf numbers names .labels) ≡ allCarried (cardOf numbers names) (baseIn numbers + p) (drop p (cardOf numbers names .labels)))
 
 abbrev μ-loop : tie.MeasureT-loop
-μ-loop numbers names p₀ p = 256 - p
+μ-loop numbers names p₀ p = labelCount - p
 
 loop-holds : tie.Need-loop-holds Inv-loop μ-loop
 loop-holds c = (omega arith, carried-start _ _)

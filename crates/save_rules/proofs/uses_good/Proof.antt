@@ -4,6 +4,7 @@ use mathlib.Core.Path.{_≡_, refl, sym, _∙_}
 use lib.ListN.{drop}
 use Rattle.meaning.specs.Octets.{all}
 use Rattle.meaning.specs.Save.{isUse}
+use Rattle.meaning.specs.Card.{labelCount}
 use Rattle.memory.specs.Memory.{cardOf}
 use Rattle.save_rules_rows.proofs.Laws.{all-hit, all-miss, all-none, label-there, labels-end}
 use borrow.Author.Needs.{needs}
@@ -11,10 +12,10 @@ use Rattle.save_rules.proofs.uses_good.Statement.{statement}
 use Rattle.save_rules.proofs.uses_good.Tie as tie
 
 abbrev Inv-loop : tie.InvT-loop
-Inv-loop numbers names p₀ p = (p ≤ 256) × (all isUse (cardOf numbers names .labels) ≡ all isUse (drop p (cardOf numbers names .labels)))
+Inv-loop numbers names p₀ p = (p ≤ labelCount) × (all isUse (cardOf numbers names .labels) ≡ all isUse (drop p (cardOf numbers names .labels)))
 
 abbrev μ-loop : tie.MeasureT-loop
-μ-loop numbers names p₀ p = 256 - p
+μ-loop numbers names p₀ p = labelCount - p
 
 loop-holds : tie.Need-loop-holds Inv-loop μ-loop
 loop-holds c = (omega arith, refl)

@@ -4,7 +4,7 @@ use native.Mathlib.Omega.{arith}
 use borrow.Author.Needs.{needs}
 use Rattle.save_texts.proofs.opaque_of.Statement.{statement}
 use Rattle.save_texts.proofs.opaque_of.Tie as tie
-use Rattle.wire_reader.proofs.root_length.Reads as root-length-reads
+use Rattle.wire_name.proofs.root_length.Reads as root-length-reads
 
 root-length-requires : tie.Need-root-length-requires
 root-length-requires c κs = search needs

@@ -3,7 +3,7 @@ use Rattle.save_texts.proofs.Laws.{name-put}
 use borrow.Author.Needs.{needs}
 use Rattle.save_texts.proofs.put_name.Statement.{statement}
 use Rattle.save_texts.proofs.put_name.Tie as tie
-use Rattle.wire_reader.proofs.root_of.Reads as root-of-reads
+use Rattle.wire_name.proofs.root_of.Reads as root-of-reads
 use Rattle.save_texts.proofs.opaque_of.Reads as opaque-of-reads
 use Rattle.save_texts.proofs.put_space.Reads as put-space-reads
 

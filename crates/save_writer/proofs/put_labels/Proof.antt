@@ -3,6 +3,7 @@ use Prim.Native.Nat.{_-_, _≤_, _<_}
 use native.Mathlib.Omega.{arith}
 use mathlib.Core.Path.{refl}
 use borrow.Author.Needs.{needs}
+use Rattle.meaning.specs.Card.{labelCount}
 use Rattle.save_records.proofs.Rows.{Rows, rows-none, rows-room, rows-more, rows-done}
 use Rattle.save_writer.proofs.Laws.{labelRow, labels-lot}
 use Rattle.save_writer.proofs.put_labels.Statement.{statement}
@@ -12,7 +13,7 @@ abbrev Inv-loop : tie.InvT-loop
 Inv-loop numbers names out₀ from at₀ p₀ out at p = Rows (labelRow numbers names) 256 from out₀ p at out
 
 abbrev μ-loop : tie.MeasureT-loop
-μ-loop numbers names out₀ from at₀ p₀ out at p = 256 - p
+μ-loop numbers names out₀ from at₀ p₀ out at p = labelCount - p
 
 loop-holds : tie.Need-loop-holds Inv-loop μ-loop
 loop-holds c = let a = c .before .before .before .args in rows-none (labels-lot (a .numbers .now) (a .names .now) (a .from) (a .out .now) (c .before .before .before .pre .2))
@@ -22,7 +23,7 @@ put-label-requires c κs =
     let l = c .before in
     let s = l .before .before .before .before .before in
     let a = s .args in
-    let lt : l .before .loop .p < 256 = omega arith in
+    let lt : l .before .loop .p < labelCount = omega arith in
     (search needs, search needs, search needs, rows-room (labels-lot (a .numbers .now) (a .names .now) (a .from) (a .out .now) (s .pre .2)) _ _ _ (l .before .loop .inv) _ lt refl)
 
 add-p : tie.Need-add-p Inv-loop μ-loop
@@ -37,7 +38,7 @@ loop-again c =
     let l = p .before .before in
     let s = l .before .before .before .before .before in
     let a = s .args in
-    let lt : l .before .loop .p < 256 = omega arith in
+    let lt : l .before .loop .p < labelCount = omega arith in
     rw (p .put-label .ensures .1)
     (rows-more (labels-lot (a .numbers .now) (a .names .now) (a .from) (a .out .now) (s .pre .2)) _ _ _ (l .before .loop .inv) _ (labelRow (a .numbers .now) (a .names .now) (l .before .loop .p)) _ lt refl refl (p .put-label .ensures .0))
 
@@ -48,7 +49,7 @@ returns : tie.Need-returns Inv-loop μ-loop
 returns c =
     let s = c .before .before .before .before .before in
     let a = s .args in
-    let all : 256 ≤ c .before .loop .p = omega arith in
+    let all : labelCount ≤ c .before .loop .p = omega arith in
     rows-done (labels-lot (a .numbers .now) (a .names .now) (a .from) (a .out .now) (s .pre .2)) _ _ _ (c .before .loop .inv) all
 
 pub put-labels-spec : {M : Type 1} → statement M

@@ -1,10 +1,10 @@
--- `wire_reader::address_length` meets its contract: the tests that led to a return say which case holds.
+-- `wire_name::address_length` meets its contract: the tests that led to a return say which case holds.
 -- Assumes nothing.
 use native.Mathlib.Omega.{arith}
 use borrow.Author.Tests.{eq-eqb, ne-eqb}
 use Rattle.meaning.specs.Wire.{addressLength}
-use Rattle.wire_reader.proofs.address_length.Statement.{statement}
-use Rattle.wire_reader.proofs.address_length.Tie as tie
+use Rattle.wire_name.proofs.address_length.Statement.{statement}
+use Rattle.wire_name.proofs.address_length.Tie as tie
 
 returns : tie.Need-returns
 unfolding addressLength

@@ -1,12 +1,12 @@
--- `wire_reader::element_refusal` meets its contract: each return's tests are those of one law of `WireLaws`.
+-- `wire_name::element_refusal` meets its contract: each return's tests are those of one law of `WireLaws`.
 -- Assumes nothing.
 use native.Mathlib.Omega.{arith}
 use mathlib.Core.Path.{sym}
 use Rattle.meaning.specs.WireLaws.{element-kind, element-family, element-length, element-fill, element-whole, element-7, element-0, opaque-length, opaque-none, opaque-long, opaque-right}
-use Rattle.wire_reader.proofs.Laws.{opaque-at}
+use Rattle.wire_name.proofs.Name.{opaque-at}
 use borrow.Author.Needs.{needs}
-use Rattle.wire_reader.proofs.element_refusal.Statement.{statement}
-use Rattle.wire_reader.proofs.element_refusal.Tie as tie
+use Rattle.wire_name.proofs.element_refusal.Statement.{statement}
+use Rattle.wire_name.proofs.element_refusal.Tie as tie
 
 at-requires : tie.Need-at-requires
 at-requires c κs = search needs

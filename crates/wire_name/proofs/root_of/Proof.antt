@@ -1,10 +1,10 @@
--- `wire_reader::root_of` meets its contract: each part is the root's, by one law.
+-- `wire_name::root_of` meets its contract: each part is the root's, by one law.
 -- Assumes nothing.
 use native.Mathlib.Omega.{arith}
 use borrow.Author.Needs.{needs}
-use Rattle.wire_reader.proofs.Laws.{root-none, root-short, root-all}
-use Rattle.wire_reader.proofs.root_of.Statement.{statement}
-use Rattle.wire_reader.proofs.root_of.Tie as tie
+use Rattle.wire_name.proofs.Name.{root-none, root-short, root-all}
+use Rattle.wire_name.proofs.root_of.Statement.{statement}
+use Rattle.wire_name.proofs.root_of.Tie as tie
 
 root-length-requires : tie.Need-root-length-requires
 root-length-requires c κs = search needs

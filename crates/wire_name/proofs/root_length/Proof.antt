@@ -1,10 +1,10 @@
--- `wire_reader::root_length` meets its contract: it is the two calls, one after the other.
+-- `wire_name::root_length` meets its contract: it is the two calls, one after the other.
 -- Assumes nothing.
 use native.Mathlib.Omega.{arith}
 use Rattle.meaning.specs.Wire.{rootLength, familyIn}
 use borrow.Author.Needs.{needs}
-use Rattle.wire_reader.proofs.root_length.Statement.{statement}
-use Rattle.wire_reader.proofs.root_length.Tie as tie
+use Rattle.wire_name.proofs.root_length.Statement.{statement}
+use Rattle.wire_name.proofs.root_length.Tie as tie
 
 two-at-requires : tie.Need-two-at-requires
 two-at-requires c κs = search needs
