@@ -1,5 +1,5 @@
 -- Laws by which what is written is the reply. Assumes nothing.
-use Prim.Native.Nat.{ℕ, _-_, _≤_, _*_}
+use Prim.Native.Nat.{ℕ, _-_, _≤_, _*_, min}
 use native.Mathlib.Omega.{arith}
 use mathlib.Core.Path.{_≡_, refl, sym, ap, _∙_}
 use mathlib.Core.List.{List, [], _∷_}
@@ -10,7 +10,7 @@ use denote.Enum.Declared.{tagOf}
 use types.Run.{OneOf, miss}
 use Rattle.meaning.specs.Lists.{by-test}
 use Rattle.meaning.specs.Wire.{records}
-use Rattle.meaning.specs.Card.{Card, Feed}
+use Rattle.meaning.specs.Card.{Card, Feed, sentLimit}
 use Rattle.meaning.specs.Events.{Out, Outcome, refused, taken, refuse, accept, roomShort, noNeighbour, finish, Event, outcome, event}
 use Rattle.meaning.specs.Notice.{noticeDue, noticeRecord, notice}
 use Rattle.meaning.specs.Save.{saved, save, saveLimit}
@@ -20,7 +20,7 @@ use Rattle.bench_orders.specs.Tells.{meant, Lies, SaveLies, InLine}
 use Rattle.bench_orders.specs.declared.Order.{Order}
 use Rattle.bench_orders.proofs.Order.{the-type}
 use Rattle.bench_lines.specs.Text.{countLine, eventLine, feedLine, textSpace}
-use Rattle.bench_replies.specs.Reply.{only, counted, told, replyTo, Says, WritesRecords}
+use Rattle.bench_replies.specs.Reply.{only, counted, told, eventRoom, replyTo, Says, WritesRecords}
 
 -- ---- octets that are no longer than the room
 
@@ -65,13 +65,22 @@ decoded {ys} {before} {r = r} p = rw (p .whole) (take-at ys (drop r before) r (s
 
 -- ---- replies
 
-pub says-told : (f : ℕ → List ℕ → Out) {l m : ℕ} {s os : List ℕ} {a : ℕ} {part : List ℕ} {card : Card} (word text : List ℕ) (room r : ℕ) → l ≡ m → s ≡ os → Hands (f l s) a part card → r ≤ textSpace → take r text ≡ eventLine word a part → Says (told word (f m os) room) r text card
+pub says-told : (f : ℕ → Out) {l m : ℕ} {a : ℕ} {part : List ℕ} {card : Card} (word text : List ℕ) (room r : ℕ) → l ≡ m → Hands (f l) a part card → r ≤ textSpace → take r text ≡ eventLine word a part → Says (told word (f m) room) r text card
 unfolding told
-says-told f {a = a} {part} word text room r el es h k e = record {
+says-told f {a = a} {part} word text room r el h k e = record {
   short = k;
-  line = let g = rw (el, es) at h in e ∙ rw (g .answers, g .hands) refl;
-  leaves = rw (← el, ← es) (h .leaves);
+  line = let g = rw el at h in e ∙ rw (g .answers, g .hands) refl;
+  leaves = rw (← el) (h .leaves);
 }
+
+-- AN ORDER THAT WRITES RECORDS: HEX is decoded to the front of some space, a call f is lent as many octets of the output as the room says, and what it answers and hands back is told
+module _ (f : ℕ → List ℕ → Out) (room : ℕ) {l whole n a : ℕ} {os before after part : List ℕ} {card : Card}
+    (all : sentLimit ≡ whole) (lent : l ≡ min room whole) (p : Puts os before after n) (h : Hands (f l (take n after)) a part card) where
+  pub record-fits : ((l : ℕ) (s : List ℕ) → length (f l s .octets) ≤ l) → length part ≤ saveLimit
+  record-fits fits = part-fits l saveLimit h (fits l _) (omega arith)
+
+  pub says-record : (word text : List ℕ) (r : ℕ) → r ≤ textSpace → take r text ≡ eventLine word a part → Says (told word (f (eventRoom room) os) room) r text card
+  says-record word text r k e = says-told (λ m. f m os) word text room r (omega arith) (rw (decoded p) at h) k e
 
 pub says-counted : (o : Out) {a : ℕ} {card : Card} (word text : List ℕ) (room r : ℕ) → a ≡ o .answer → card ≡ o .card → r ≤ textSpace → take r text ≡ countLine word a → Says (counted word o room) r text card
 unfolding counted
