@@ -51,7 +51,7 @@ pub fn find_name(numbers: &[u64], names: &[u8], element: &[u8], branches: &mut [
     }
     let i = memory_trees::tree_place(numbers, names, element);
     if i < memory::tree_count(numbers) {
-        let via = memory_trees::route_of(numbers, names, wire_name::root_of(element));
+        let via = memory_routes::route_of(numbers, names, wire_name::root_of(element));
         return feed_at(numbers, i, via, branches);
     }
     no_feed(branches)

@@ -56,7 +56,7 @@ pub fn upstream_of(numbers: &[u64], names: &[u8], name: &[u8]) -> u64
     requires { ⌜ Numbers (now numbers) × Names (now names) ⌝ }
     ensures { λ r. ⌜ (r ≡ upstream (routeOf (rootIn (now (name .entry))) (cardOf (now (numbers .entry)) (now (names .entry))))) × (r ≤ 17) × (r ≡ 16 → ⊥) ⌝ }
 {
-    let via = memory_trees::route_of(numbers, names, wire_name::root_of(name));
+    let via = memory_routes::route_of(numbers, names, wire_name::root_of(name));
     if via < 16 { via } else { 17 }
 }
 

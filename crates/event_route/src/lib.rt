@@ -28,7 +28,7 @@ fn routes_full(numbers: &[u64], names: &[u8], root: &[u8]) -> bool
     ensures { λ r. ⌜ r ≡ (eqb (routeOf (now (root .entry)) (cardOf (now (numbers .entry)) (now (names .entry)))) noRoute
         && leb routeLimit (length (cardOf (now (numbers .entry)) (now (names .entry)) .routes))) ⌝ }
 {
-    if memory_trees::route_of(numbers, names, root) == 17 {
+    if memory_routes::route_of(numbers, names, root) == 17 {
         return ROUTE_LIMIT <= memory::route_count(numbers);
     }
     false
@@ -58,12 +58,12 @@ fn set_route(numbers: &mut [u64], names: &mut [u8], root: &[u8], via: u64)
         × (routePlace (now root) (cardOf (now numbers) (now names)) ≡ length ((cardOf (now numbers) (now names)) .routes) → (via ≡ 17 → ⊥) × (length ((cardOf (now numbers) (now names)) .routes) < routeLimit)) ⌝ }
     ensures { λ _. ⌜ (cardOf (now (numbers .exit)) (now (names .exit))) ≡ withRoutes (routesWith (cardOf (now (numbers .entry)) (now (names .entry))) (now (root .entry)) via) (cardOf (now (numbers .entry)) (now (names .entry))) ⌝ }
 {
-    let i = memory_trees::route_place(numbers, names, root);
+    let i = memory_routes::route_place(numbers, names, root);
     if via == 17 {
-        memory_rows::remove_route(numbers, names, i);
+        memory_routes::remove_route(numbers, names, i);
         return;
     }
-    memory_rows::put_route(numbers, names, i, root, via);
+    memory_routes::put_route(numbers, names, i, root, via);
 }
 
 fn re_route(
@@ -99,7 +99,7 @@ pub fn change_route(
     ensures { λ r. ⌜ Does (finish (length (now (out .entry))) (cardOf (now (numbers .entry)) (now (names .entry))) (routeOrder (cardOf (now (numbers .entry)) (now (names .entry))) (now (root .entry)) via))
         (now (answer .exit)) r (now (out .entry)) (now (out .exit)) (cardOf (now (numbers .exit)) (now (names .exit))) ⌝ }
 {
-    if memory_trees::route_of(numbers, names, root) == via {
+    if memory_routes::route_of(numbers, names, root) == via {
         *answer = 0;
         return 0;
     }

@@ -13,13 +13,13 @@ use lib.Count.{ones, ones-le, trailingZeros}
 use borrow.Author.Tests.{lt-ltb, ltb-true, ltb-false, le-leb, lt-leb, eq-eqb, ne-eqb}
 use Rattle.meaning.specs.Octets.{any, place, count, same}
 use Rattle.meaning.specs.Lists.{by-test, getD-out}
-use Rattle.meaning.specs.Card.{Route, Tree, Use, withNext, withTrees, withBranch, withLeaf, withLabel, treeAt, isBranch, named, treePlace, free, withLabels, isFree, isAwaiting, mappedTo, useOf, heldFor, freeLabels, carries, isFor, routePlace, routeOf, mapped, awaiting, treeLimit, routeLimit, labelCount}
+use Rattle.meaning.specs.Card.{Tree, Use, withNext, withTrees, withBranch, withLeaf, withLabel, treeAt, isBranch, named, treePlace, free, withLabels, isFree, isAwaiting, mappedTo, useOf, heldFor, freeLabels, carries, mapped, awaiting, treeLimit, routeLimit, labelCount}
 use Rattle.meaning.specs.Events.{baseOutside, setLabel, setUse, ended}
 use Rattle.octets.specs.Part.{tab}
 use Rattle.octets.proofs.Tab.{tab-length, tab-get, tab-ext, tab-set, place-start, place-hit, place-miss, place-none, count-none}
 use Rattle.octets.proofs.Bits.{trailing-bit, Says, place-word, place-empty, count-word}
 use Rattle.memory.specs.Sizes.{nameSpace, routeColumn, ownColumn, rowWidth, rowColumn, branchColumn, rowNumbers, markColumn, wordCount, labelNumbers, treeOctets, labelOctets, rootOctets, labelNames, rootNames, Numbers}
-use Rattle.memory.specs.Memory.{upTo, textAt, treeName, baseIn, nextIn, routeCount, treeCount, routeIn, wordAt, isFreeAt, markAt, markUse, markPlace, isMappedAt, labelIn, ownPlace, carriesAt, ownLabel, treeIn, labelName, rootName, cardOf, Relabelled}
+use Rattle.memory.specs.Memory.{upTo, textAt, treeName, baseIn, nextIn, routeCount, treeCount, routeIn, wordAt, isFreeAt, markAt, markUse, markPlace, isMappedAt, labelIn, ownPlace, carriesAt, ownLabel, treeIn, labelName, cardOf, Relabelled}
 use Rattle.memory.proofs.Memory.{treeCount-le, base-range, text-part, text-le, base-same, next-same, routes-same, own-kept, tree-with, tree-same, trees-same, label-same, labels-same, agree-refl, agree-set, tree-at}
 use Rattle.memory.proofs.Marks.{never, mapped-at, mapped-use, unmapped-free, unmapped-above, label-free, label-mapped, label-awaiting, free-in, remarked, remarked-free, carried-in, carried-out, not-mapped, not-named, own-some, own-none, own-beside}
 
@@ -507,27 +507,6 @@ module _ (ns os : List ℕ) (i : ℕ) (l : Numbers ns) (h : i < treeCount ns) (i
           (rw o (own-none ms i p (not-mapped ms i p (done .0))))
           (λ k x y. r .rest k (omega arith))
           (agree-refl (i * nameSpace) nameSpace os))
-
--- ---- routes
-
-pub routes-start : (r ns os : List ℕ) (n : ℕ) → n ≡ routeCount ns → routePlace r (cardOf ns os) ≡ 0 + place (isFor r) (drop 0 (tab n (routeIn ns os)))
-unfolding routePlace cardOf
-routes-start r ns os n e = rw e (omega arith)
-
-pub rooted-at : (r ns os : List ℕ) (i : ℕ) (a : List ℕ) → a ≡ rootName os i → isFor r (routeIn ns os i) ≡ same a r
-unfolding isFor routeIn
-rooted-at r ns os i a e = rw e refl
-
-route-at : (r ns os : List ℕ) (i : ℕ) → i ≡ routePlace r (cardOf ns os) → routeOf r (cardOf ns os) ≡ getD (tab (routeCount ns) (routeIn ns os)) i (record { root = r; via = 17 }) .via
-unfolding routeOf cardOf
-route-at r ns os i e = ap (λ (k : ℕ). getD (tab (routeCount ns) (routeIn ns os)) k (record { root = r; via = 17 }) .via) (sym e)
-
-pub route-some : (r ns os : List ℕ) (i n : ℕ) → i ≡ routePlace r (cardOf ns os) → n ≡ routeCount ns → i < n → getD ns (routeColumn + i) 0 ≡ routeOf r (cardOf ns os)
-unfolding routeIn
-route-some r ns os i n e k h = sym (route-at r ns os i e ∙ ap (λ (x : Route). x .via) (tab-get (routeCount ns) (routeIn ns os) i _ (omega arith)))
-
-pub route-none : (r ns os : List ℕ) (i n : ℕ) → i ≡ routePlace r (cardOf ns os) → n ≡ routeCount ns → n ≤ i → 17 ≡ routeOf r (cardOf ns os)
-route-none r ns os i n e k h = sym (route-at r ns os i e ∙ ap (λ (x : Route). x .via) (getD-out (tab (routeCount ns) (routeIn ns os)) i _ (rw tab-length (omega arith))))
 
 -- ---- a mapped label, and one that is neither free nor mapped
 

@@ -1,3 +1,4 @@
 pub mod Memory
 pub mod Marks
+pub mod Parts
 pub mod Laws

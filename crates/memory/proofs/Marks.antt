@@ -175,3 +175,8 @@ own-beside ns ms p i q r h =
     (λ t.
     let ne = eqb-false q p t in
     own-same ns ms ns ns i q (λ j a b. r .rest j (omega arith)) (λ l. r .marks q l ne) (λ l. r .frees q l ne))
+
+-- the same use, whatever place the mark names
+pub use-kept : (ns ms os : List ℕ) (p : ℕ) → markUse (markAt ms p) ≡ markUse (markAt ns p) → isFreeAt ms p ≡ isFreeAt ns p → labelIn ms os p ≡ labelIn ns os p
+unfolding labelIn
+use-kept ns ms os p e f = rw (e, f) refl

@@ -10,7 +10,7 @@ use borrow.Author.Tests.{le-ltb, ltb-true, ltb-false, leb-true, not-false}
 use Rattle.meaning.specs.Wire.{rootLimit, nameLimit}
 use Rattle.meaning.specs.Lists.{by-test}
 use Rattle.meaning.specs.RoundTrip.{both}
-use Rattle.meaning.specs.Card.{labelCount, withLabel, bare, treeAt, treeLimit, routeLimit}
+use Rattle.meaning.specs.Card.{Route, Tree, Use, labelCount, withLabel, withRoutes, withTrees, withLabels, bare, treeAt, treeLimit, routeLimit}
 use Rattle.meaning.specs.Events.{baseOutside}
 use Rattle.octets.specs.Part.{tab}
 use Rattle.octets.proofs.Tab.{tab-length, tab-get, tab-ext, tab-is}
@@ -143,6 +143,33 @@ module _ (ns ns' os os' : List ℕ) where
   labels-same m n =
       tab-ext labelCount _ _ (λ p lt.
       label-same p (m (markColumn + p) (omega arith) (omega arith)) (free-same (λ j x y. m j (omega arith) (omega arith)) p lt) (λ j x y. n j (omega arith) (omega arith)))
+
+-- ---- the card, but for some of its parts
+
+module _ (ns ns' os os' : List ℕ) where
+  -- the memory of all but the trees and the labels is as it was
+  pub but-rows : (ts : List Tree) (ls : List Use) → Agree 0 3 ns ns' → Agree routeColumn routeLimit ns ns' → Agree rootNames rootOctets os os' → tab (treeCount ns') (treeIn ns' os') ≡ ts → tab labelCount (labelIn ns' os') ≡ ls → cardOf ns' os' ≡ withTrees ts (withLabels ls (cardOf ns os))
+  unfolding cardOf withTrees withLabels
+  but-rows ts ls head vias roots trees labels =
+      let b : baseIn ns' ≡ baseIn ns = base-same ns ns' os os' (λ j x y. head j (omega arith) (omega arith)) in
+      let n : nextIn ns' ≡ nextIn ns = next-same ns ns' os os' (λ j x y. head j (omega arith) (omega arith)) in
+      let r : tab (routeCount ns') (routeIn ns' os') ≡ tab (routeCount ns) (routeIn ns os) = routes-same ns ns' os os' (λ j x y. head j (omega arith) (omega arith)) vias roots in
+      cc
+
+  -- of all but the trees
+  pub but-trees : (ts : List Tree) → Agree 0 3 ns ns' → Agree routeColumn routeLimit ns ns' → Agree rootNames rootOctets os os' → ((p : ℕ) → p < labelCount → labelIn ns' os' p ≡ labelIn ns os p) → tab (treeCount ns') (treeIn ns' os') ≡ ts → cardOf ns' os' ≡ withTrees ts (cardOf ns os)
+  but-trees ts head vias roots labels trees =
+      but-rows ts (tab labelCount (labelIn ns os)) head vias roots trees (tab-ext labelCount (labelIn ns' os') (labelIn ns os) labels) ∙ unfold cardOf withTrees withLabels in refl
+
+  -- and of all but the routes
+  pub but-routes : (rs : List Route) → Agree 0 2 ns ns' → Agree 3 1 ns ns' → Agree ownColumn (treeLimit + rowNumbers + labelNumbers) ns ns' → Agree 0 rootNames os os' → tab (routeCount ns') (routeIn ns' os') ≡ rs → cardOf ns' os' ≡ withRoutes rs (cardOf ns os)
+  unfolding cardOf withRoutes
+  but-routes rs head count rows names routes =
+      let b : baseIn ns' ≡ baseIn ns = base-same ns ns' os os' (λ j x y. head j (omega arith) (omega arith)) in
+      let n : nextIn ns' ≡ nextIn ns = next-same ns ns' os os' (λ j x y. head j (omega arith) (omega arith)) in
+      let t : tab (treeCount ns') (treeIn ns' os') ≡ tab (treeCount ns) (treeIn ns os) = trees-same ns ns' os os' (λ j x y. head j (omega arith) (omega arith)) count (λ j x y. rows j (omega arith) (omega arith)) (λ j x y. rows j (omega arith) (omega arith)) (λ j x y. rows j (omega arith) (omega arith)) (λ j x y. names j (omega arith) (omega arith)) in
+      let l : tab labelCount (labelIn ns' os') ≡ tab labelCount (labelIn ns os) = labels-same ns ns' os os' (λ j x y. rows j (omega arith) (omega arith)) (λ j x y. names j (omega arith) (omega arith)) in
+      cc
 
 -- the same places of the same list
 pub agree-refl : (p k : ℕ) (xs : List ℕ) → Agree p k xs xs

@@ -1,11 +1,12 @@
-// The card's memory: its head, and the texts in it. The memory is two lent arrays; specs/Memory.antt says which card they
+// The card's memory: its head, and the texts and rows in it. The memory is two lent arrays; specs/Memory.antt says which card they
 // denote, and docs/MEMORY.md draws them. A function that sees the numbers alone speaks of every content of the octets.
 ghost use mathlib.Core.Path.{_≡_};
-ghost use mathlib.Core.List.{List};
+ghost use mathlib.Core.List.{List, _∷_};
 ghost use Prim.Native.Nat.{ℕ, _+_, _-_, _≤_, _<_};
-ghost use lib.ListN.{length};
+ghost use lib.ListN.{length, replicate};
 ghost use Rattle.meaning.specs.Card.{withNext, routeLimit, treeLimit};
 ghost use Rattle.memory.specs.Sizes.{Numbers};
+ghost use Rattle.memory.specs.Parts.{Written, Closed};
 ghost use Rattle.memory.specs.Memory.{cardOf, baseIn, treeCount, routeCount, textAt};
 use meaning::LABEL_COUNT;
 use meaning::NAME_LIMIT;
@@ -114,4 +115,39 @@ pub fn text(names: &[u8], k: usize, a: usize) -> &[u8]
     }
     let e = s + k;
     &names[s..e]
+}
+
+// A text in its slot: its length, and then its octets.
+pub fn put_text(names: &mut [u8], at: usize, text: &[u8])
+    requires { ⌜ (at + 1 + length (now text) ≤ length (now names)) × (length (now text) < 256) ⌝ }
+    ensures { λ _. ⌜ Written at (length (now (text .entry)) ∷ now (text .entry)) (now (names .entry)) (now (names .exit)) ⌝ }
+{
+    names[at] = text.len() as u8;
+    let f = at + 1;
+    let e = f + text.len();
+    octets::copy(&mut names[f..e], text);
+}
+
+// ---- rows
+
+pub fn close_numbers(numbers: &mut [u64], a: usize, e: usize, w: usize)
+    requires { ⌜ (a + w ≤ e) × (e ≤ length (now numbers)) ⌝ }
+    ensures { λ _. ⌜ Closed a e w (now (numbers .entry)) (now (numbers .exit)) ⌝ }
+{
+    octets::shift_numbers(&mut numbers[a..e], w);
+}
+
+pub fn close_octets(names: &mut [u8], a: usize, e: usize, w: usize)
+    requires { ⌜ (a + w ≤ e) × (e ≤ length (now names)) ⌝ }
+    ensures { λ _. ⌜ Closed a e w (now (names .entry)) (now (names .exit)) ⌝ }
+{
+    octets::shift_octets(&mut names[a..e], w);
+}
+
+pub fn clear(numbers: &mut [u64], a: usize, k: usize)
+    requires { ⌜ a + k ≤ length (now numbers) ⌝ }
+    ensures { λ _. ⌜ Written a (replicate k 0) (now (numbers .entry)) (now (numbers .exit)) ⌝ }
+{
+    let e = a + k;
+    octets::zero(&mut numbers[a..e]);
 }

@@ -16,14 +16,12 @@ use Rattle.meaning.specs.Events.{setUse, setLabel}
 use Rattle.octets.specs.Part.{mid}
 use Rattle.octets.proofs.Tab.{tab-ext, tab-set}
 use Rattle.memory.specs.Sizes.{nameSpace, ownColumn, markColumn, wordColumn, wordCount, nowhere, rootOctets, labelNames, rootNames, Numbers, Names}
+use Rattle.memory.specs.Parts.{Written}
 use Rattle.memory.specs.Memory.{treeName, labelName, baseIn, treeCount, isFreeAt, markAt, markUse, markPlace, isMappedAt, labelIn, carriesAt, ownPlace, ownLabel, treeIn, cardOf, Relabelled}
-use Rattle.memory.proofs.Memory.{treeCount-le, base-same, free-same, own-same, tree-with, tree-same, label-same, agree-refl, agree-set, tree-at}
-use Rattle.memory.proofs.Marks.{mapped-at, mapped-use, unmapped-free, label-mapped, label-awaiting, carried-in, not-mapped, not-named, own-some, relabelled-again, remarked, remarked-free, own-beside}
+use Rattle.memory.proofs.Memory.{treeCount-le, base-same, free-same, own-same, tree-with, tree-same, label-same, but-rows, but-trees, agree-refl, agree-set, tree-at}
+use Rattle.memory.proofs.Marks.{mapped-at, mapped-use, unmapped-free, label-mapped, label-awaiting, carried-in, not-mapped, not-named, own-some, use-kept, relabelled-again, remarked, remarked-free, own-beside}
+use Rattle.memory.proofs.Parts.{written, Carries, text-carried, text-put}
 use Rattle.memory.proofs.Laws.{label-at}
-use Rattle.memory_rows.specs.Parts.{Written}
-use Rattle.memory_rows.proofs.Parts.{written, Carries, text-carried, text-put}
-use Rattle.memory_rows.proofs.Lower.{use-kept}
-use Rattle.memory_rows.proofs.Rows.{but-rows, but-trees}
 
 -- ---- a label mapped
 

@@ -49,7 +49,7 @@ pub fn put_use(numbers: &mut [u64], names: &mut [u8], place: usize, held: bool, 
     ensures { λ _. ⌜ cardOf (now (numbers .exit)) (now (names .exit))
         ≡ withLabels (set (cardOf (now (numbers .entry)) (now (names .entry)) .labels) place (pick held (mapped n (now (name .entry))) (awaiting n (now (name .entry))))) (cardOf (now (numbers .entry)) (now (names .entry))) ⌝ }
 {
-    memory_rows::put_text(names, LABEL_NAMES + place * NAME_SPACE, name);
+    memory::put_text(names, LABEL_NAMES + place * NAME_SPACE, name);
     memory_labels::set_taken(numbers, place);
     numbers[MARK_COLUMN + place] = use_of(held, n) + NOWHERE;
 }

@@ -13,13 +13,8 @@ use Rattle.meaning.specs.Card.{labelCount, treeLimit}
 use Rattle.memory.specs.Sizes.{nameSpace, ownColumn, markColumn, wordColumn, wordCount, labelNames, Numbers, noLabel}
 use Rattle.memory.specs.Memory.{markAt, markUse, markPlace, isFreeAt, isMappedAt, labelIn, ownPlace, carriesAt, Relabelled}
 use Rattle.memory.proofs.Memory.{base-same, free-same, own-same, label-same, agree-refl, agree-set}
-use Rattle.memory.proofs.Marks.{mapped-at, mapped-use, carried-in, carried-out, not-far, not-named, own-some, own-none, remarked, remarked-free, own-beside}
-use Rattle.memory_rows.specs.Parts.{Lowered, LoweredOne}
-
--- the same use, whatever place the mark names
-pub use-kept : (ns ms os : List ℕ) (p : ℕ) → markUse (markAt ms p) ≡ markUse (markAt ns p) → isFreeAt ms p ≡ isFreeAt ns p → labelIn ms os p ≡ labelIn ns os p
-unfolding labelIn
-use-kept ns ms os p e f = rw (e, f) refl
+use Rattle.memory.proofs.Marks.{mapped-at, mapped-use, carried-in, carried-out, not-far, not-named, own-some, own-none, use-kept, remarked, remarked-free, own-beside}
+use Rattle.memory_rows.specs.Lower.{Lowered, LoweredOne}
 
 module _ (ns : List ℕ) (j : ℕ) (l : Numbers ns) (h : j + 1 < treeLimit) where
   -- the tree carries its label

@@ -1,64 +1,31 @@
--- The card after a tree or a route has come or gone, and at the start. Assumes nothing.
+-- The card after a tree has come or gone, and at the start. Assumes nothing.
 use Prim.Native.Nat.{ℕ, zero, suc, _+_, _*_, _-_, _/_, _%_, _≤_, _<_, suc-le-suc, zero-le}
 use native.Mathlib.Nat.{add-zero}
 use native.Mathlib.Omega.{arith}
-use mathlib.Core.Path.{_≡_, refl, sym, ap, _∙_}
-use mathlib.Core.Bool.{Bool, true}
+use mathlib.Core.Path.{_≡_, refl, ap, _∙_}
+use mathlib.Core.Bool.{true}
 use mathlib.Core.List.{List, [], _∷_, _++_}
 use lib.ListN.{length, getD, set, replicate, length-set, length-replicate}
 use lib.Seq.{getD-set-same, getD-set-other}
 use borrow.Author.Tests.{le-leb}
-use Rattle.meaning.specs.Octets.{place, put, cut}
-use Rattle.meaning.specs.Wire.{rootLimit, nameLimit}
-use Rattle.meaning.specs.Lists.{picked, place-finds, same-eq}
-use Rattle.meaning.specs.Card.{Route, Tree, Use, Card, free, labelCount, fresh, withRoutes, withTrees, withLabels, bare, isFor, routePlace, treeLimit, routeLimit}
+use Rattle.meaning.specs.Octets.{cut}
+use Rattle.meaning.specs.Wire.{nameLimit}
+use Rattle.meaning.specs.Card.{free, labelCount, fresh, withTrees, bare, treeLimit}
 use Rattle.meaning.specs.Events.{baseOutside}
 use Rattle.octets.specs.Part.{tab}
-use Rattle.octets.proofs.Tab.{tab-length, tab-get, tab-ext, tab-set, tab-snoc, tab-cut, put-in, put-end}
+use Rattle.octets.proofs.Tab.{tab-ext, tab-snoc, tab-cut}
 use Rattle.octets.proofs.Bits.{all-set}
-use Rattle.memory.specs.Sizes.{rootSpace, nameSpace, routeColumn, ownColumn, rowWidth, rowColumn, branchColumn, rowNumbers, markColumn, wordColumn, wordCount, labelNumbers, rootOctets, rootNames, Numbers, noLabel}
-use Rattle.memory.specs.Memory.{upTo, textAt, treeName, rootName, baseIn, nextIn, routeCount, treeCount, routeIn, wordAt, isFreeAt, labelIn, ownPlace, ownLabel, treeIn, cardOf}
-use Rattle.memory.proofs.Memory.{upTo-le, upTo-in, Agree, base-same, next-same, route-same, routes-same, free-same, own-same, own-kept, tree-same, trees-same, label-same, labels-same, agree-refl, agree-set}
+use Rattle.memory.specs.Sizes.{nameSpace, ownColumn, rowWidth, rowColumn, branchColumn, markColumn, wordColumn, wordCount, Numbers, noLabel}
+use Rattle.memory.specs.Parts.{Written, Closed}
+use Rattle.memory.specs.Memory.{upTo, textAt, treeName, baseIn, nextIn, routeCount, treeCount, routeIn, wordAt, isFreeAt, labelIn, ownPlace, ownLabel, treeIn, cardOf}
+use Rattle.memory.proofs.Memory.{upTo-le, upTo-in, free-same, own-same, own-kept, tree-same, label-same, but-trees}
 use Rattle.memory.proofs.Marks.{label-free, not-far, own-none}
-use Rattle.memory_rows.specs.Parts.{Written, Closed, Lowered}
-use Rattle.memory_rows.proofs.Parts.{Carries, lower, text-carried, text-put}
+use Rattle.memory.proofs.Parts.{Carries, lower, text-carried, text-put}
+use Rattle.memory_rows.specs.Lower.{Lowered}
 
--- ---- the rest of the card
+-- ---- a row that stands at another place
 
 module _ (ns ns' os os' : List ℕ) where
-  -- the memory of all but the trees and the labels is as it was
-  pub but-rows : (ts : List Tree) (ls : List Use) → Agree 0 3 ns ns' → Agree routeColumn routeLimit ns ns' → Agree rootNames rootOctets os os' → tab (treeCount ns') (treeIn ns' os') ≡ ts → tab labelCount (labelIn ns' os') ≡ ls → cardOf ns' os' ≡ withTrees ts (withLabels ls (cardOf ns os))
-  unfolding cardOf withTrees withLabels
-  but-rows ts ls head vias roots trees labels =
-      let b : baseIn ns' ≡ baseIn ns = base-same ns ns' os os' (λ j x y. head j (omega arith) (omega arith)) in
-      let n : nextIn ns' ≡ nextIn ns = next-same ns ns' os os' (λ j x y. head j (omega arith) (omega arith)) in
-      let r : tab (routeCount ns') (routeIn ns' os') ≡ tab (routeCount ns) (routeIn ns os) = routes-same ns ns' os os' (λ j x y. head j (omega arith) (omega arith)) vias roots in
-      cc
-
-  -- of all but the trees
-  pub but-trees : (ts : List Tree) → Agree 0 3 ns ns' → Agree routeColumn routeLimit ns ns' → Agree rootNames rootOctets os os' → ((p : ℕ) → p < labelCount → labelIn ns' os' p ≡ labelIn ns os p) → tab (treeCount ns') (treeIn ns' os') ≡ ts → cardOf ns' os' ≡ withTrees ts (cardOf ns os)
-  but-trees ts head vias roots labels trees =
-      but-rows ts (tab labelCount (labelIn ns os)) head vias roots trees (tab-ext labelCount (labelIn ns' os') (labelIn ns os) labels) ∙ unfold cardOf withTrees withLabels in refl
-
-  -- and of all but the routes
-  but-routes : (rs : List Route) → Agree 0 2 ns ns' → Agree 3 1 ns ns' → Agree ownColumn (treeLimit + rowNumbers + labelNumbers) ns ns' → Agree 0 rootNames os os' → tab (routeCount ns') (routeIn ns' os') ≡ rs → cardOf ns' os' ≡ withRoutes rs (cardOf ns os)
-  unfolding cardOf withRoutes
-  but-routes rs head count rows names routes =
-      let b : baseIn ns' ≡ baseIn ns = base-same ns ns' os os' (λ j x y. head j (omega arith) (omega arith)) in
-      let n : nextIn ns' ≡ nextIn ns = next-same ns ns' os os' (λ j x y. head j (omega arith) (omega arith)) in
-      let t : tab (treeCount ns') (treeIn ns' os') ≡ tab (treeCount ns) (treeIn ns os) = trees-same ns ns' os os' (λ j x y. head j (omega arith) (omega arith)) count (λ j x y. rows j (omega arith) (omega arith)) (λ j x y. rows j (omega arith) (omega arith)) (λ j x y. rows j (omega arith) (omega arith)) (λ j x y. names j (omega arith) (omega arith)) in
-      let l : tab labelCount (labelIn ns' os') ≡ tab labelCount (labelIn ns os) = labels-same ns ns' os os' (λ j x y. rows j (omega arith) (omega arith)) (λ j x y. names j (omega arith) (omega arith)) in
-      cc
-
-  -- ---- rows that stand at another place
-
-  route-carried : (i j : ℕ) → Carries (routeColumn + i) (routeColumn + j) 1 ns ns' → Carries (rootNames + i * rootSpace) (rootNames + j * rootSpace) rootSpace os os' → routeIn ns' os' j ≡ routeIn ns os i
-  unfolding routeIn rootName
-  route-carried i j v r =
-      let via : getD ns' (routeColumn + j) 0 ≡ getD ns (routeColumn + i) 0 = simp add-zero at (v 0 (omega arith)) in
-      let root : textAt rootLimit os' (rootNames + j * rootSpace) ≡ textAt rootLimit os (rootNames + i * rootSpace) = text-carried rootLimit (rootNames + i * rootSpace) (rootNames + j * rootSpace) os os' r in
-      cc
-
   tree-carried : (i j : ℕ) → ownLabel ns' j (ownPlace ns' j) ≡ ownLabel ns i (ownPlace ns i) → Carries (rowColumn + i * rowWidth) (rowColumn + j * rowWidth) rowWidth ns ns' → Carries (i * nameSpace) (j * nameSpace) nameSpace os os' → treeIn ns' os' j ≡ treeIn ns os i
   unfolding treeIn treeName
   tree-carried i j l r n =
@@ -156,34 +123,6 @@ start-fresh ns zs os base h lo hi e =
     rest j k h = full-rest ks v j h ∙ getD-set-other (set zs 0 base) 1 j 1 0 (λ q. omega arith) ∙ getD-set-other zs 0 j base 0 (λ q. omega arith) ∙ ap (λ (l : List ℕ). getD l j 0) e ∙ zeros (length ns) j
 
 -- ---- a row goes
-
-pub remove-route : (ns vs os qs : List ℕ) (i n : ℕ) → Numbers ns → n ≡ routeCount ns → i < n
-    → Closed (routeColumn + i) (routeColumn + n) 1 ns vs → Closed (rootNames + i * rootSpace) (rootNames + n * rootSpace) rootSpace os qs
-    → cardOf (set vs 2 (n - 1)) qs ≡ withRoutes (cut (cardOf ns os .routes) i) (cardOf ns os)
-unfolding routeCount cardOf
-remove-route ns vs os qs i n hl hn hi cv cr =
-    but-routes ns ms os qs _
-    (λ j x y. keep j (λ e. omega arith) (λ u v. omega arith))
-    (λ j x y. keep j (λ e. omega arith) (λ u v. omega arith))
-    (λ j x y. keep j (λ e. omega arith) (λ u v. omega (arith, limit)))
-    (λ j x y. cr .rest j (λ u v. omega arith))
-    (rw (count, ← hn)
-    (tab-cut n i (routeIn ns os) (routeIn ms qs) (record { root = []; via = 0 }) hi
-    (λ j lt. route-same ns ms os qs j (λ k x y. keep k (λ e. omega arith) (λ u v. omega arith)) (λ k x y. cr .rest k (λ u v. omega arith)))
-    (λ j le lt. route-carried ns ms os qs (j + 1) j (λ k h. getD-set-other vs 2 (routeColumn + j + k) (n - 1) 0 (λ e. omega arith) ∙ lower (routeColumn + i) (routeColumn + n) 1 (4 + (j + 1)) (routeColumn + j) 1 ns vs cv (omega arith) (omega arith) (omega arith) k h)
-    (lower (rootNames + i * rootSpace) (rootNames + n * rootSpace) rootSpace (rootNames + (j + 1) * rootSpace) (rootNames + j * rootSpace) rootSpace os qs cr (omega arith) (omega arith) (omega arith)))))
-  where
-    ms : List ℕ
-    ms = set vs 2 (n - 1)
-
-    limit : n ≤ routeLimit
-    limit = omega (arith, upTo-le routeLimit (getD ns 2 0))
-
-    count : upTo routeLimit (getD ms 2 0) ≡ n - 1
-    count = ap (upTo routeLimit) (getD-set-same vs 2 (n - 1) 0 (omega (arith, cv .long))) ∙ upTo-in routeLimit (n - 1) (omega (arith, limit))
-
-    keep : (j : ℕ) → (j ≡ 2 → ⊥) → (routeColumn + i ≤ j → j < routeColumn + n → ⊥) → getD ms j 0 ≡ getD ns j 0
-    keep j ne out = getD-set-other vs 2 j (n - 1) 0 ne ∙ cv .rest j out
 
 pub remove-tree : (ns ks ls rs os qs : List ℕ) (i n : ℕ) → Numbers ns → n ≡ treeCount ns → i < n → Lowered i (n - 1) ns ks
     → Closed (ownColumn + i) (ownColumn + n) 1 ks ls → Closed (rowColumn + i * rowWidth) (rowColumn + n * rowWidth) rowWidth ls rs → Closed (i * nameSpace) (n * nameSpace) nameSpace os qs
@@ -296,82 +235,3 @@ enter-tree ns zs os qs o n hl hn h64 ho wr wn =
         (getD-set-other (set zs (ownColumn + n) noLabel) 3 (ownColumn + n) (n + 1) 0 (λ e. omega arith) ∙ getD-set-same zs (ownColumn + n) noLabel 0 (omega (arith, wr .long)))
         (λ j lt. getD-set-other (set zs (ownColumn + n) noLabel) 3 (rowColumn + n * rowWidth + j) (n + 1) 0 (λ e. omega arith) ∙ getD-set-other zs (ownColumn + n) (rowColumn + n * rowWidth + j) noLabel 0 (λ e. omega arith) ∙ wr .here j lt ∙ zeros 17 j)
         wn
-
--- ---- a root's route
-
-place-le {ℓ} : {A : Type ℓ} (t : A → Bool) (l : List A) → place t l ≤ length l
-unfolding place
-place-le t [] = omega arith
-place-le t (x ∷ l) = picked (λ (k : ℕ). k ≤ suc (length l)) (t x) (λ _. omega arith) (λ _. suc-le-suc (place-le t l))
-
--- what the search found
-found-root : (ns os o : List ℕ) (i : ℕ) → i ≡ routePlace o (cardOf ns os) → i < routeCount ns → rootName os i ≡ o
-unfolding routePlace cardOf isFor routeIn
-found-root ns os o i e h =
-    let none : Route = record { root = []; via = 0 } in
-    let lt : place (isFor o) (tab (routeCount ns) (routeIn ns os)) < length (tab (routeCount ns) (routeIn ns os)) = rw (tab-length, ← e) h in
-    let found = place-finds (isFor o) (tab (routeCount ns) (routeIn ns os)) none lt in
-    same-eq _ _ (rw (← e, tab-get (routeCount ns) (routeIn ns os) i none h) at found)
-
--- a route, by its two parts
-route-is : (ns os o : List ℕ) (i via : ℕ) → rootName os i ≡ o → getD ns (routeColumn + i) 0 ≡ via → _≡_ {A = Route} (routeIn ns os i) (record { root = o; via = via })
-unfolding routeIn
-route-is ns os o i via r v = cc
-
-pub set-route : (ns os o : List ℕ) (i via : ℕ) → Numbers ns → i ≡ routePlace o (cardOf ns os) → i < routeCount ns
-    → cardOf (set ns (routeColumn + i) via) os ≡ withRoutes (put (cardOf ns os .routes) (routePlace o (cardOf ns os)) (record { root = o; via = via })) (cardOf ns os)
-unfolding routeCount cardOf
-set-route ns os o i via hl e h =
-    rw (← e)
-    (but-routes ns ms os os _
-    (agree-set 0 2 ns (routeColumn + i) via (λ u v. omega arith))
-    (agree-set 3 1 ns (routeColumn + i) via (λ u v. omega arith))
-    (agree-set ownColumn (treeLimit + rowNumbers + labelNumbers) ns (routeColumn + i) via (λ u v. omega (arith, limit)))
-    (agree-refl 0 rootNames os)
-    (rw (count, put-in (tab (routeCount ns) (routeIn ns os)) i (record { root = o; via = via }) (rw tab-length h))
-    (tab-set (routeCount ns) (routeIn ns os) (routeIn ms os) i _ h
-    (route-is ms os o i via (found-root ns os o i e h) (getD-set-same ns (routeColumn + i) via 0 (omega (arith, limit))))
-    (λ j ne lt. route-same ns ms os os j (agree-set (routeColumn + j) 1 ns (routeColumn + i) via (λ u v. ne (omega arith))) (agree-refl (rootNames + j * rootSpace) rootSpace os)))))
-  where
-    ms : List ℕ
-    ms = set ns (routeColumn + i) via
-
-    limit : i < routeLimit
-    limit = omega (arith, upTo-le routeLimit (getD ns 2 0))
-
-    count : getD ms 2 0 ≡ getD ns 2 0
-    count = getD-set-other ns (routeColumn + i) 2 via 0 (λ e. omega arith)
-
--- one behind the others
-pub append-route : (ns os qs o : List ℕ) (n via : ℕ) → Numbers ns → n ≡ routeCount ns → n < routeLimit → length o ≤ rootLimit
-    → Written (rootNames + n * rootSpace) (length o ∷ o) os qs
-    → cardOf (set (set ns (routeColumn + n) via) 2 (n + 1)) qs ≡ withRoutes (cardOf ns os .routes ++ (record { root = o; via = via } ∷ [])) (cardOf ns os)
-unfolding routeCount cardOf rootName
-append-route ns os qs o n via hl hn h32 ho w =
-    but-routes ns ms os qs _
-    (λ j x y. keep j (λ e. omega arith) (λ e. omega arith))
-    (λ j x y. keep j (λ e. omega arith) (λ e. omega arith))
-    (λ j x y. keep j (λ e. omega arith) (λ e. omega arith))
-    (λ j x y. w .rest j (λ u v. omega arith))
-    (rw (count, ← hn)
-    (tab-snoc n (routeIn ns os) (routeIn ms qs) _
-    (λ j lt. route-same ns ms os qs j (λ k x y. keep k (λ e. omega arith) (λ e. omega arith)) (λ k x y. w .rest k (λ u v. omega arith)))
-    (route-is ms qs o n via (text-put rootLimit (rootNames + n * rootSpace) o os qs ho w)
-    (getD-set-other (set ns (routeColumn + n) via) 2 (routeColumn + n) (n + 1) 0 (λ e. omega arith) ∙ getD-set-same ns (routeColumn + n) via 0 (omega arith)))))
-  where
-    ms : List ℕ
-    ms = set (set ns (routeColumn + n) via) 2 (n + 1)
-
-    count : upTo routeLimit (getD ms 2 0) ≡ n + 1
-    count = ap (upTo routeLimit) (getD-set-same (set ns (routeColumn + n) via) 2 (n + 1) 0 (rw length-set (omega arith))) ∙ upTo-in routeLimit (n + 1) (omega arith)
-
-    keep : (j : ℕ) → (j ≡ 2 → ⊥) → (j ≡ routeColumn + n → ⊥) → getD ms j 0 ≡ getD ns j 0
-    keep j ne me = getD-set-other (set ns (routeColumn + n) via) 2 j (n + 1) 0 ne ∙ getD-set-other ns (routeColumn + n) j via 0 me
-
--- no entry yet: that is where it is put
-pub add-route : (ns os o : List ℕ) (c : Card) (i n via : ℕ) → i ≡ routePlace o (cardOf ns os) → n ≡ routeCount ns → n ≤ i
-    → c ≡ withRoutes (cardOf ns os .routes ++ (record { root = o; via = via } ∷ [])) (cardOf ns os)
-    → c ≡ withRoutes (put (cardOf ns os .routes) (routePlace o (cardOf ns os)) (record { root = o; via = via })) (cardOf ns os)
-unfolding routePlace cardOf
-add-route ns os o c i n via e hn le h =
-    h ∙ ap (λ (rs : List Route). withRoutes rs (cardOf ns os)) (sym (put-end (tab (routeCount ns) (routeIn ns os)) (place (isFor o) (tab (routeCount ns) (routeIn ns os))) (record { root = o; via = via }) (omega (arith, tab-length (routeCount ns) (routeIn ns os), place-le (isFor o) (tab (routeCount ns) (routeIn ns os))))))

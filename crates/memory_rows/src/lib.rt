@@ -1,62 +1,24 @@
-// Trees and routes that come and go in the card's memory, and the fresh card.
+// Trees that come and go in the card's memory, and the fresh card.
 ghost use mathlib.Core.Path.{_≡_};
 ghost use mathlib.Core.List.{List, [], _∷_, _++_};
 ghost use Prim.Native.Nat.{ℕ, _+_, _-_, _≤_, _<_};
-ghost use lib.ListN.{length, replicate};
-ghost use Rattle.meaning.specs.Octets.{put, cut};
-ghost use Rattle.meaning.specs.Wire.{rootLimit, nameLimit};
-ghost use Rattle.meaning.specs.Card.{fresh, withTrees, withRoutes, bare, routePlace, routeLimit, treeLimit};
+ghost use lib.ListN.{length};
+ghost use Rattle.meaning.specs.Octets.{cut};
+ghost use Rattle.meaning.specs.Wire.{nameLimit};
+ghost use Rattle.meaning.specs.Card.{fresh, withTrees, bare, treeLimit};
 ghost use Rattle.memory.specs.Sizes.{Numbers, Names};
-ghost use Rattle.memory.specs.Memory.{cardOf, treeCount, routeCount};
-ghost use Rattle.memory_rows.specs.Parts.{Written, Closed, Lowered, LoweredOne};
+ghost use Rattle.memory.specs.Memory.{cardOf, treeCount};
+ghost use Rattle.memory_rows.specs.Lower.{Lowered, LoweredOne};
 use memory::FOURTH_WORD;
 use memory::MARK_COLUMN;
 use memory::NAME_SPACE;
 use memory::NO_LABEL;
 use memory::OWN_COLUMN;
-use memory::ROOT_NAMES;
-use memory::ROOT_SPACE;
-use memory::ROUTE_COLUMN;
 use memory::ROW_COLUMN;
 use memory::ROW_WIDTH;
 use memory::SECOND_WORD;
 use memory::THIRD_WORD;
 use memory::WORD_COLUMN;
-
-// ---- parts of the memory
-
-fn close_numbers(numbers: &mut [u64], a: usize, e: usize, w: usize)
-    requires { ⌜ (a + w ≤ e) × (e ≤ length (now numbers)) ⌝ }
-    ensures { λ _. ⌜ Closed a e w (now (numbers .entry)) (now (numbers .exit)) ⌝ }
-{
-    octets::shift_numbers(&mut numbers[a..e], w);
-}
-
-fn close_octets(names: &mut [u8], a: usize, e: usize, w: usize)
-    requires { ⌜ (a + w ≤ e) × (e ≤ length (now names)) ⌝ }
-    ensures { λ _. ⌜ Closed a e w (now (names .entry)) (now (names .exit)) ⌝ }
-{
-    octets::shift_octets(&mut names[a..e], w);
-}
-
-fn clear(numbers: &mut [u64], a: usize, k: usize)
-    requires { ⌜ a + k ≤ length (now numbers) ⌝ }
-    ensures { λ _. ⌜ Written a (replicate k 0) (now (numbers .entry)) (now (numbers .exit)) ⌝ }
-{
-    let e = a + k;
-    octets::zero(&mut numbers[a..e]);
-}
-
-// A text in its slot: its length, and then its octets.
-pub fn put_text(names: &mut [u8], at: usize, text: &[u8])
-    requires { ⌜ (at + 1 + length (now text) ≤ length (now names)) × (length (now text) < 256) ⌝ }
-    ensures { λ _. ⌜ Written at (length (now (text .entry)) ∷ now (text .entry)) (now (names .entry)) (now (names .exit)) ⌝ }
-{
-    names[at] = text.len() as u8;
-    let f = at + 1;
-    let e = f + text.len();
-    octets::copy(&mut names[f..e], text);
-}
 
 // ---- trees
 
@@ -67,8 +29,8 @@ pub fn enter_tree(numbers: &mut [u64], names: &mut [u8], name: &[u8])
         ≡ withTrees (cardOf (now (numbers .entry)) (now (names .entry)) .trees ++ (bare (now (name .entry)) ∷ [])) (cardOf (now (numbers .entry)) (now (names .entry))) ⌝ }
 {
     let n = memory::tree_count(numbers);
-    clear(numbers, ROW_COLUMN + n * ROW_WIDTH, ROW_WIDTH);
-    put_text(names, n * NAME_SPACE, name);
+    memory::clear(numbers, ROW_COLUMN + n * ROW_WIDTH, ROW_WIDTH);
+    memory::put_text(names, n * NAME_SPACE, name);
     numbers[OWN_COLUMN + n] = NO_LABEL;
     numbers[3] = (n + 1) as u64;
 }
@@ -108,62 +70,15 @@ pub fn remove_tree(numbers: &mut [u64], names: &mut [u8], i: usize)
 {
     let n = memory::tree_count(numbers);
     lower_behind(numbers, i, n);
-    close_numbers(numbers, OWN_COLUMN + i, OWN_COLUMN + n, 1);
-    close_numbers(
+    memory::close_numbers(numbers, OWN_COLUMN + i, OWN_COLUMN + n, 1);
+    memory::close_numbers(
         numbers,
         ROW_COLUMN + i * ROW_WIDTH,
         ROW_COLUMN + n * ROW_WIDTH,
         ROW_WIDTH,
     );
-    close_octets(names, i * NAME_SPACE, n * NAME_SPACE, NAME_SPACE);
+    memory::close_octets(names, i * NAME_SPACE, n * NAME_SPACE, NAME_SPACE);
     numbers[3] = (n - 1) as u64;
-}
-
-// ---- routes
-
-// A route comes, behind the others.
-pub fn append_route(numbers: &mut [u64], names: &mut [u8], root: &[u8], via: u64)
-    requires { ⌜ Numbers (now numbers) × Names (now names) × (routeCount (now numbers) < routeLimit) × (length (now root) ≤ rootLimit) ⌝ }
-    ensures { λ _. ⌜ cardOf (now (numbers .exit)) (now (names .exit))
-        ≡ withRoutes (cardOf (now (numbers .entry)) (now (names .entry)) .routes ++ (record { root = now (root .entry); via = via } ∷ [])) (cardOf (now (numbers .entry)) (now (names .entry))) ⌝ }
-{
-    let n = memory::route_count(numbers);
-    put_text(names, ROOT_NAMES + n * ROOT_SPACE, root);
-    numbers[ROUTE_COLUMN + n] = via;
-    numbers[2] = (n + 1) as u64;
-}
-
-// The route of the root whose place is i: its entry, or a new one behind the others.
-pub fn put_route(numbers: &mut [u64], names: &mut [u8], i: usize, root: &[u8], via: u64)
-    requires { ⌜ Numbers (now numbers) × Names (now names) × (length (now root) ≤ rootLimit)
-        × (i ≡ routePlace (now root) (cardOf (now numbers) (now names)))
-        × (routeCount (now numbers) ≤ routePlace (now root) (cardOf (now numbers) (now names)) → routeCount (now numbers) < routeLimit) ⌝ }
-    ensures { λ _. ⌜ cardOf (now (numbers .exit)) (now (names .exit))
-        ≡ withRoutes (put (cardOf (now (numbers .entry)) (now (names .entry)) .routes) (routePlace (now (root .entry)) (cardOf (now (numbers .entry)) (now (names .entry)))) (record { root = now (root .entry); via = via })) (cardOf (now (numbers .entry)) (now (names .entry))) ⌝ }
-{
-    let n = memory::route_count(numbers);
-    if i < n {
-        numbers[ROUTE_COLUMN + i] = via;
-        return;
-    }
-    append_route(numbers, names, root, via);
-}
-
-// A root's entry goes, and the gap is closed.
-pub fn remove_route(numbers: &mut [u64], names: &mut [u8], i: usize)
-    requires { ⌜ Numbers (now numbers) × Names (now names) × (i < routeCount (now numbers)) × (i < routeLimit) ⌝ }
-    ensures { λ _. ⌜ cardOf (now (numbers .exit)) (now (names .exit))
-        ≡ withRoutes (cut (cardOf (now (numbers .entry)) (now (names .entry)) .routes) i) (cardOf (now (numbers .entry)) (now (names .entry))) ⌝ }
-{
-    let n = memory::route_count(numbers);
-    close_numbers(numbers, ROUTE_COLUMN + i, ROUTE_COLUMN + n, 1);
-    close_octets(
-        names,
-        ROOT_NAMES + i * ROOT_SPACE,
-        ROOT_NAMES + n * ROOT_SPACE,
-        ROOT_SPACE,
-    );
-    numbers[2] = (n - 1) as u64;
 }
 
 // ---- the start

@@ -1,4 +1,4 @@
-// Trees and routes in the card's memory: what is asked of them, and what changes in one place.
+// Trees in the card's memory: what is asked of them, and what changes in one place.
 ghost use mathlib.Core.Path.{_≡_};
 ghost use mathlib.Core.Bool.{true, false};
 ghost use mathlib.Core.List.{List};
@@ -6,20 +6,16 @@ ghost use Prim.Native.Nat.{ℕ, _+_, _-_, _≤_, _<_};
 ghost use lib.ListN.{length, getD, set};
 ghost use Rattle.meaning.specs.Octets.{place, any};
 ghost use Rattle.meaning.specs.Wire.{nameLimit};
-ghost use Rattle.meaning.specs.Card.{withTrees, withBranch, withLeaf, treePlace, treeAt, isBranch, useOf, heldFor, routePlace, routeOf, carries, labelCount, routeLimit, treeLimit};
+ghost use Rattle.meaning.specs.Card.{withTrees, withBranch, withLeaf, treePlace, treeAt, isBranch, useOf, heldFor, carries, labelCount, treeLimit};
 ghost use Rattle.meaning.specs.Events.{setUse, setLabel, ended};
 ghost use Rattle.memory.specs.Sizes.{Numbers, Names};
-ghost use Rattle.memory.specs.Memory.{cardOf, baseIn, treeCount, routeCount, treeName, rootName, routeIn, carriesAt, ownPlace};
+ghost use Rattle.memory.specs.Memory.{cardOf, baseIn, treeCount, treeName, carriesAt, ownPlace};
 use meaning::NAME_LIMIT;
-use meaning::ROOT_LIMIT;
 use memory::BRANCH_COLUMN;
 use memory::LABELS;
 use memory::MARK_COLUMN;
 use memory::NAME_SPACE;
 use memory::OWN_COLUMN;
-use memory::ROOT_NAMES;
-use memory::ROOT_SPACE;
-use memory::ROUTE_COLUMN;
 use memory::ROW_COLUMN;
 use memory::ROW_WIDTH;
 
@@ -208,48 +204,4 @@ pub fn end_label(numbers: &mut [u64], i: usize)
 {
     let k = MARK_COLUMN + numbers[OWN_COLUMN + i] as usize;
     numbers[k] = numbers[k] % 256 + 16;
-}
-
-// ---- routes
-
-pub fn root_name(names: &[u8], i: usize) -> &[u8]
-    requires { ⌜ Names (now names) × (i < routeLimit) ⌝ }
-    ensures { λ r. ⌜ now r ≡ rootName (now (names .entry)) i ⌝ }
-{
-    memory::text(names, ROOT_LIMIT, ROOT_NAMES + i * ROOT_SPACE)
-}
-
-pub fn route_via(numbers: &[u64], i: usize) -> u64
-    requires { ⌜ Numbers (now numbers) × (i < routeLimit) ⌝ }
-    ensures { λ r. ⌜ ((os : List ℕ) → r ≡ routeIn (now (numbers .entry)) os i .via) ⌝ }
-{
-    numbers[ROUTE_COLUMN + i]
-}
-
-pub fn route_place(numbers: &[u64], names: &[u8], root: &[u8]) -> usize
-    requires { ⌜ Numbers (now numbers) × Names (now names) ⌝ }
-    ensures { λ r. ⌜ (r ≡ routePlace (now (root .entry)) (cardOf (now (numbers .entry)) (now (names .entry)))) × (r ≤ routeCount (now (numbers .entry))) × (r ≤ routeLimit) ⌝ }
-{
-    let n = memory::route_count(numbers);
-    let mut i = 0;
-    while i < n {
-        if octets::equal(root_name(names, i), root) {
-            return i;
-        }
-        i += 1;
-    }
-    n
-}
-
-// The route of a root: 0 to 15 a neighbour, 16 this node, 17 no route.
-pub fn route_of(numbers: &[u64], names: &[u8], root: &[u8]) -> u64
-    requires { ⌜ Numbers (now numbers) × Names (now names) ⌝ }
-    ensures { λ r. ⌜ r ≡ routeOf (now (root .entry)) (cardOf (now (numbers .entry)) (now (names .entry))) ⌝ }
-{
-    let i = route_place(numbers, names, root);
-    if i < memory::route_count(numbers) {
-        numbers[ROUTE_COLUMN + i]
-    } else {
-        17
-    }
 }

@@ -56,13 +56,13 @@ pub fn put_route(numbers: &[u64], names: &[u8], i: usize, out: &mut [u8])
         0x4c,
         0x53,
         2,
-        (memory_trees::route_via(numbers, i) % 256) as u8,
+        (memory_routes::route_via(numbers, i) % 256) as u8,
     ];
     octets::copy(&mut out[0..4], &head);
     save_texts::put_space(
         &mut out[4..ROUTE_SIZE],
         ROOT_LIMIT,
-        memory_trees::root_name(names, i),
+        memory_routes::root_name(names, i),
     );
 }
 

@@ -25,7 +25,7 @@ fn read_route(octets: &[u8], at: usize, numbers: &mut [u64], names: &mut [u8])
 {
     let root = save_fields::spaced(octets, at + 4, 16);
     let via = octets::at(octets, at + 3);
-    memory_rows::append_route(numbers, names, root, via);
+    memory_routes::append_route(numbers, names, root, via);
 }
 
 fn read_routes(octets: &[u8], n: usize, numbers: &mut [u64], names: &mut [u8])

@@ -16,10 +16,10 @@ fn is_route(numbers: &[u64], names: &[u8], i: usize) -> bool
     requires { ⌜ Numbers (now numbers) × Names (now names) × (i < routeLimit) ⌝ }
     ensures { λ r. ⌜ r ≡ isRoute (routeIn (now (numbers .entry)) (now (names .entry)) i) ⌝ }
 {
-    if 16 < memory_trees::route_via(numbers, i) {
+    if 16 < memory_routes::route_via(numbers, i) {
         return false;
     }
-    let n = memory_trees::root_name(names, i).len();
+    let n = memory_routes::root_name(names, i).len();
     if n == 4 {
         return true;
     }
@@ -49,7 +49,7 @@ fn root_from(numbers: &[u64], names: &[u8], from: usize, root: &[u8]) -> bool
     let n = memory::route_count(numbers);
     let mut i = from;
     while i < n {
-        if octets::equal(memory_trees::root_name(names, i), root) {
+        if octets::equal(memory_routes::root_name(names, i), root) {
             return true;
         }
         i += 1;
@@ -64,7 +64,7 @@ pub fn roots_once(numbers: &[u64], names: &[u8]) -> bool
     let n = memory::route_count(numbers);
     let mut i = 0;
     while i < n {
-        if root_from(numbers, names, i + 1, memory_trees::root_name(names, i)) {
+        if root_from(numbers, names, i + 1, memory_routes::root_name(names, i)) {
             return false;
         }
         i += 1;

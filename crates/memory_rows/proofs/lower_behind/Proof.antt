@@ -1,7 +1,7 @@
 use Prim.Native.Nat.{_-_, _≤_, _<_}
 use native.Mathlib.Omega.{arith}
 use mathlib.Core.Path.{_≡_, _∙_}
-use Rattle.memory_rows.specs.Parts.{Lowered}
+use Rattle.memory_rows.specs.Lower.{Lowered}
 use Rattle.memory_rows.proofs.Lower.{lowered-none, lowered-more}
 use Rattle.memory_rows.proofs.lower_behind.Statement.{statement}
 use Rattle.memory_rows.proofs.lower_behind.Tie as tie

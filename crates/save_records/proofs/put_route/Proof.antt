@@ -6,8 +6,8 @@ use Rattle.save_records.proofs.put_route.Statement.{statement}
 use Rattle.save_records.proofs.put_route.Tie as tie
 use Rattle.octets.proofs.copy.Reads as copy-reads
 use Rattle.save_texts.proofs.put_space.Reads as put-space-reads
-use Rattle.memory_trees.proofs.root_name.Reads as root-name-reads
-use Rattle.memory_trees.proofs.route_via.Reads as route-via-reads
+use Rattle.memory_routes.proofs.root_name.Reads as root-name-reads
+use Rattle.memory_routes.proofs.route_via.Reads as route-via-reads
 
 route-via-requires : tie.Need-route-via-requires
 route-via-requires c κs = search needs

@@ -8,9 +8,9 @@ use Rattle.meaning.specs.Card.{isFor, routePlace}
 use Rattle.octets.specs.Part.{tab}
 use Rattle.octets.proofs.Tab.{place-hit, place-miss, place-none}
 use Rattle.memory.specs.Memory.{cardOf, routeIn}
-use Rattle.memory.proofs.Laws.{routes-start, rooted-at}
-use Rattle.memory_trees.proofs.route_place.Statement.{statement}
-use Rattle.memory_trees.proofs.route_place.Tie as tie
+use Rattle.memory_routes.proofs.Routes.{routes-start, rooted-at}
+use Rattle.memory_routes.proofs.route_place.Statement.{statement}
+use Rattle.memory_routes.proofs.route_place.Tie as tie
 
 abbrev Inv-loop : tie.InvT-loop
 Inv-loop numbers names root n i₀ i = (i ≤ n) × (routePlace root (cardOf numbers names) ≡ i + place (isFor root) (drop i (tab n (routeIn numbers names))))

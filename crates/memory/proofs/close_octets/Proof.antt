@@ -1,7 +1,7 @@
-use Rattle.memory_rows.proofs.Parts.{closed}
+use Rattle.memory.proofs.Parts.{closed}
 use borrow.Author.Needs.{needs}
-use Rattle.memory_rows.proofs.close_octets.Statement.{statement}
-use Rattle.memory_rows.proofs.close_octets.Tie as tie
+use Rattle.memory.proofs.close_octets.Statement.{statement}
+use Rattle.memory.proofs.close_octets.Tie as tie
 
 sub-shift-octets : tie.Need-sub-shift-octets
 sub-shift-octets c = search needs

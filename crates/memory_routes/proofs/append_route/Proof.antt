@@ -1,9 +1,9 @@
-use Rattle.memory_rows.proofs.Rows.{append-route}
+use Rattle.memory_routes.proofs.Routes.{append-route}
 use lib.ListN.{length-set}
 use native.Mathlib.Omega.{arith}
 use borrow.Author.Needs.{needs}
-use Rattle.memory_rows.proofs.append_route.Statement.{statement}
-use Rattle.memory_rows.proofs.append_route.Tie as tie
+use Rattle.memory_routes.proofs.append_route.Statement.{statement}
+use Rattle.memory_routes.proofs.append_route.Tie as tie
 
 route-count-requires : tie.Need-route-count-requires
 route-count-requires c κs = search needs

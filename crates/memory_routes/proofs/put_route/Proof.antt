@@ -1,8 +1,8 @@
-use Rattle.memory_rows.proofs.Rows.{set-route, add-route}
+use Rattle.memory_routes.proofs.Routes.{set-route, add-route}
 use native.Mathlib.Omega.{arith}
 use borrow.Author.Needs.{needs}
-use Rattle.memory_rows.proofs.put_route.Statement.{statement}
-use Rattle.memory_rows.proofs.put_route.Tie as tie
+use Rattle.memory_routes.proofs.put_route.Statement.{statement}
+use Rattle.memory_routes.proofs.put_route.Tie as tie
 
 route-count-requires : tie.Need-route-count-requires
 route-count-requires c κs = search needs

@@ -1,8 +1,8 @@
 use native.Mathlib.Omega.{arith}
-use Rattle.memory_rows.proofs.Rows.{remove-route}
+use Rattle.memory_routes.proofs.Routes.{remove-route}
 use borrow.Author.Needs.{needs}
-use Rattle.memory_rows.proofs.remove_route.Statement.{statement}
-use Rattle.memory_rows.proofs.remove_route.Tie as tie
+use Rattle.memory_routes.proofs.remove_route.Statement.{statement}
+use Rattle.memory_routes.proofs.remove_route.Tie as tie
 
 route-count-requires : tie.Need-route-count-requires
 route-count-requires c κs = search needs

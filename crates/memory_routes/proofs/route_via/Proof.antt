@@ -1,8 +1,8 @@
 use mathlib.Core.Path.{refl}
 use borrow.Author.Needs.{needs}
 use Rattle.memory.specs.Memory.{routeIn}
-use Rattle.memory_trees.proofs.route_via.Statement.{statement}
-use Rattle.memory_trees.proofs.route_via.Tie as tie
+use Rattle.memory_routes.proofs.route_via.Statement.{statement}
+use Rattle.memory_routes.proofs.route_via.Tie as tie
 
 add-result : tie.Need-add-result
 add-result c = search needs

@@ -1,7 +1,7 @@
-use Rattle.memory_rows.proofs.Parts.{closed}
+use Rattle.memory.proofs.Parts.{closed}
 use borrow.Author.Needs.{needs}
-use Rattle.memory_rows.proofs.close_numbers.Statement.{statement}
-use Rattle.memory_rows.proofs.close_numbers.Tie as tie
+use Rattle.memory.proofs.close_numbers.Statement.{statement}
+use Rattle.memory.proofs.close_numbers.Tie as tie
 
 mul-shift-numbers : tie.Need-mul-shift-numbers
 mul-shift-numbers c = search needs

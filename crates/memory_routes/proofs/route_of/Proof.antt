@@ -1,7 +1,7 @@
 use borrow.Author.Needs.{needs}
-use Rattle.memory.proofs.Laws.{route-some, route-none}
-use Rattle.memory_trees.proofs.route_of.Statement.{statement}
-use Rattle.memory_trees.proofs.route_of.Tie as tie
+use Rattle.memory_routes.proofs.Routes.{route-some, route-none}
+use Rattle.memory_routes.proofs.route_of.Statement.{statement}
+use Rattle.memory_routes.proofs.route_of.Tie as tie
 
 route-place-requires : tie.Need-route-place-requires
 route-place-requires c κs = search needs

@@ -1,9 +1,9 @@
 use Prim.Native.Nat.{_+_, _-_}
 use native.Mathlib.Omega.{arith}
-use Rattle.memory_rows.proofs.Parts.{cleared}
+use Rattle.memory.proofs.Parts.{cleared}
 use borrow.Author.Needs.{needs}
-use Rattle.memory_rows.proofs.clear.Statement.{statement}
-use Rattle.memory_rows.proofs.clear.Tie as tie
+use Rattle.memory.proofs.clear.Statement.{statement}
+use Rattle.memory.proofs.clear.Tie as tie
 
 add-e : tie.Need-add-e
 add-e c = search needs

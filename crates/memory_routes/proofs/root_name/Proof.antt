@@ -1,7 +1,7 @@
 use borrow.Author.Needs.{needs}
 use Rattle.memory.specs.Memory.{rootName}
-use Rattle.memory_trees.proofs.root_name.Statement.{statement}
-use Rattle.memory_trees.proofs.root_name.Tie as tie
+use Rattle.memory_routes.proofs.root_name.Statement.{statement}
+use Rattle.memory_routes.proofs.root_name.Tie as tie
 
 mul-text : tie.Need-mul-text
 mul-text c = search needs

@@ -2,10 +2,10 @@ use Prim.Native.Nat.{_+_, _-_}
 use native.Mathlib.Omega.{arith}
 use mathlib.Core.Path.{_∙_}
 use lib.ListN.{length, length-set}
-use Rattle.memory_rows.proofs.Parts.{text-written}
+use Rattle.memory.proofs.Parts.{text-written}
 use borrow.Author.Needs.{needs}
-use Rattle.memory_rows.proofs.put_text.Statement.{statement}
-use Rattle.memory_rows.proofs.put_text.Tie as tie
+use Rattle.memory.proofs.put_text.Statement.{statement}
+use Rattle.memory.proofs.put_text.Tie as tie
 
 cast-names : tie.Need-cast-names
 cast-names c = search needs

@@ -12,9 +12,9 @@ use Rattle.meaning.specs.Lists.{by-test}
 use Rattle.octets.specs.Part.{mid, shifted}
 use Rattle.octets.proofs.Laws.{mid-length, mid-in, mid-before, mid-after, moved-length, moved-in, shifted-length}
 use Rattle.octets.proofs.Tab.{tab-ext, tab-is}
 use Rattle.memory.specs.Memory.{upTo, textAt}
 use Rattle.memory.proofs.Memory.{upTo-le, upTo-in}
-use Rattle.memory_rows.specs.Parts.{Written, Closed}
+use Rattle.memory.specs.Parts.{Written, Closed}
 
 -- outside the part
 mid-out : (a k : ℕ) (xs ys : List ℕ) (j : ℕ) → a ≤ length xs → length ys ≡ k → (a ≤ j → j < a + k → ⊥) → getD (mid a k xs ys) j 0 ≡ getD xs j 0

@@ -1,0 +1,105 @@
+// Routes in the card's memory: what is asked of them, and how they come and go.
+ghost use mathlib.Core.Path.{_≡_};
+ghost use mathlib.Core.List.{List, [], _∷_, _++_};
+ghost use Prim.Native.Nat.{ℕ, _+_, _-_, _≤_, _<_};
+ghost use lib.ListN.{length};
+ghost use Rattle.meaning.specs.Octets.{put, cut};
+ghost use Rattle.meaning.specs.Wire.{rootLimit};
+ghost use Rattle.meaning.specs.Card.{withRoutes, routePlace, routeLimit, routeOf};
+ghost use Rattle.memory.specs.Sizes.{Numbers, Names};
+ghost use Rattle.memory.specs.Memory.{cardOf, routeCount, rootName, routeIn};
+use meaning::ROOT_LIMIT;
+use memory::ROOT_NAMES;
+use memory::ROOT_SPACE;
+use memory::ROUTE_COLUMN;
+
+// ---- what is asked of them
+
+pub fn root_name(names: &[u8], i: usize) -> &[u8]
+    requires { ⌜ Names (now names) × (i < routeLimit) ⌝ }
+    ensures { λ r. ⌜ now r ≡ rootName (now (names .entry)) i ⌝ }
+{
+    memory::text(names, ROOT_LIMIT, ROOT_NAMES + i * ROOT_SPACE)
+}
+
+pub fn route_via(numbers: &[u64], i: usize) -> u64
+    requires { ⌜ Numbers (now numbers) × (i < routeLimit) ⌝ }
+    ensures { λ r. ⌜ ((os : List ℕ) → r ≡ routeIn (now (numbers .entry)) os i .via) ⌝ }
+{
+    numbers[ROUTE_COLUMN + i]
+}
+
+pub fn route_place(numbers: &[u64], names: &[u8], root: &[u8]) -> usize
+    requires { ⌜ Numbers (now numbers) × Names (now names) ⌝ }
+    ensures { λ r. ⌜ (r ≡ routePlace (now (root .entry)) (cardOf (now (numbers .entry)) (now (names .entry)))) × (r ≤ routeCount (now (numbers .entry))) × (r ≤ routeLimit) ⌝ }
+{
+    let n = memory::route_count(numbers);
+    let mut i = 0;
+    while i < n {
+        if octets::equal(root_name(names, i), root) {
+            return i;
+        }
+        i += 1;
+    }
+    n
+}
+
+// The route of a root: 0 to 15 a neighbour, 16 this node, 17 no route.
+pub fn route_of(numbers: &[u64], names: &[u8], root: &[u8]) -> u64
+    requires { ⌜ Numbers (now numbers) × Names (now names) ⌝ }
+    ensures { λ r. ⌜ r ≡ routeOf (now (root .entry)) (cardOf (now (numbers .entry)) (now (names .entry))) ⌝ }
+{
+    let i = route_place(numbers, names, root);
+    if i < memory::route_count(numbers) {
+        numbers[ROUTE_COLUMN + i]
+    } else {
+        17
+    }
+}
+
+// ---- routes that come and go
+
+// A route comes, behind the others.
+pub fn append_route(numbers: &mut [u64], names: &mut [u8], root: &[u8], via: u64)
+    requires { ⌜ Numbers (now numbers) × Names (now names) × (routeCount (now numbers) < routeLimit) × (length (now root) ≤ rootLimit) ⌝ }
+    ensures { λ _. ⌜ cardOf (now (numbers .exit)) (now (names .exit))
+        ≡ withRoutes (cardOf (now (numbers .entry)) (now (names .entry)) .routes ++ (record { root = now (root .entry); via = via } ∷ [])) (cardOf (now (numbers .entry)) (now (names .entry))) ⌝ }
+{
+    let n = memory::route_count(numbers);
+    memory::put_text(names, ROOT_NAMES + n * ROOT_SPACE, root);
+    numbers[ROUTE_COLUMN + n] = via;
+    numbers[2] = (n + 1) as u64;
+}
+
+// The route of the root whose place is i: its entry, or a new one behind the others.
+pub fn put_route(numbers: &mut [u64], names: &mut [u8], i: usize, root: &[u8], via: u64)
+    requires { ⌜ Numbers (now numbers) × Names (now names) × (length (now root) ≤ rootLimit)
+        × (i ≡ routePlace (now root) (cardOf (now numbers) (now names)))
+        × (routeCount (now numbers) ≤ routePlace (now root) (cardOf (now numbers) (now names)) → routeCount (now numbers) < routeLimit) ⌝ }
+    ensures { λ _. ⌜ cardOf (now (numbers .exit)) (now (names .exit))
+        ≡ withRoutes (put (cardOf (now (numbers .entry)) (now (names .entry)) .routes) (routePlace (now (root .entry)) (cardOf (now (numbers .entry)) (now (names .entry)))) (record { root = now (root .entry); via = via })) (cardOf (now (numbers .entry)) (now (names .entry))) ⌝ }
+{
+    let n = memory::route_count(numbers);
+    if i < n {
+        numbers[ROUTE_COLUMN + i] = via;
+        return;
+    }
+    append_route(numbers, names, root, via);
+}
+
+// A root's entry goes, and the gap is closed.
+pub fn remove_route(numbers: &mut [u64], names: &mut [u8], i: usize)
+    requires { ⌜ Numbers (now numbers) × Names (now names) × (i < routeCount (now numbers)) × (i < routeLimit) ⌝ }
+    ensures { λ _. ⌜ cardOf (now (numbers .exit)) (now (names .exit))
+        ≡ withRoutes (cut (cardOf (now (numbers .entry)) (now (names .entry)) .routes) i) (cardOf (now (numbers .entry)) (now (names .entry))) ⌝ }
+{
+    let n = memory::route_count(numbers);
+    memory::close_numbers(numbers, ROUTE_COLUMN + i, ROUTE_COLUMN + n, 1);
+    memory::close_octets(
+        names,
+        ROOT_NAMES + i * ROOT_SPACE,
+        ROOT_NAMES + n * ROOT_SPACE,
+        ROOT_SPACE,
+    );
+    numbers[2] = (n - 1) as u64;
+}
