@@ -11,13 +11,13 @@ use Rattle.meaning.specs.Octets.{place}
 use Rattle.meaning.specs.Lists.{by-test, getD-out, set-replicate}
 use Rattle.meaning.specs.Wire.{rootIn, elementRefusal}
 use Rattle.meaning.specs.Card.{Card, Tree, Use, free, mapped, awaiting, Feed, noRoute, bare, treePlace, treeAt, isBranch, notHeld, mappedTo, useOf, routeOf, Branch, nothing, branchesFrom, feedOf, carries, carrier, feedOfUse, lookupLabel, lookupName, labelCount}
+use Rattle.meaning.specs.Standing.{standing-at, not-standing}
 use Rattle.octets.specs.Part.{tab}
 use Rattle.octets.proofs.Tab.{tab-length}
 use Rattle.memory.specs.Memory.{cardOf, baseIn, treeCount, markAt, markUse, isFreeAt, labelIn}
 use Rattle.memory.proofs.Memory.{trees-length}
 use Rattle.memory.proofs.Marks.{label-free, label-mapped, label-awaiting}
 use Rattle.memory.proofs.Laws.{use-in}
-use Rattle.event_tree.proofs.Laws.{standing-at, not-standing}
 use Rattle.card_lookups.specs.Feed.{feedIn}
 
 pub empty-feed : feedIn (replicate 16 0) false ≡ nothing

@@ -11,10 +11,11 @@ use lib.Seq.{set-set, set-comm}
 use lib.Dec.{ltb}
 use borrow.Author.Tests.{lt-leb, le-ltb, lt-ltb}
 use Rattle.meaning.specs.Octets.{pick, any, cut, _when_else_}
-use Rattle.meaning.specs.Lists.{picked, same-eq, place-finds, getD-out, getD-same, set-replicate}
+use Rattle.meaning.specs.Lists.{picked, set-replicate}
 use Rattle.meaning.specs.Wire.{Sent, records, idsAfter, rootIn}
-use Rattle.meaning.specs.Card.{Tree, Card, free, noRoute, withNext, withTrees, withBranch, withLeaf, named, bare, treePlace, treeOf, treeAt, isBranch, notHeld, leadsOn, useOf, routeOf}
+use Rattle.meaning.specs.Card.{Tree, Card, free, noRoute, withNext, withTrees, withBranch, withLeaf, bare, treePlace, treeOf, treeAt, isBranch, notHeld, leadsOn, useOf, routeOf}
 use Rattle.meaning.specs.Events.{refused, taken, refuse, accept, roomShort, finish, Moved, followedBy, relabel, upstream, holder, upstreamOf, entered, swept, enter}
+use Rattle.meaning.specs.Standing.{standing-at, standing-name}
 use Rattle.meaning.specs.Calls.{over, Does}
 use Rattle.event_holder.proofs.Held.{holder-range, with-none}
 use Rattle.event_holder.specs.Move.{Wrote}
@@ -22,20 +23,6 @@ use Rattle.event_move.proofs.Laws.{wrote-then}
 use Rattle.memory.specs.Memory.{cardOf, treeCount, baseIn}
 use Rattle.memory.proofs.Memory.{trees-length, base-range}
 use Rattle.event_tree.specs.End.{Ended, thenCut}
-
--- ---- a tree's place
-
-pub standing-at : (c : Card) (a : List ℕ) → treePlace a c < length (c .trees) → treeOf a c ≡ treeAt (treePlace a c) c
-unfolding treeOf treeAt
-standing-at c a h = getD-same (c .trees) (treePlace a c) (bare a) (bare []) h
-
-pub standing-name : (c : Card) (a : List ℕ) → treePlace a c < length (c .trees) → treeAt (treePlace a c) c .name ≡ a
-unfolding treePlace treeAt named
-standing-name c a h = same-eq _ _ (place-finds (named a) (c .trees) (bare []) h)
-
-pub not-standing : (c : Card) (a : List ℕ) → length (c .trees) ≤ treePlace a c → treeOf a c ≡ bare a
-unfolding treeOf
-not-standing c a h = getD-out (c .trees) (treePlace a c) (bare a) h
 
 -- ---- the tree that a search found
 

@@ -12,12 +12,13 @@ use Rattle.meaning.specs.Lists.{append-nil, by-test}
 use Rattle.meaning.specs.Wire.{Sent, records, rootIn}
 use Rattle.meaning.specs.Card.{Tree, Card, free, noRoute, withTrees, bare, treePlace, treeOf, treeAt, stands, isBranch, isEmpty, notHeld, leadsOn, mappedTo, useOf, heldFor, freeLabels, treeLimit, routeOf}
 use Rattle.meaning.specs.Events.{Outcome, taken, unless, finish, Moved, still, followedBy, letGo, takeUp, moveLabel, relabel, needMove, need, labelsShort, upstream, holder, upstreamOf, entered, swept, treesFull, treeRefusal, enter, become}
+use Rattle.meaning.specs.Standing.{not-standing}
 use Rattle.meaning.specs.Calls.{Does}
 use Rattle.octets.proofs.Tab.{put-end, cut-end}
 use Rattle.event_move.proofs.Laws.{take-up-stays, take-up-size, alike-empty}
 use Rattle.memory.specs.Memory.{cardOf, treeCount}
 use Rattle.event_tree.specs.End.{Ended}
-use Rattle.event_tree.proofs.Laws.{not-standing, does-refused, does-short, enter-is, does-ended, when-1, when-2, when-3, when-0, count-is, any-zeros}
+use Rattle.event_tree.proofs.Laws.{does-refused, does-short, enter-is, does-ended, when-1, when-2, when-3, when-0, count-is, any-zeros}
 
 pub none-stands : (c : Card) (a : List ℕ) (i : ℕ) → i ≡ treePlace a c → i ≡ length (c .trees) → treeOf a c ≡ bare a
 none-stands c a i ei h = not-standing c a (rw (← ei) (omega arith))

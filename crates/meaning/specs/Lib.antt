@@ -8,6 +8,7 @@ pub mod Examples
 pub mod Corners
 pub mod WireLaws
 pub mod RoundTrip
+pub mod Standing
 pub mod Calls
 pub mod Refusals
 pub mod Handed

@@ -13,8 +13,9 @@ use Rattle.meaning.specs.Octets.{pick, place, count, any, same, put, cut}
 use Rattle.meaning.specs.Wire.{rootIn}
 use Rattle.meaning.specs.Card.{Tree, Route, free, Card, noRoute, withRoutes, withTrees, withLabel, treeLimit, routeLimit, isFor, routePlace, routeOf, bare, treePlace, treeOf, treeAt, isBranch, isEmpty, notHeld, leadsOn, mappedTo, useOf, heldFor, freeLabels}
 use Rattle.meaning.specs.Events.{upstream, holder, upstreamOf, swept, ofRoot, moveAll, needAll, routesWith, routesFull}
+use Rattle.meaning.specs.Standing.{standing-at, not-standing}
 use Rattle.promise.specs.Promise.{Given}
-use Rattle.meaning.specs.Lists.{getD-same, by-test, same-eq, same-refl, same-flip, getD-out, found-put, found-cut, other-put, other-cut, count-put, count-cut, count-other-put}
+use Rattle.meaning.specs.Lists.{by-test, same-eq, same-refl, same-flip, getD-out, found-put, found-cut, other-put, other-cut, count-put, count-cut, count-other-put}
 use Rattle.promise.specs.CardLaws.{shape}
 use Rattle.promise.specs.LabelLaws.{Sound, Kept, all-kept, all-held, shape-name}
 
@@ -41,14 +42,6 @@ upstream-same c d t s e k = rw (e, shape-name t s k) (shape-holder _ t s k)
 pub bare-empty : (a : List ℕ) → isEmpty (bare a) ≡ true
 unfolding isEmpty bare any isBranch
 bare-empty a = refl
-
-pub standing-at : (c : Card) (a : List ℕ) → treePlace a c < length (c .trees) → treeOf a c ≡ treeAt (treePlace a c) c
-unfolding treeOf treeAt
-standing-at c a h = getD-same (c .trees) (treePlace a c) (bare a) (bare []) h
-
-pub not-standing : (c : Card) (a : List ℕ) → length (c .trees) ≤ treePlace a c → treeOf a c ≡ bare a
-unfolding treeOf
-not-standing c a h = getD-out (c .trees) (treePlace a c) (bare a) h
 
 bare-held : (c : Card) (a : List ℕ) → useOf 0 c ≡ free → heldFor c (bare a) ≡ noRoute
 unfolding heldFor bare mappedTo
