@@ -4,12 +4,12 @@ use native.Mathlib.Nat.{le-of-suc-le-suc, not-suc-le-zero, pos-of-ne-zero, add-z
 use native.Mathlib.Numerals.{add-one}
 use native.Mathlib.Omega.{arith}
 use mathlib.Core.Path.{_≡_, refl, sym, ap, _∙_}
-use mathlib.Core.Bool.{Bool, true, false, not, _&&_, _||_}
+use mathlib.Core.Bool.{Bool, true, false, _&&_, _||_}
 use mathlib.Core.List.{List, [], _∷_, _++_, append-assoc}
 use lib.ListN.{length, take, drop, getD, set, length-append, drop-of-length-le}
 use lib.Seq.{drop-cons, drop-drop, getD-drop, take-all, set-at}
 use lib.Dec.{eqb, leb, ltb}
-use borrow.Author.Tests.{eqb-true, eqb-false, eq-eqb, ne-eqb, leb-true, ltb-true, ltb-false, lt-ltb, le-ltb}
+use borrow.Author.Tests.{eqb-true, eqb-false, eq-eqb, ne-eqb, leb-true, ltb-true, ltb-false, lt-ltb, le-ltb, not-true, not-false}
 use Rattle.meaning.specs.Octets.{pick, same, all}
 use Rattle.meaning.specs.Lists.{by-test, same-eq}
 use Rattle.octets.proofs.Laws.{front, front-more}
@@ -38,19 +38,11 @@ words-gap c cs e =
     (λ h. let q : c ≡ 32 = eqb-true c 32 h in rw q refl)
     (λ h. let q : c ≡ 9 = eqb-true c 9 (rw h at e) in rw q refl)
 
-flip : (b : Bool) → not b ≡ true → b ≡ false
-flip true e = cc
-flip false e = refl
-
-unflip : (b : Bool) → not b ≡ false → b ≡ true
-unflip true e = refl
-unflip false e = cc
-
 letter-hash : (c : ℕ) → isLetter c ≡ true → eqb c 35 ≡ false
-letter-hash c e = or-left (eqb c 35) (isGap c) (flip (eqb c 35 || isGap c) e)
+letter-hash c e = or-left (eqb c 35) (isGap c) (not-true (eqb c 35 || isGap c) e)
 
 letter-gap : (c : ℕ) → isLetter c ≡ true → isGap c ≡ false
-letter-gap c e = or-right (eqb c 35) (isGap c) (flip (eqb c 35 || isGap c) e)
+letter-gap c e = or-right (eqb c 35) (isGap c) (not-true (eqb c 35 || isGap c) e)
 
 later : List (List ℕ) → List (List ℕ)
 later [] = []
@@ -66,7 +58,7 @@ pieces-first (c ∷ cs) =
     (λ h.
     by-test (eqb c 35)
     (λ t. rw (h, t))
-    (λ t. let g : isGap c ≡ true = rw t at (unflip (eqb c 35 || isGap c) h) in rw (h, t, g)))
+    (λ t. let g : isGap c ≡ true = rw t at (not-false (eqb c 35 || isGap c) h) in rw (h, t, g)))
 
 letters-after : (l : List ℕ) → letters (drop (letters l) l) ≡ 0
 unfolding letters
@@ -102,7 +94,7 @@ words-none [] e g = refl
 words-none (c ∷ cs) e g =
     by-test (isLetter c)
     (λ h. let z : suc (letters cs) ≡ 0 = rw h at e in absurd (omega arith))
-    (λ h. by-test (eqb c 35) (λ t. rw t) (λ t. let y : isGap c ≡ true = rw t at (unflip (eqb c 35 || isGap c) h) in let z : true ≡ false = sym y ∙ g in cc))
+    (λ h. by-test (eqb c 35) (λ t. rw t) (λ t. let y : isGap c ≡ true = rw t at (not-false (eqb c 35 || isGap c) h) in let z : true ≡ false = sym y ∙ g in cc))
 
 pub next-word : (l : List ℕ) (from s e : ℕ) → from ≤ s → s ≤ length l → words (drop from l) ≡ words (drop s l) → isGap (getD l s 0) ≡ false → e ≡ s + letters (drop s l) → e ≤ length l → NextWord l from s e
 next-word l from s e h k p g q m = record {

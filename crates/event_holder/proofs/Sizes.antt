@@ -1,10 +1,10 @@
 -- What a move takes: a label or none, and how many octets. Assumes nothing.
-use Prim.Native.Nat.{ℕ, _+_, _*_, _≤_, _<_}
+use Prim.Native.Nat.{ℕ, _*_, _≤_, _<_}
 use native.Mathlib.Omega.{arith}
 use mathlib.Core.Path.{_≡_, refl}
 use mathlib.Core.Bool.{false}
-use lib.ListN.{length}
 use borrow.Author.Tests.{eq-eqb, ne-eqb, lt-ltb, le-ltb}
+use Rattle.meaning.specs.Wire.{recordSize}
 use Rattle.meaning.specs.Card.{Tree, Card, heldFor, freeLabels}
 use Rattle.meaning.specs.Events.{needMove, need, labelsShort, upstream}
 use Rattle.event_holder.specs.Move.{moveSize, relabelSize}
@@ -21,7 +21,7 @@ need-one u ne = rw (ne-eqb u 17 ne) refl
 
 -- ---- sizes
 
-module _ (t : Tree) (u size : ℕ) (e : size ≡ 24 + length (t .name)) where
+module _ (t : Tree) (u size : ℕ) (e : size ≡ recordSize (t .name)) where
   pub size-none : t .label ≡ 0 → u ≡ 17 → 0 ≡ moveSize t u
   unfolding moveSize
   size-none l k = rw (eq-eqb (t .label) 0 l, need-none u k) (omega arith)

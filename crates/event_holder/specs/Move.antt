@@ -5,7 +5,7 @@ use mathlib.Core.List.{List}
 use lib.ListN.{length}
 use lib.Dec.{eqb}
 use Rattle.meaning.specs.Octets.{pick}
-use Rattle.meaning.specs.Wire.{records, idsAfter}
+use Rattle.meaning.specs.Wire.{records, idsAfter, recordSize}
 use Rattle.meaning.specs.Card.{Tree, Card, heldFor}
 use Rattle.meaning.specs.Events.{Moved, needMove, holder, ofRoot, sumFrom}
 use Rattle.octets.specs.Part.{mid}
@@ -19,7 +19,7 @@ pub record Wrote (m : Moved) (id at : ℕ) (before after : List ℕ) (card : Car
 
 -- how many octets the records of a tree's move have
 unfoldable pub moveSize : Tree → ℕ → ℕ
-moveSize t u = (pick (eqb (t .label) 0) 0 1 + needMove u) * (24 + length (t .name))
+moveSize t u = (pick (eqb (t .label) 0) 0 1 + needMove u) * (recordSize (t .name))
 
 unfoldable pub relabelSize : Card → Tree → ℕ → ℕ
 relabelSize c t u = pick (eqb (heldFor c t) u) 0 (moveSize t u)

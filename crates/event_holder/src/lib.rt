@@ -1,7 +1,7 @@
 // For whom a tree holds its label, and what it takes to move it: labels, and octets of output.
 ghost use mathlib.Core.Path.{_≡_};
 ghost use mathlib.Core.List.{List};
-ghost use Prim.Native.Nat.{ℕ, _+_, _*_, _-_, _≤_, _<_};
+ghost use Prim.Native.Nat.{ℕ, _+_, _*_, _≤_, _<_};
 ghost use Rattle.meaning.specs.Wire.{rootIn, recordLimit};
 ghost use Rattle.meaning.specs.Card.{withBranch, withLeaf, treeAt, routeOf, treeLimit};
 ghost use Rattle.meaning.specs.Events.{need, labelsShort, upstream, holder};
@@ -51,13 +51,19 @@ pub fn labels_short(numbers: &[u64], i: usize, u: u64) -> bool
     memory_labels::labels_short(numbers, 1)
 }
 
+// The neighbour that a route leads to; 17 for none.
+pub fn upstream_via(via: u64) -> u64
+    ensures { λ r. ⌜ (r ≡ upstream via) × (r ≤ 17) × (r ≡ 16 → ⊥) ⌝ }
+{
+    if via < 16 { via } else { 17 }
+}
+
 // The neighbour that a tree of this name, if it is not empty, holds a label for; 17 for none.
 pub fn upstream_of(numbers: &[u64], names: &[u8], name: &[u8]) -> u64
     requires { ⌜ Numbers (now numbers) × Names (now names) ⌝ }
     ensures { λ r. ⌜ (r ≡ upstream (routeOf (rootIn (now (name .entry))) (cardOf (now (numbers .entry)) (now (names .entry))))) × (r ≤ 17) × (r ≡ 16 → ⊥) ⌝ }
 {
-    let via = memory_routes::route_of(numbers, names, wire_name::root_of(name));
-    if via < 16 { via } else { 17 }
+    upstream_via(memory_routes::route_of(numbers, names, wire_name::root_of(name)))
 }
 
 // The neighbour for which the tree at place i holds a label where u is its upstream, once neighbour n's branch is x (16: nobody's

@@ -48,10 +48,6 @@ module _ (c : Card) (a : List ℕ) (i u : ℕ) (ei : i ≡ treePlace a c) (h : i
 pub leaf-gone : (t : Tree) (x : Bool) → length (t .branches) ≡ 16 → x ≡ any isBranch (set (set (t .branches) 16 0) 16 0) → not x ≡ isEmpty (withLeaf false t)
 leaf-gone t x l e = rw (e, set-set (t .branches) 16 0 0, set-out (t .branches) 16 0 (omega arith)) (unfold isEmpty withLeaf in sym (and-true (not (any isBranch (t .branches)))))
 
-pub not-true : (b : Bool) → not b ≡ true → b ≡ false
-not-true true e = sym e
-not-true false e = refl
-
 -- ---- leaf orders
 
 module _ (c : Card) (a : List ℕ) (i : ℕ) (ei : i ≡ treePlace a c) where

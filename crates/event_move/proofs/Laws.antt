@@ -9,7 +9,7 @@ use lib.Seq.{getD-set-same}
 use lib.Dec.{eqb}
 use Rattle.meaning.specs.Octets.{pick, two, four}
 use Rattle.meaning.specs.Lists.{append-nil, by-test, picked}
-use Rattle.meaning.specs.Wire.{tlv, octetsOf, Sent, recordOf, nextId, records, idsAfter}
+use Rattle.meaning.specs.Wire.{tlv, octetsOf, Sent, recordOf, nextId, records, idsAfter, recordSize}
 use Rattle.meaning.specs.Card.{Tree, Card, Use, noRoute, withTrees, withLabels, withLabel, bare, treeAt, isEmpty, heldFor}
 use Rattle.meaning.specs.Events.{Moved, still, followedBy, setUse, setLabel, giveUp, give, letGo, takeUp, moveLabel, relabel, needMove}
 use Rattle.octets.specs.Part.{mid}
@@ -28,7 +28,7 @@ unfolding idsAfter
 ids-append id [] ns = refl
 ids-append id (m ∷ ms) ns = ids-append (nextId id) ms ns
 
-pub record-size : (id : ℕ) (m : Sent) → length (recordOf id m) ≡ 24 + length (m .message .name)
+pub record-size : (id : ℕ) (m : Sent) → length (recordOf id m) ≡ recordSize (m .message .name)
 unfolding recordOf octetsOf tlv two four
 record-size id m = simp length-append (omega arith)
 
@@ -43,8 +43,8 @@ wrote-nothing c id at s = record { leaves = refl; writes = mid-none at s; ends =
 
 -- one record was written
 pub wrote-one : (m : Sent) (c : Card) (id at next : ℕ) (s s' : List ℕ) (c' : Card) → c' ≡ c
-    → s' ≡ mid at (24 + length (m .message .name)) s (recordOf id m) → next ≡ nextId id
-    → Wrote (record { sent = m ∷ []; card = c }) id at s s' c' (at + (24 + length (m .message .name))) next
+    → s' ≡ mid at (recordSize (m .message .name)) s (recordOf id m) → next ≡ nextId id
+    → Wrote (record { sent = m ∷ []; card = c }) id at s s' c' (at + (recordSize (m .message .name))) next
 unfolding idsAfter
 wrote-one m c id at next s s' c' ec es en =
     let one = records-one id m in
@@ -142,14 +142,14 @@ alike-empty t s p = rw (p .branches, p .leaf) refl
 -- ---- how many octets a move writes
 
 module _ (id i : ℕ) (c : Card) where
-  pub let-go-size : length (records id (letGo i c .sent)) ≡ pick (eqb (treeAt i c .label) 0) 0 1 * (24 + length (treeAt i c .name))
+  pub let-go-size : length (records id (letGo i c .sent)) ≡ pick (eqb (treeAt i c .label) 0) 0 1 * (recordSize (treeAt i c .name))
   unfolding letGo still giveUp
   let-go-size =
       by-test (eqb (treeAt i c .label) 0)
       (λ e. rw e (unfold records in omega arith))
       (λ e. rw e (ap length (records-one id _) ∙ record-size id _ ∙ omega arith))
 
-  pub take-up-size : (u : ℕ) → length (records id (takeUp i u c .sent)) ≡ needMove u * (24 + length (treeAt i c .name))
+  pub take-up-size : (u : ℕ) → length (records id (takeUp i u c .sent)) ≡ needMove u * (recordSize (treeAt i c .name))
   unfolding takeUp still give needMove
   take-up-size u =
       by-test (eqb u noRoute)

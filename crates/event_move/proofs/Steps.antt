@@ -7,7 +7,7 @@ use lib.ListN.{getD, length}
 use borrow.Author.Tests.{eq-eqb, ne-eqb, le-leb}
 use Rattle.meaning.specs.Octets.{place}
 use Rattle.meaning.specs.Lists.{place-count}
-use Rattle.meaning.specs.Wire.{recordOf, nextId, records, idsAfter}
+use Rattle.meaning.specs.Wire.{recordOf, nextId, records, idsAfter, recordSize}
 use Rattle.meaning.specs.Card.{Card, free, mapped, treeAt, isFree, useOf, heldFor, freeLabels, lowestFree, labelCount}
 use Rattle.meaning.specs.Events.{still, tell, setUse, setLabel, ended, giveUp, give, letGo, takeUp, moveLabel, relabel, needMove}
 use Rattle.octets.specs.Part.{mid}
@@ -42,12 +42,12 @@ pub gave-up : (i id at next to label : ℕ) (ns ns' os name s s' : List ℕ) →
     → to ≡ heldFor (cardOf ns os) (treeAt i (cardOf ns os))
     → label ≡ treeAt i (cardOf ns os) .label
     → name ≡ treeAt i (cardOf ns os) .name
-    → next ≡ nextId id → s' ≡ mid at (24 + length name) s (recordOf id (tell to 0x0402 name label))
+    → next ≡ nextId id → s' ≡ mid at (recordSize name) s (recordOf id (tell to 0x0402 name label))
     → cardOf ns' os ≡ setLabel i 0 (setUse (treeAt i (cardOf ns os) .label) (ended (useOf (treeAt i (cardOf ns os) .label) (cardOf ns os))) (cardOf ns os))
-    → Wrote (giveUp i (cardOf ns os)) id at s s' (cardOf ns' os) (at + (24 + length name)) next × (freeLabels (cardOf ns' os) ≡ freeLabels (cardOf ns os))
+    → Wrote (giveUp i (cardOf ns os)) id at s s' (cardOf ns' os) (at + (recordSize name)) next × (freeLabels (cardOf ns' os) ≡ freeLabels (cardOf ns os))
 unfolding giveUp
 gave-up i id at next to label ns ns' os name s s' h ne et el en ei es e =
-    let es' : s' ≡ mid at (24 + length (treeAt i (cardOf ns os) .name)) s (recordOf id (tell (heldFor (cardOf ns os) (treeAt i (cardOf ns os))) 0x0402 (treeAt i (cardOf ns os) .name) (treeAt i (cardOf ns os) .label))) = rw (← et, ← el, ← en) es in
+    let es' : s' ≡ mid at (recordSize (treeAt i (cardOf ns os) .name)) s (recordOf id (tell (heldFor (cardOf ns os) (treeAt i (cardOf ns os))) 0x0402 (treeAt i (cardOf ns os) .name) (treeAt i (cardOf ns os) .label))) = rw (← et, ← el, ← en) es in
     (rw en (wrote-one _ _ id at next s s' (cardOf ns' os) e es' ei), ap freeLabels e ∙ give-up-free i (cardOf ns os) (own-used ns os i h ne))
 
 pub let-go-none : (i : ℕ) (c : Card) → treeAt i c .label ≡ 0 → letGo i c ≡ still c
@@ -58,7 +58,7 @@ pub let-go-some : (i : ℕ) (c : Card) → (treeAt i c .label ≡ 0 → ⊥) →
 unfolding letGo
 let-go-some i c ne = rw (ne-eqb (treeAt i c .label) 0 ne) refl
 
-pub let-go-room : (id i : ℕ) (c : Card) → (treeAt i c .label ≡ 0 → ⊥) → length (records id (letGo i c .sent)) ≡ 24 + length (treeAt i c .name)
+pub let-go-room : (id i : ℕ) (c : Card) → (treeAt i c .label ≡ 0 → ⊥) → length (records id (letGo i c .sent)) ≡ recordSize (treeAt i c .name)
 let-go-room id i c ne = let-go-size id i c ∙ rw (ne-eqb (treeAt i c .label) 0 ne) (omega arith)
 
 -- nothing is done: what the functions below hand back then
@@ -79,15 +79,15 @@ pub gave : (i u p b id at next : ℕ) (ns ns' os os' name s s' : List ℕ) → b
     → 0 < freeLabels (cardOf ns os)
     → p ≡ place isFree (cardOf ns os .labels)
     → name ≡ treeAt i (cardOf ns os) .name
-    → next ≡ nextId id → s' ≡ mid at (24 + length name) s (recordOf id (tell u 0x0400 name (b + p)))
+    → next ≡ nextId id → s' ≡ mid at (recordSize name) s (recordOf id (tell u 0x0400 name (b + p)))
     → cardOf ns' os' ≡ setLabel i (baseIn ns + p) (setUse (baseIn ns + p) (mapped u (treeAt i (cardOf ns os) .name)) (cardOf ns os))
-    → Wrote (give i u (cardOf ns os)) id at s s' (cardOf ns' os') (at + (24 + length name)) next × (freeLabels (cardOf ns' os') + 1 ≡ freeLabels (cardOf ns os))
+    → Wrote (give i u (cardOf ns os)) id at s s' (cardOf ns' os') (at + (recordSize name)) next × (freeLabels (cardOf ns' os') + 1 ≡ freeLabels (cardOf ns os))
 unfolding give
 gave i u p b id at next ns ns' os os' name s s' eb some ep en ei es e₁ =
     let l : b + p ≡ lowestFree (cardOf ns os) = ap (λ (n : ℕ). n + p) eb ∙ lowest-at ns os p ep in
     let e : cardOf ns' os' ≡ give i u (cardOf ns os) .card =
     e₁ ∙ ap (λ (n : ℕ). setLabel i n (setUse n (mapped u (treeAt i (cardOf ns os) .name)) (cardOf ns os))) (lowest-at ns os p ep) in
-    let es' : s' ≡ mid at (24 + length (treeAt i (cardOf ns os) .name)) s (recordOf id (tell u 0x0400 (treeAt i (cardOf ns os) .name) (lowestFree (cardOf ns os)))) = rw (← en, ← l) es in
+    let es' : s' ≡ mid at (recordSize (treeAt i (cardOf ns os) .name)) s (recordOf id (tell u 0x0400 (treeAt i (cardOf ns os) .name) (lowestFree (cardOf ns os)))) = rw (← en, ← l) es in
     (rw en (wrote-one _ _ id at next s s' (cardOf ns' os') e es' ei), ap (λ (c : Card). freeLabels c + 1) e ∙ give-free i u (cardOf ns os) some)
 
 -- ---- u is a neighbour, or none
@@ -101,7 +101,7 @@ module _ (i u : ℕ) (c : Card) where
   unfolding takeUp
   take-up-some ne = rw (ne-eqb u 17 ne) refl
 
-  pub take-up-room : (id : ℕ) → (u ≡ 17 → ⊥) → length (records id (takeUp i u c .sent)) ≡ 24 + length (treeAt i c .name)
+  pub take-up-room : (id : ℕ) → (u ≡ 17 → ⊥) → length (records id (takeUp i u c .sent)) ≡ recordSize (treeAt i c .name)
   take-up-room id ne = take-up-size id i c u ∙ rw (need-one u ne) (omega arith)
 
   pub take-nothing : (id at : ℕ) (s : List ℕ) → u ≡ 17 → Wrote (takeUp i u c) id at s s c at id × (freeLabels c + needMove u ≡ freeLabels c)
@@ -127,7 +127,7 @@ module _ (i u : ℕ) (ns ns₁ os : List ℕ) (id at : ℕ) (s s₁ : List ℕ) 
   -- whatever its identifier
   pub room-then : (k : ℕ) → Wrote (letGo i (cardOf ns os)) id at s s₁ (cardOf ns₁ os) at₁ id₁ → at₁ + length (records k (takeUp i u (cardOf ns₁ os) .sent)) ≤ length s
   room-then k w =
-      let sized : (n : ℕ) → length (records n (takeUp i u (letGo i (cardOf ns os) .card) .sent)) ≡ needMove u * (24 + length (treeAt i (letGo i (cardOf ns os) .card) .name)) = λ n. take-up-size n i (letGo i (cardOf ns os) .card) u in
+      let sized : (n : ℕ) → length (records n (takeUp i u (letGo i (cardOf ns os) .card) .sent)) ≡ needMove u * (recordSize (treeAt i (letGo i (cardOf ns os) .card) .name)) = λ n. take-up-size n i (letGo i (cardOf ns os) .card) u in
       rw (w .leaves, w .ends) (omega (arith, both, sized k, sized (idsAfter id (letGo i (cardOf ns os) .sent))))
 
   pub let-go-many : Wrote (letGo i (cardOf ns os)) id at s s₁ (cardOf ns₁ os) at₁ id₁ → treeCount ns₁ ≡ treeCount ns

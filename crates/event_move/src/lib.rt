@@ -1,8 +1,8 @@
 // The rule of labels, in memory and on the wire: a tree gives up its label and is given one, and the records say so.
 ghost use mathlib.Core.Path.{_≡_};
-ghost use Prim.Native.Nat.{_+_, _-_, _≤_, _<_};
+ghost use Prim.Native.Nat.{_+_, _≤_, _<_};
 ghost use lib.ListN.{length};
-ghost use Rattle.meaning.specs.Wire.{records};
+ghost use Rattle.meaning.specs.Wire.{records, recordSize};
 ghost use Rattle.meaning.specs.Card.{treeAt, freeLabels, treeLimit};
 ghost use Rattle.meaning.specs.Events.{giveUp, give, letGo, takeUp, moveLabel, relabel, needMove, need};
 ghost use Rattle.memory.specs.Sizes.{Numbers, Names};
@@ -27,7 +27,7 @@ fn give_up(
 ) -> Written
     requires { ⌜ Numbers (now numbers) × Names (now names) × (i < treeCount (now numbers)) × (i < treeLimit)
         × (treeAt i (cardOf (now numbers) (now names)) .label ≡ 0 → ⊥)
-        × (at + (24 + length (treeAt i (cardOf (now numbers) (now names)) .name)) ≤ length (now out)) ⌝ }
+        × (at + (recordSize (treeAt i (cardOf (now numbers) (now names)) .name)) ≤ length (now out)) ⌝ }
     ensures { λ r. ⌜ Wrote (giveUp i (cardOf (now (numbers .entry)) (now (names .entry)))) id at (now (out .entry)) (now (out .exit)) (cardOf (now (numbers .exit)) (now (names .entry))) (r .at) (r .id)
         × (freeLabels (cardOf (now (numbers .exit)) (now (names .entry))) ≡ freeLabels (cardOf (now (numbers .entry)) (now (names .entry)))) ⌝ }
 {
@@ -70,7 +70,7 @@ fn give(
 ) -> Written
     requires { ⌜ Numbers (now numbers) × Names (now names) × (i < treeCount (now numbers)) × (i < treeLimit) × (u < 16)
         × (0 < freeLabels (cardOf (now numbers) (now names)))
-        × (at + (24 + length (treeAt i (cardOf (now numbers) (now names)) .name)) ≤ length (now out)) ⌝ }
+        × (at + (recordSize (treeAt i (cardOf (now numbers) (now names)) .name)) ≤ length (now out)) ⌝ }
     ensures { λ r. ⌜ Wrote (give i u (cardOf (now (numbers .entry)) (now (names .entry)))) id at (now (out .entry)) (now (out .exit)) (cardOf (now (numbers .exit)) (now (names .exit))) (r .at) (r .id)
         × (freeLabels (cardOf (now (numbers .exit)) (now (names .exit))) + 1 ≡ freeLabels (cardOf (now (numbers .entry)) (now (names .entry)))) ⌝ }
 {

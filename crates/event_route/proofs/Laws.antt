@@ -1,27 +1,27 @@
 -- The laws of the route order. Assumes nothing.
-use Prim.Native.Nat.{ℕ, zero, suc, _+_, _*_, _-_, _≤_, _<_, zero-le}
+use Prim.Native.Nat.{ℕ, zero, suc, _+_, _≤_, _<_, zero-le}
 use native.Mathlib.Omega.{arith}
 use mathlib.Core.Path.{_≡_, refl, sym, ap, ap₂, _∙_, subst}
-use mathlib.Core.Bool.{Bool, true, false, not, _&&_}
-use mathlib.Core.List.{List, [], _∷_, _++_}
-use lib.ListN.{getD, length}
+use mathlib.Core.Bool.{true, false, _&&_}
+use mathlib.Core.List.{List, []}
+use lib.ListN.{length}
 use lib.Dec.{eqb, leb, ltb}
-use borrow.Author.Tests.{eq-eqb, ne-eqb, eqb-true, eqb-false, le-leb, lt-leb, le-ltb, lt-ltb, ltb-true, ltb-false, leb-false}
-use Rattle.meaning.specs.Octets.{pick, place, put, cut, _when_else_}
-use Rattle.meaning.specs.Lists.{by-test, picked, getD-out}
-use Rattle.meaning.specs.Wire.{Sent, records, idsAfter}
-use Rattle.meaning.specs.Card.{Route, Tree, Card, Use, noRoute, withNext, withRoutes, withTrees, withLabels, isFor, routePlace, routeOf, treeAt, freeLabels, routeLimit}
-use Rattle.meaning.specs.Events.{Outcome, refused, taken, unless, finish, Moved, still, followedBy, setUse, setLabel, giveUp, give, letGo, takeUp, moveLabel, labelsShort, upstream, ofRoot, moveOne, moveFrom, moveAll, sumFrom, needOne, needAll, routesWith, routesFull, routeRefusal, reRoute}
+use borrow.Author.Tests.{eq-eqb, ne-eqb, eqb-true, le-ltb, lt-ltb, ltb-true, ltb-false, leb-false}
+use Rattle.meaning.specs.Octets.{put, cut, _when_else_}
+use Rattle.meaning.specs.Lists.{by-test, getD-out}
+use Rattle.meaning.specs.Wire.{records, idsAfter}
+use Rattle.meaning.specs.Card.{Route, Tree, Card, noRoute, withNext, withRoutes, routePlace, routeOf, treeAt, freeLabels, routeLimit}
+use Rattle.meaning.specs.Events.{taken, unless, finish, still, labelsShort, upstream, moveOne, moveFrom, moveAll, sumFrom, needAll, routesWith, routesFull, routeRefusal, reRoute}
 use Rattle.meaning.specs.RoutesStay.{all-routes}
 use Rattle.meaning.specs.Calls.{Does}
 use Rattle.octets.proofs.Laws.{mid-none}
 use Rattle.memory.specs.Memory.{cardOf, routeCount}
 use Rattle.memory.proofs.Memory.{routes-length}
 use Rattle.event_holder.specs.Move.{Wrote, sizeOne, sizeAll}
-use Rattle.event_move.proofs.Laws.{then-length, records-append}
+use Rattle.event_move.proofs.Laws.{then-length}
 use Rattle.event_move.proofs.Trees.{one-other, one-many, one-size}
 use Rattle.event_tree.specs.End.{Ended}
-use Rattle.event_tree.proofs.Laws.{when-1, when-2, when-3, when-0, does-refused, does-short, does-ended, no-records}
+use Rattle.event_tree.proofs.Laws.{when-1, when-2, when-3, when-0, does-refused, does-short, does-ended}
 use Rattle.event_route.specs.Order.{movedTo, routeOrder}
 
 -- ---- what the moves of a root's trees write and leave
@@ -141,14 +141,6 @@ moved-ends c d e r via u id s s' end next ei eu w q =
     }))
 
 -- ---- small tests
-
-pub via-near : (via : ℕ) → via < 16 → via ≡ upstream via
-unfolding upstream
-via-near via h = rw (lt-ltb via 16 h) refl
-
-pub via-none : (via : ℕ) → 16 ≤ via → 17 ≡ upstream via
-unfolding upstream
-via-none via h = rw (le-ltb via 16 h) refl
 
 pub labels-short : (c : Card) (r : List ℕ) (via u k : ℕ) → u ≡ upstream via → k ≡ needAll r u c → labelsShort c k ≡ labelsShort c (needAll r (upstream via) c)
 labels-short c r via u k eu ek = ap (labelsShort c) (ek ∙ ap (λ (v : ℕ). needAll r v c) eu)

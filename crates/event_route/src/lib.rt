@@ -16,12 +16,6 @@ ghost use Rattle.event_tree.specs.End.{Ended};
 ghost use Rattle.event_route.specs.Order.{movedTo, routeOrder};
 use meaning::ROUTE_LIMIT;
 
-fn upstream_via(via: u64) -> u64
-    ensures { λ r. ⌜ (r ≡ upstream via) × (r ≤ 17) × (r ≡ 16 → ⊥) ⌝ }
-{
-    if via < 16 { via } else { 17 }
-}
-
 // 15, for a root whose route is to be another.
 fn routes_full(numbers: &[u64], names: &[u8], root: &[u8]) -> bool
     requires { ⌜ Numbers (now numbers) × Names (now names) ⌝ }
@@ -103,7 +97,7 @@ pub fn change_route(
         *answer = 0;
         return 0;
     }
-    let u = upstream_via(via);
+    let u = event_holder::upstream_via(via);
     let refusal = route_refusal(numbers, names, root, via, u, out.len());
     if refusal != 0 {
         *answer = refusal;

@@ -1,15 +1,15 @@
 -- What becomes of a tree that does not stand, by the cases of the code. Assumes nothing.
-use Prim.Native.Nat.{ℕ, zero, suc, _+_, _*_, _≤_, _<_, zero-le}
+use Prim.Native.Nat.{ℕ, zero, _+_, _*_, _≤_, _<_, zero-le}
 use native.Mathlib.Omega.{arith}
 use mathlib.Core.Path.{_≡_, refl, sym, ap, ap₂, _∙_, subst}
 use mathlib.Core.Bool.{Bool, true, false}
 use mathlib.Core.List.{List, [], _∷_, _++_}
-use lib.ListN.{getD, length, set, replicate, length-append}
+use lib.ListN.{getD, length, set, length-append}
 use lib.Dec.{eqb, leb, ltb}
 use borrow.Author.Tests.{eq-eqb, ne-eqb, eqb-true, eqb-false, le-leb, lt-leb, le-ltb, lt-ltb, ltb-true, ltb-false, leb-true, leb-false}
 use Rattle.meaning.specs.Octets.{pick, any, cut, _when_else_}
-use Rattle.meaning.specs.Lists.{append-nil, by-test}
-use Rattle.meaning.specs.Wire.{Sent, records, rootIn}
+use Rattle.meaning.specs.Lists.{append-nil, by-test, getD-all}
+use Rattle.meaning.specs.Wire.{Sent, records, rootIn, recordSize}
 use Rattle.meaning.specs.Card.{Tree, Card, free, noRoute, withTrees, bare, treePlace, treeOf, treeAt, stands, isBranch, isEmpty, notHeld, leadsOn, mappedTo, useOf, heldFor, freeLabels, treeLimit, routeOf}
 use Rattle.meaning.specs.Events.{Outcome, taken, unless, finish, Moved, still, followedBy, letGo, takeUp, moveLabel, relabel, needMove, need, labelsShort, upstream, holder, upstreamOf, entered, swept, treesFull, treeRefusal, enter, become}
 use Rattle.meaning.specs.Standing.{not-standing}
@@ -23,14 +23,9 @@ use Rattle.event_tree.proofs.Laws.{does-refused, does-short, enter-is, 
 pub none-stands : (c : Card) (a : List ℕ) (i : ℕ) → i ≡ treePlace a c → i ≡ length (c .trees) → treeOf a c ≡ bare a
 none-stands c a i ei h = not-standing c a (rw (← ei) (omega arith))
 
-getD-zeros : (k n : ℕ) → _≡_ {A = ℕ} (getD (replicate k 0) n 0) 0
-getD-zeros zero n = refl
-getD-zeros (suc k) zero = refl
-getD-zeros (suc k) (suc n) = getD-zeros k n
-
 pub bare-branch : (a : List ℕ) (n : ℕ) → getD (bare a .branches) n 0 ≡ 0
 unfolding bare
-bare-branch a n = getD-zeros 16 n
+bare-branch a n = getD-all 16 n 0
 
 pub entered-new : (c : Card) (t : Tree) (i : ℕ) → i ≡ treePlace (t .name) c → i ≡ length (c .trees) → entered c t ≡ withTrees (c .trees ++ (t ∷ [])) c
 unfolding entered
@@ -140,7 +135,7 @@ module _ (c : Card) (t : Tree) (i u : ℕ) (ei : i ≡ treePlace (t .name) c) (h
   abbrev larger : Card
   larger = withTrees (c .trees ++ (t ∷ [])) c
 
-  pub larger-size : (id : ℕ) → length (records id (takeUp i u larger .sent)) ≡ needMove u * (24 + length (t .name))
+  pub larger-size : (id : ℕ) → length (records id (takeUp i u larger .sent)) ≡ needMove u * (recordSize (t .name))
   larger-size id = take-up-size id i larger u ∙ rw (new-at c t i h) refl
 
   pub new-full : treeLimit ≤ length (c .trees) → Does (finish (length s) c (become c [] t)) 11 0 s s c
@@ -157,10 +152,10 @@ module _ (c : Card) (t : Tree) (i u : ℕ) (ei : i ≡ treePlace (t .name) c) (h
       no-refusal : (x y : Bool) → x ≡ false → y ≡ false → (o : Outcome) → unless (11 when x else 12 when y else 0) o ≡ o
       no-refusal x y p q o = rw (p, q) (unfold _when_else_ unless in refl)
 
-  pub new-room : length (c .trees) < treeLimit → needMove u ≤ freeLabels c → length s < needMove u * (24 + length (t .name)) → Does (finish (length s) c (become c [] t)) 16 0 s s c
+  pub new-room : length (c .trees) < treeLimit → needMove u ≤ freeLabels c → length s < needMove u * (recordSize (t .name)) → Does (finish (length s) c (become c [] t)) 16 0 s s c
   new-room k l m = rw (taken-new k l) (does-short c _ _ s (rw (larger-size (c .next)) m))
 
-  pub new-done : length (c .trees) < treeLimit → needMove u ≤ freeLabels c → needMove u * (24 + length (t .name)) ≤ length s
+  pub new-done : length (c .trees) < treeLimit → needMove u ≤ freeLabels c → needMove u * (recordSize (t .name)) ≤ length s
       → (s' : List ℕ) (e : Card) (end : ℕ) → Ended (takeUp i u larger) (c .next) 0 s s' e end → Does (finish (length s) c (become c [] t)) 0 end s s' e
   new-done k l m s' e end w = rw (taken-new k l) (does-ended c _ _ s s' e end (rw (larger-size (c .next)) m) w)
 
@@ -212,10 +207,10 @@ pub record Newcomer (c : Card) (t : Tree) (a : List ℕ) (i u : ℕ) : Type 0 wh
   pub upstream : u ≡ upstreamOf c t
   pub full : isEmpty t ≡ false
 
-module _ (c : Card) (t : Tree) (a : List ℕ) (i u : ℕ) (N : Newcomer c t a i u) (s : List ℕ) (size r : ℕ) (es : size ≡ 24 + length a)
+module _ (c : Card) (t : Tree) (a : List ℕ) (i u : ℕ) (N : Newcomer c t a i u) (s : List ℕ) (size r : ℕ) (es : size ≡ recordSize a)
     (er : r ≡ 11 when leb treeLimit (length (c .trees)) else 12 when ltb (freeLabels c) (needMove u) else 16 when ltb (length s) (needMove u * size) else 0) where
-  sized : size ≡ 24 + length (t .name)
-  sized = es ∙ ap (λ (l : List ℕ). 24 + length l) (sym (N .name))
+  sized : size ≡ recordSize (t .name)
+  sized = es ∙ ap (λ (l : List ℕ). recordSize l) (sym (N .name))
 
   pub new-refused : (r ≡ 0 → ⊥) → Does (finish (length s) c (become c [] t)) r 0 s s c
   new-refused some =

@@ -9,9 +9,9 @@ use lib.ListN.{getD, length, set, length-set}
 use lib.Seq.{set-out}
 use lib.Dec.{eqb}
 use borrow.Author.Tests.{eq-eqb, ne-eqb}
-use Rattle.meaning.specs.Octets.{pick, any, _when_else_}
+use Rattle.meaning.specs.Octets.{pick, any}
 use Rattle.meaning.specs.Lists.{by-test}
-use Rattle.meaning.specs.Wire.{Sent, recordOf, nextId, records, idsAfter, release}
+use Rattle.meaning.specs.Wire.{Sent, recordOf, nextId, records, idsAfter, release, recordSize}
 use Rattle.meaning.specs.Card.{Tree, Card, free, withNext, withTrees, withLabels, withBranch, bare, treePlace, treeAt, isBranch, isEmpty, isAwaiting, useOf}
 use Rattle.meaning.specs.Events.{taken, unless, finish, Moved, followedBy, tell, setUse, relabel, become, branch, lessBranch, onWithdraw, onRelease, notAwaited}
 use Rattle.meaning.specs.Calls.{Does}
@@ -94,19 +94,19 @@ module _ (c : Card) (t : Tree) (i u n l : ℕ) (S : Standing c t i u) (s : List 
   abbrev answer-release : List Sent
   answer-release = tell n release (treeAt i c .name) l ∷ []
 
-  pub release-size : 24 + length (treeAt i c .name) ≡ length (records (c .next) answer-release)
+  pub release-size : recordSize (treeAt i c .name) ≡ length (records (c .next) answer-release)
   release-size = sym (ap length (records-one (c .next) _) ∙ record-size (c .next) _)
 
   -- the Release, and then the tree's own end
-  pub withdraw-ends : (id id₁ at : ℕ) (s₁ s₂ : List ℕ) (d e : Card) (empty : Bool) (end : ℕ) → id ≡ c .next → 24 + length (treeAt i c .name) ≤ length s
-      → id₁ ≡ nextId id → s₁ ≡ mid 0 (24 + length (treeAt i c .name)) s (recordOf id (tell n release (treeAt i c .name) l)) → at ≡ 24 + length (treeAt i c .name)
+  pub withdraw-ends : (id id₁ at : ℕ) (s₁ s₂ : List ℕ) (d e : Card) (empty : Bool) (end : ℕ) → id ≡ c .next → recordSize (treeAt i c .name) ≤ length s
+      → id₁ ≡ nextId id → s₁ ≡ mid 0 (recordSize (treeAt i c .name)) s (recordOf id (tell n release (treeAt i c .name) l)) → at ≡ recordSize (treeAt i c .name)
       → d ≡ withTrees (set (c .trees) i t) c → empty ≡ isEmpty t
       → Ended (thenCut empty i (relabel i u d)) id₁ at s₁ s₂ e end
       → Ended (record { sent = answer-release ++ relabel i u (withTrees (set (c .trees) i t) c) .sent; card = thenCut (isEmpty t) i (relabel i u (withTrees (set (c .trees) i t) c)) .card }) (c .next) 0 s s₂ e end
   unfolding followedBy thenCut
   withdraw-ends id id₁ at s₁ s₂ d e empty end en fits en₁ es ea ed ee w =
       subst (λ (k : ℕ). Ended (followedBy sent-first (λ (x : Card). thenCut (isEmpty t) i (relabel i u x))) k 0 s s₂ e end) en
-      (ended-then sent-first (λ (x : Card). thenCut (isEmpty t) i (relabel i u x)) id 0 s s₁ s₂ (withTrees (set (c .trees) i t) c) e (0 + (24 + length (treeAt i c .name))) id₁ end
+      (ended-then sent-first (λ (x : Card). thenCut (isEmpty t) i (relabel i u x)) id 0 s s₁ s₂ (withTrees (set (c .trees) i t) c) e (0 + (recordSize (treeAt i c .name))) id₁ end
       (rw (records-one id (tell n release (treeAt i c .name) l), record-size id (tell n release (treeAt i c .name) l)) (omega arith))
       (wrote-one (tell n release (treeAt i c .name) l) _ id 0 id₁ s s₁ _ refl es en₁)
       (subst (λ (k : ℕ). Ended (thenCut (isEmpty t) i (relabel i u (withTrees (set (c .trees) i t) c))) id₁ k s₁ s₂ e end) (ea ∙ omega arith)
@@ -118,21 +118,21 @@ module _ (c : Card) (t : Tree) (i u n l : ℕ) (S : Standing c t i u) (s : List 
 
 -- for a tree that does not stand
 module _ (c : Card) (a : List ℕ) (i n l : ℕ) (ei : i ≡ treePlace a c) (h : i ≡ length (c .trees)) (z : useOf 0 c ≡ free) (k : 0 < l) (s : List ℕ) where
-  unknown-size : length (records (c .next) (tell n release a l ∷ [])) ≡ 24 + length a
+  unknown-size : length (records (c .next) (tell n release a l ∷ [])) ≡ recordSize a
   unknown-size = ap length (records-one (c .next) _) ∙ record-size (c .next) _
 
-  pub unknown-room : length s < 24 + length a → Does (finish (length s) c (onWithdraw c n a l)) 16 0 s s c
+  pub unknown-room : length s < recordSize a → Does (finish (length s) c (onWithdraw c n a l)) 16 0 s s c
   unknown-room p = rw (← (withdraw-unknown c a i ei h z n l k)) (does-short c c _ s (rw unknown-size p))
 
-  pub unknown-done : 24 + length a ≤ length s → (id next : ℕ) (s' : List ℕ) (e : Card) → id ≡ c .next → next ≡ nextId id → s' ≡ mid 0 (24 + length a) s (recordOf id (tell n release a l)) → e ≡ withNext next c
-      → Does (finish (length s) c (onWithdraw c n a l)) 0 (24 + length a) s s' e
+  pub unknown-done : recordSize a ≤ length s → (id next : ℕ) (s' : List ℕ) (e : Card) → id ≡ c .next → next ≡ nextId id → s' ≡ mid 0 (recordSize a) s (recordOf id (tell n release a l)) → e ≡ withNext next c
+      → Does (finish (length s) c (onWithdraw c n a l)) 0 (recordSize a) s s' e
   unknown-done p id next s' e en e₁ es ec =
       rw (← (withdraw-unknown c a i ei h z n l k))
-      (does-taken c c _ s s' c (24 + length a) next (rw unknown-size p)
-      (subst (λ (x : ℕ). Wrote (record { sent = tell n release a l ∷ []; card = c }) x 0 s s' c (24 + length a) next) en
-      (subst (λ (x : ℕ). Wrote (record { sent = tell n release a l ∷ []; card = c }) id 0 s s' c x next) (zero-add (24 + length a))
+      (does-taken c c _ s s' c (recordSize a) next (rw unknown-size p)
+      (subst (λ (x : ℕ). Wrote (record { sent = tell n release a l ∷ []; card = c }) x 0 s s' c (recordSize a) next) en
+      (subst (λ (x : ℕ). Wrote (record { sent = tell n release a l ∷ []; card = c }) id 0 s s' c x next) (zero-add (recordSize a))
       (wrote-one (tell n release a l) c id 0 next s s' c refl es e₁))) e ec)
 
 -- a record written at the front leaves the buffer as long as it was
-pub sent-length : (s s' a : List ℕ) (id n k l : ℕ) → 24 + length a ≤ length s → s' ≡ mid 0 (24 + length a) s (recordOf id (tell n k a l)) → length s' ≡ length s
-sent-length s s' a id n k l h e = ap length e ∙ mid-length 0 (24 + length a) s (recordOf id (tell n k a l)) (omega arith) (record-size id (tell n k a l))
+pub sent-length : (s s' a : List ℕ) (id n k l : ℕ) → recordSize a ≤ length s → s' ≡ mid 0 (recordSize a) s (recordOf id (tell n k a l)) → length s' ≡ length s
+sent-length s s' a id n k l h e = ap length e ∙ mid-length 0 (recordSize a) s (recordOf id (tell n k a l)) (omega arith) (record-size id (tell n k a l))

@@ -199,3 +199,9 @@ pub set-replicate {ℓ} : {A : Type ℓ} (n u : ℕ) (x : A) → set (replicate 
 set-replicate zero u x = refl
 set-replicate (suc n) zero x = refl
 set-replicate (suc n) (suc u) x = ap (λ l. x ∷ l) (set-replicate n u x)
+
+-- and read at any place
+pub getD-all {ℓ} : {A : Type ℓ} (n i : ℕ) (x : A) → getD (replicate n x) i x ≡ x
+getD-all zero i x = refl
+getD-all (suc n) zero x = refl
+getD-all (suc n) (suc i) x = getD-all n i x

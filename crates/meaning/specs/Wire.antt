@@ -50,7 +50,11 @@ rootLimit = 16
 abbrev pub nameLimit : ℕ
 nameLimit = 6 + rootLimit + opaqueLimit
 
--- the longest record of a message that names a tree: 24 octets besides its name
+-- how many octets the record of a message that names a tree has: 24 besides its name
+abbrev pub recordSize : List ℕ → ℕ
+recordSize name = 24 + length name
+
+-- the longest
 abbrev pub recordLimit : ℕ
 recordLimit = 24 + nameLimit
 

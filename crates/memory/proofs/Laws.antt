@@ -12,20 +12,16 @@ use lib.Dec.{eqb, ltb}
 use lib.Count.{ones, ones-le, trailingZeros}
 use borrow.Author.Tests.{lt-ltb, ltb-true, ltb-false, le-leb, lt-leb, eq-eqb, ne-eqb}
 use Rattle.meaning.specs.Octets.{any, place, count, same}
-use Rattle.meaning.specs.Lists.{by-test, getD-out}
+use Rattle.meaning.specs.Lists.{by-test, getD-out, positive}
 use Rattle.meaning.specs.Card.{Tree, Use, withNext, withTrees, withBranch, withLeaf, withLabel, treeAt, isBranch, named, treePlace, free, withLabels, isFree, isAwaiting, mappedTo, useOf, heldFor, freeLabels, carries, mapped, awaiting, treeLimit, routeLimit, labelCount}
 use Rattle.meaning.specs.Events.{baseOutside, setLabel, setUse, ended}
 use Rattle.octets.specs.Part.{tab}
 use Rattle.octets.proofs.Tab.{tab-length, tab-get, tab-ext, tab-set, place-start, place-hit, place-miss, place-none, count-none}
 use Rattle.octets.proofs.Bits.{trailing-bit, Says, place-word, place-empty, count-word}
 use Rattle.memory.specs.Sizes.{nameSpace, routeColumn, ownColumn, rowWidth, rowColumn, branchColumn, rowNumbers, markColumn, wordCount, labelNumbers, treeOctets, labelOctets, rootOctets, labelNames, rootNames, Numbers}
-use Rattle.memory.specs.Memory.{upTo, textAt, treeName, baseIn, nextIn, routeCount, treeCount, routeIn, wordAt, isFreeAt, markAt, markUse, markPlace, isMappedAt, labelIn, ownPlace, carriesAt, ownLabel, treeIn, labelName, cardOf, Relabelled}
+use Rattle.memory.specs.Memory.{upTo, textAt, treeName, baseIn, nextIn, routeCount, treeCount, routeIn, wordAt, isFreeAt, markAt, markUse, markPlace, isMappedAt, labelIn, ownPlace, carriesAt, ownLabel, treeIn, labelName, cardOf, Relabelled, InBlock}
 use Rattle.memory.proofs.Memory.{treeCount-le, base-range, text-part, text-le, base-same, next-same, routes-same, own-kept, tree-with, tree-same, trees-same, label-same, labels-same, agree-refl, agree-set, tree-at}
 use Rattle.memory.proofs.Marks.{never, mapped-at, mapped-use, unmapped-free, unmapped-above, label-free, label-mapped, label-awaiting, free-in, remarked, remarked-free, carried-in, carried-out, not-mapped, not-named, own-some, own-none, own-beside}
-
-pos : (m : ℕ) → (m ≡ 0 → ⊥) → 0 < m
-pos zero f = absurd (f refl)
-pos (suc m) f = omega arith
 
 -- ---- the head
 
@@ -130,7 +126,7 @@ module _ (bs : List ℕ) (but n : ℕ) where
 
   pub others-hit : (r : ℕ) → n < length bs → (n ≡ but → ⊥) → r ≡ getD bs n 0 → (r ≡ 0 → ⊥) → any isBranch (drop n (set bs but 0)) ≡ true
   unfolding any isBranch
-  others-hit r h ne e z = rw (drop-cons (set bs but 0) n 0 (rw length-set h), getD-set-other bs but n 0 0 ne, ← e, lt-ltb 0 r (pos r z)) refl
+  others-hit r h ne e z = rw (drop-cons (set bs but 0) n 0 (rw length-set h), getD-set-other bs but n 0 0 ne, ← e, lt-ltb 0 r (positive r z)) refl
 
   pub others-none : length bs ≤ n → any isBranch (drop n (set bs but 0)) ≡ false
   unfolding any
@@ -246,49 +242,58 @@ module _ (ns os : List ℕ) (p n : ℕ) (a : List ℕ) where
       let k : 16 ≤ markUse (markAt ns p) = ltb-false _ _ t in
       rw (label-awaiting ns p os e k) (rw (ne-eqb (markUse (markAt ns p) - 16) n (λ q. ne (omega arith))) refl)))
 
-module _ (ns os : List ℕ) (label b : ℕ) (e : b ≡ baseIn ns) where
-  pub use-under : label < b → useOf label (cardOf ns os) ≡ free
-  unfolding useOf cardOf
-  use-under h = rw (lt-leb (baseIn ns) label (rw e at h)) refl
+-- a label of any number: its place in the block
+module _ (ns : List ℕ) (label b : ℕ) (e : b ≡ baseIn ns) where
+  pub block-under : label < b → InBlock ns label labelCount
+  block-under h = record {
+    limit = omega arith;
+    inside = λ k. absurd (omega arith);
+    outside = λ _ os. unfold useOf cardOf in rw (lt-leb (baseIn ns) label (rw e at h)) refl;
+  }
 
-  pub use-above : b ≤ label → labelCount ≤ label - b → useOf label (cardOf ns os) ≡ free
-  unfolding useOf cardOf
-  use-above h k = rw (le-leb (baseIn ns) label (rw e at h)) (getD-out (tab labelCount (labelIn ns os)) (label - baseIn ns) free (rw tab-length (rw e at k)))
+  pub block-above : b ≤ label → labelCount ≤ label - b → InBlock ns label labelCount
+  block-above h k = record {
+    limit = omega arith;
+    inside = λ k. absurd (omega arith);
+    outside = λ _ os. unfold useOf cardOf in rw (le-leb (baseIn ns) label (rw e at h)) (getD-out (tab labelCount (labelIn ns os)) (label - baseIn ns) free (rw tab-length (rw e at k)));
+  }
 
-  pub use-at : b ≤ label → label - b < labelCount → useOf label (cardOf ns os) ≡ labelIn ns os (label - b)
-  use-at h k = use-in ns os label (label - b) (omega arith) k
+  pub block-at : b ≤ label → label - b < labelCount → InBlock ns label (label - b)
+  block-at h k = record {
+    limit = omega arith;
+    inside = λ _. omega arith;
+    outside = λ far os. absurd (omega arith);
+  }
 
-  pub maps-under : label < b → 17 ≡ mappedTo (useOf label (cardOf ns os))
+-- and what it is used for
+module _ (ns os : List ℕ) (label p : ℕ) (r : InBlock ns label p) where
+  pub use-at : p < labelCount → useOf label (cardOf ns os) ≡ labelIn ns os p
+  use-at h = use-in ns os label p (r .inside h) h
+
+  pub maps-out : labelCount ≤ p → 17 ≡ mappedTo (useOf label (cardOf ns os))
   unfolding mappedTo
-  maps-under h = rw (use-under h) refl
-
-  pub maps-above : b ≤ label → labelCount ≤ label - b → 17 ≡ mappedTo (useOf label (cardOf ns os))
-  unfolding mappedTo
-  maps-above h k = rw (use-above h k) refl
+  maps-out h = rw (r .outside h os) refl
 
   -- whether it awaits release
 
   abbrev pub Awaits : ℕ → List ℕ → Bool → Type 0
   Awaits n a r = (r ≡ isAwaiting n a (useOf label (cardOf ns os))) × (r ≡ true → (baseIn ns ≤ label) × (label < baseIn ns + labelCount) × (isMappedAt ns (label - baseIn ns) ≡ false))
 
-  pub awaits-under : (n : ℕ) (a : List ℕ) → label < b → Awaits n a false
+  pub awaits-out : (n : ℕ) (a : List ℕ) → labelCount ≤ p → Awaits n a false
   unfolding isAwaiting
-  awaits-under n a h = (rw (use-under h) refl, λ z. absurd (never z))
+  awaits-out n a h = (rw (r .outside h os) refl, λ z. absurd (never z))
 
-  pub awaits-above : (n : ℕ) (a : List ℕ) → b ≤ label → labelCount ≤ label - b → Awaits n a false
-  unfolding isAwaiting
-  awaits-above n a h k = (rw (use-above h k) refl, λ z. absurd (never z))
+  pub awaits-free : (n : ℕ) (a : List ℕ) → p < labelCount → isFreeAt ns p ≡ true → Awaits n a false
+  awaits-free n a h f = (rw (use-at h) (sym (awaiting-free ns os p n a f)), λ z. absurd (never z))
 
-  pub awaits-free : (n : ℕ) (a : List ℕ) → b ≤ label → label - b < labelCount → isFreeAt ns (label - b) ≡ true → Awaits n a false
-  awaits-free n a h k f = (rw (use-at h k) (sym (awaiting-free ns os (label - b) n a f)), λ z. absurd (never z))
+  pub awaits-not : (n : ℕ) (a : List ℕ) → p < labelCount → (markUse (markAt ns p) ≡ 16 + n → ⊥) → Awaits n a false
+  awaits-not n a h ne = (rw (use-at h) (sym (awaiting-not ns os p n a ne)), λ z. absurd (never z))
 
-  pub awaits-not : (n : ℕ) (a : List ℕ) → b ≤ label → label - b < labelCount → (markUse (markAt ns (label - b)) ≡ 16 + n → ⊥) → Awaits n a false
-  awaits-not n a h k ne = (rw (use-at h k) (sym (awaiting-not ns os (label - b) n a ne)), λ z. absurd (never z))
-
-  pub awaits-same : (n : ℕ) (a : List ℕ) (r : Bool) → b ≤ label → label - b < labelCount → isFreeAt ns (label - b) ≡ false → n < 16 → markUse (markAt ns (label - b)) ≡ 16 + n → r ≡ same (labelName os (label - b)) a → Awaits n a r
-  awaits-same n a r h k t n16 m s =
-      let away : isMappedAt ns (label - b) ≡ false = unmapped-above ns (label - b) (omega arith) in
-      (rw (use-at h k) (s ∙ sym (awaiting-this ns os (label - b) n a t n16 m)), λ z. (omega arith, omega arith, rw (← e) away))
+  pub awaits-same : (n : ℕ) (a : List ℕ) (b : Bool) → p < labelCount → isFreeAt ns p ≡ false → n < 16 → markUse (markAt ns p) ≡ 16 + n → b ≡ same (labelName os p) a → Awaits n a b
+  awaits-same n a b h t n16 m s =
+      let at : label ≡ baseIn ns + p = r .inside h in
+      let back : label - baseIn ns ≡ p = omega arith in
+      (rw (use-at h) (s ∙ sym (awaiting-this ns os p n a t n16 m)), λ z. (omega arith, omega arith, rw back (unmapped-above ns p (omega arith))))
 
 -- the neighbour for which a tree holds its label
 module _ (ns os : List ℕ) (i : ℕ) (h : i < treeCount ns) where
@@ -300,7 +305,7 @@ module _ (ns os : List ℕ) (i : ℕ) (h : i < treeCount ns) where
 
   pub held-none : carriesAt ns i (ownPlace ns i) ≡ false → 17 ≡ heldFor (cardOf ns os) (treeAt i (cardOf ns os))
   unfolding heldFor
-  held-none c = rw (← label-none ns os i h c) (maps-under ns os 0 (baseIn ns) refl (omega (arith, base-range ns)))
+  held-none c = rw (← label-none ns os i h c) (maps-out ns os 0 labelCount (block-under ns 0 (baseIn ns) refl (omega (arith, base-range ns))) (omega arith))
 
 -- all labels, from the front
 

@@ -1,5 +1,5 @@
 -- The card that the lent memory denotes: any content denotes one. docs/MEMORY.md draws the layout. Assumes nothing.
-use Prim.Native.Nat.{ℕ, _+_, _*_, _-_, _/_, _%_, _<_}
+use Prim.Native.Nat.{ℕ, _+_, _*_, _-_, _/_, _%_, _≤_, _<_}
 use mathlib.Core.Bool.{Bool, not, _&&_}
 use mathlib.Core.Path.{_≡_}
 use mathlib.Core.List.{List}
@@ -7,7 +7,7 @@ use lib.ListN.{length, getD}
 use lib.Dec.{eqb, ltb}
 use Rattle.meaning.specs.Octets.{pick}
 use Rattle.meaning.specs.Wire.{rootLimit, nameLimit}
-use Rattle.meaning.specs.Card.{Route, Tree, Use, free, mapped, awaiting, Card, treeLimit, routeLimit, labelCount, neighbourCount}
+use Rattle.meaning.specs.Card.{Route, Tree, Use, free, mapped, awaiting, Card, useOf, treeLimit, routeLimit, labelCount, neighbourCount}
 use Rattle.meaning.specs.Events.{baseOutside}
 use Rattle.octets.specs.Part.{tab}
 use Rattle.octets.specs.Bits.{bit}
@@ -122,3 +122,11 @@ pub record Relabelled (p : ℕ) (ns ms : List ℕ) : Type 0 where
   pub rest : (k : ℕ) → k < markColumn → getD ms k 0 ≡ getD ns k 0
   pub marks : (q : ℕ) → q < labelCount → (q ≡ p → ⊥) → markAt ms q ≡ markAt ns q
   pub frees : (q : ℕ) → q < labelCount → (q ≡ p → ⊥) → isFreeAt ms q ≡ isFreeAt ns q
+
+-- ---- a label of any number
+
+-- p is its place in the block; labelCount where it is not of the block, and then it is used for nothing
+pub record InBlock (ns : List ℕ) (label p : ℕ) : Type 0 where
+  pub limit : p ≤ labelCount
+  pub inside : p < labelCount → label ≡ baseIn ns + p
+  pub outside : labelCount ≤ p → (os : List ℕ) → useOf label (cardOf ns os) ≡ free

@@ -7,7 +7,7 @@ ghost use Rattle.meaning.specs.Octets.{place};
 ghost use Rattle.meaning.specs.Card.{isFree, isAwaiting, mappedTo, useOf, freeLabels, free, awaiting, labelCount};
 ghost use Rattle.meaning.specs.Events.{setUse, labelsShort};
 ghost use Rattle.memory.specs.Sizes.{Numbers, Names};
-ghost use Rattle.memory.specs.Memory.{cardOf, baseIn, labelName, isFreeAt, isMappedAt, labelIn, Relabelled};
+ghost use Rattle.memory.specs.Memory.{cardOf, baseIn, labelName, isFreeAt, isMappedAt, labelIn, Relabelled, InBlock};
 use meaning::LABEL_COUNT;
 use meaning::NAME_LIMIT;
 use memory::FOURTH_WORD;
@@ -66,19 +66,31 @@ pub fn awaited_at(numbers: &[u64], p: usize) -> u64
     numbers[MARK_COLUMN + p] % 256 - 16
 }
 
+// The place of a label in the block; 256 where it is not of the block.
+pub fn place_in_block(numbers: &[u64], label: u64) -> usize
+    requires { ⌜ Numbers (now numbers) ⌝ }
+    ensures { λ r. ⌜ InBlock (now (numbers .entry)) label r ⌝ }
+{
+    let b = memory::base(numbers);
+    if label < b {
+        return LABEL_COUNT;
+    }
+    if LABELS <= label - b {
+        return LABEL_COUNT;
+    }
+    (label - b) as usize
+}
+
 // The neighbour to which a label is mapped; 17 for none.
 pub fn mapped_to(numbers: &[u64], label: u64) -> u64
     requires { ⌜ Numbers (now numbers) ⌝ }
     ensures { λ r. ⌜ ((os : List ℕ) → r ≡ mappedTo (useOf label (cardOf (now (numbers .entry)) os))) × (r ≤ 17) ⌝ }
 {
-    let b = memory::base(numbers);
-    if label < b {
+    let p = place_in_block(numbers, label);
+    if LABEL_COUNT <= p {
         return 17;
     }
-    if LABELS <= label - b {
-        return 17;
-    }
-    mapped_at(numbers, (label - b) as usize)
+    mapped_at(numbers, p)
 }
 
 pub fn label_name(names: &[u8], p: usize) -> &[u8]
@@ -94,14 +106,10 @@ pub fn is_awaited(numbers: &[u64], names: &[u8], neighbour: u64, name: &[u8], la
     ensures { λ r. ⌜ (r ≡ isAwaiting neighbour (now (name .entry)) (useOf label (cardOf (now (numbers .entry)) (now (names .entry)))))
         × (r ≡ true → (baseIn (now (numbers .entry)) ≤ label) × (label < baseIn (now (numbers .entry)) + labelCount) × (isMappedAt (now (numbers .entry)) (label - baseIn (now (numbers .entry))) ≡ false)) ⌝ }
 {
-    let b = memory::base(numbers);
-    if label < b {
+    let p = place_in_block(numbers, label);
+    if LABEL_COUNT <= p {
         return false;
     }
-    if LABELS <= label - b {
-        return false;
-    }
-    let p = (label - b) as usize;
     if is_free(numbers, p) {
         return false;
     }

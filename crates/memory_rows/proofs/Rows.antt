@@ -10,6 +10,7 @@ use lib.Seq.{getD-set-same, getD-set-other}
 use borrow.Author.Tests.{le-leb}
 use Rattle.meaning.specs.Octets.{cut}
 use Rattle.meaning.specs.Wire.{nameLimit}
+use Rattle.meaning.specs.Lists.{getD-all}
 use Rattle.meaning.specs.Card.{free, labelCount, fresh, withTrees, bare, treeLimit}
 use Rattle.meaning.specs.Events.{baseOutside}
 use Rattle.octets.specs.Part.{tab}
@@ -39,11 +40,6 @@ module _ (ns ns' os os' : List ℕ) where
       cc
 
 -- ---- the start
-
-zeros : (n m : ℕ) → _≡_ {A = ℕ} (getD (replicate n 0) m 0) 0
-zeros zero m = refl
-zeros (suc n) zero = refl
-zeros (suc n) (suc m) = zeros n m
 
 tab-replicate : {A : Type 0} (n : ℕ) (f : ℕ → A) (v : A) → ((i : ℕ) → i < n → f i ≡ v) → tab n f ≡ replicate n v
 unfolding tab
@@ -120,7 +116,7 @@ start-fresh ns zs os base h lo hi e =
     ms = full v ks
 
     rest : (j : ℕ) → 2 ≤ j → j < wordColumn → getD ms j 0 ≡ 0
-    rest j k h = full-rest ks v j h ∙ getD-set-other (set zs 0 base) 1 j 1 0 (λ q. omega arith) ∙ getD-set-other zs 0 j base 0 (λ q. omega arith) ∙ ap (λ (l : List ℕ). getD l j 0) e ∙ zeros (length ns) j
+    rest j k h = full-rest ks v j h ∙ getD-set-other (set zs 0 base) 1 j 1 0 (λ q. omega arith) ∙ getD-set-other zs 0 j base 0 (λ q. omega arith) ∙ ap (λ (l : List ℕ). getD l j 0) e ∙ getD-all (length ns) j 0
 
 -- ---- a row goes
 
@@ -233,5 +229,5 @@ enter-tree ns zs os qs o n hl hn h64 ho wr wn =
     new =
         new-tree ms os qs o n ho
         (getD-set-other (set zs (ownColumn + n) noLabel) 3 (ownColumn + n) (n + 1) 0 (λ e. omega arith) ∙ getD-set-same zs (ownColumn + n) noLabel 0 (omega (arith, wr .long)))
-        (λ j lt. getD-set-other (set zs (ownColumn + n) noLabel) 3 (rowColumn + n * rowWidth + j) (n + 1) 0 (λ e. omega arith) ∙ getD-set-other zs (ownColumn + n) (rowColumn + n * rowWidth + j) noLabel 0 (λ e. omega arith) ∙ wr .here j lt ∙ zeros 17 j)
+        (λ j lt. getD-set-other (set zs (ownColumn + n) noLabel) 3 (rowColumn + n * rowWidth + j) (n + 1) 0 (λ e. omega arith) ∙ getD-set-other zs (ownColumn + n) (rowColumn + n * rowWidth + j) noLabel 0 (λ e. omega arith) ∙ wr .here j lt ∙ getD-all rowWidth j 0)
         wn

@@ -6,7 +6,7 @@ use native.Mathlib.Omega.{arith}
 use mathlib.Core.Path.{_≡_, refl, sym, ap, ap₂, _∙_, subst}
 use mathlib.Core.Bool.{true, false, _&&_}
 use mathlib.Core.List.{List, [], _∷_}
-use lib.ListN.{getD, length, set, length-set, replicate}
+use lib.ListN.{getD, length, set, length-set}
 use lib.Seq.{ext-getD, set-getD, getD-set-same, getD-set-other}
 use lib.Dec.{eqb, leb, ltb}
 use borrow.Author.Tests.{eqb-true, eqb-false, eq-eqb, ne-eqb, ltb-true, ltb-false, leb-true}
@@ -15,7 +15,7 @@ use Rattle.meaning.specs.Wire.{rootIn, mapping, withdraw, Message, messageIn, S
 use Rattle.meaning.specs.Card.{Tree, Use, free, mapped, awaiting, Card, fresh, withNext, withBranch, withLeaf, withLabel, bare, treePlace, treeOf, treeAt, isFree, isAwaiting, mappedTo, notHeld, leadsOn, useOf, freeLabels, heldFor, routeOf, routePlace, branchesFrom, feedOf, carries, carrier, feedOfUse, lookupLabel}
 use Rattle.meaning.specs.Events.{Out, Outcome, refused, taken, refuse, accept, roomShort, finish, upstream, holder, upstreamOf, branch, lessBranch, Event, receive, join, leave, route, outcome, event, baseOutside, start}
 use Rattle.promise.specs.Promise.{Given, ofLabel, isAbout, isWithdrawn, Demand3, noteAll, noteTaken, branchSaid, branchBy, leafBy, branchesBy, routeBy, feedBy, Step, Past, answerTo, sends, thenStep, thenSteps, history, Each, NoneLive, Leads, Promise}
-use Rattle.meaning.specs.Lists.{getD-same, by-test, picked, place-finds, place-count, same-eq, same-refl, getD-out, count-some}
+use Rattle.meaning.specs.Lists.{getD-same, by-test, picked, place-finds, place-count, same-eq, same-refl, getD-out, getD-all, count-some}
 use Rattle.meaning.specs.RoundTrip.{both, AllSendable, records-back}
 use Rattle.promise.specs.LiveLaws.{isMapped, mapped-near, stray, Linked, mapped-one, mapped-not-free, Books, only, givens, count-only, books-one, books-none, each-only}
 use Rattle.promise.specs.CardLaws.{shape, tree-name, Tidy, AllProper, at-named}
@@ -215,14 +215,9 @@ steps-upheld p (s ∷ ss) u = steps-upheld (thenStep p s) ss (then-upheld p s u)
 
 -- ---- a fresh card
 
-getD-free : (n i : ℕ) → getD (replicate n free) i free ≡ free
-getD-free zero i = refl
-getD-free (suc n) zero = refl
-getD-free (suc n) (suc i) = getD-free n i
-
 fresh-use : (b l : ℕ) → useOf l (fresh b) ≡ free
 unfolding useOf fresh
-fresh-use b l = picked (λ (u : Use). u ≡ free) (leb b l) (λ _. getD-free 256 (l - b)) (λ _. refl)
+fresh-use b l = picked (λ (u : Use). u ≡ free) (leb b l) (λ _. getD-all 256 (l - b) free) (λ _. refl)
 
 fresh-upheld : (b : ℕ) → 16 ≤ b → b ≤ 1048320 → Upheld (record { card = fresh b; live = []; accepted = [] })
 fresh-upheld b low high = record {

@@ -1,5 +1,5 @@
 -- What the loops over routes, trees, branches and labels know, and what the tests of one row say. Assumes nothing.
-use Prim.Native.Nat.{ℕ, _+_, _-_, _%_, _≤_, _<_}
+use Prim.Native.Nat.{ℕ, _+_, _%_, _≤_, _<_}
 use native.Mathlib.Omega.{arith}
 use mathlib.Core.Path.{_≡_, refl, ap}
 use mathlib.Core.Bool.{Bool, true, false, not, _&&_}
@@ -12,10 +12,10 @@ use Rattle.meaning.specs.Lists.{getD-out, getD-same}
 use Rattle.meaning.specs.Card.{Tree, mapped, awaiting, Card, treeAt, treeOf, treePlace, bare, isFree, mappedTo, useOf, labelCount, routeLimit, treeLimit}
 use Rattle.meaning.specs.Events.{baseOutside}
 use Rattle.meaning.specs.Save.{isName, onceEach, isRoute, sameRoot, isTree, sameName, isUse, isCarried, allCarried, isMappedFor, carriesOwn, holdsRight, keepsRules}
-use Rattle.memory.specs.Memory.{baseIn, nextIn, treeCount, labelName, labelIn, cardOf}
+use Rattle.memory.specs.Memory.{baseIn, nextIn, treeCount, labelName, labelIn, cardOf, InBlock}
 use Rattle.memory.proofs.Memory.{routeCount-le, treeCount-le, base-range, routes-length, trees-length, labels-length}
 use Rattle.memory.proofs.Marks.{by-use}
-use Rattle.memory.proofs.Laws.{use-under, use-above, use-at}
+use Rattle.memory.proofs.Laws.{use-at}
 
 -- ---- one label
 
@@ -95,18 +95,14 @@ module _ (ns os : List ℕ) (p m : ℕ) (e : m ≡ mappedTo (labelIn ns os p)) (
   pub carried-absent : n ≤ i → isCarried (cardOf ns os) (baseIn ns + p) (labelIn ns os p) ≡ false
   carried-absent h = rw (named-tree, tree-none ns os a i n ei en h) (ne-eqb 0 (baseIn ns + p) (λ q. omega (arith, base-range ns)))
 
--- a label of any number
-module _ (ns os a : List ℕ) (label b : ℕ) (e : b ≡ baseIn ns) where
-  pub for-under : label < b → isMappedFor a (useOf label (cardOf ns os)) ≡ false
+-- a label of any number, by its place in the block
+module _ (ns os a : List ℕ) (label p : ℕ) (r : InBlock ns label p) where
+  pub for-out : labelCount ≤ p → isMappedFor a (useOf label (cardOf ns os)) ≡ false
   unfolding isMappedFor
-  for-under h = rw (use-under ns os label b e h) refl
+  for-out h = rw (r .outside h os) refl
 
-  pub for-above : b ≤ label → labelCount ≤ label - b → isMappedFor a (useOf label (cardOf ns os)) ≡ false
-  unfolding isMappedFor
-  for-above h k = rw (use-above ns os label b e h k) refl
-
-  pub for-at : b ≤ label → label - b < labelCount → isMappedFor a (useOf label (cardOf ns os)) ≡ isMappedFor a (labelIn ns os (label - b))
-  for-at h k = ap (isMappedFor a) (use-at ns os label b e h k)
+  pub for-at : p < labelCount → isMappedFor a (useOf label (cardOf ns os)) ≡ isMappedFor a (labelIn ns os p)
+  for-at h = ap (isMappedFor a) (use-at ns os label p r h)
 
 module _ (c : Card) (t : Tree) (l : ℕ) (e : l ≡ t .label) where
   pub own-none : l ≡ 0 → carriesOwn c t ≡ true

@@ -11,7 +11,6 @@ ghost use Rattle.meaning.specs.Save.{isName, isUse, isCarried, allCarried, isMa
 ghost use Rattle.memory.specs.Sizes.{Numbers, Names};
 ghost use Rattle.memory.specs.Memory.{cardOf, baseIn, isFreeAt, labelIn, labelName, treeCount};
 use meaning::LABEL_COUNT;
-use memory::LABELS;
 
 // ---- labels
 
@@ -88,14 +87,10 @@ fn is_mapped_for(numbers: &[u64], names: &[u8], label: u64, name: &[u8]) -> bool
     requires { ⌜ Numbers (now numbers) × Names (now names) ⌝ }
     ensures { λ r. ⌜ r ≡ isMappedFor (now (name .entry)) (useOf label (cardOf (now (numbers .entry)) (now (names .entry)))) ⌝ }
 {
-    let b = memory::base(numbers);
-    if label < b {
+    let p = memory_labels::place_in_block(numbers, label);
+    if LABEL_COUNT <= p {
         return false;
     }
-    if LABELS <= label - b {
-        return false;
-    }
-    let p = (label - b) as usize;
     if memory_labels::mapped_at(numbers, p) == 17 {
         return false;
     }

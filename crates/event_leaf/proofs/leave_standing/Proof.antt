@@ -1,5 +1,5 @@
-use borrow.Author.Tests.{not-false}
-use Rattle.event_leaf.proofs.Laws.{not-true, leave-leaf, leave-labels, leave-no-leaf, leaf-stands, leaf-gone}
+use borrow.Author.Tests.{not-false, not-true}
+use Rattle.event_leaf.proofs.Laws.{leave-leaf, leave-labels, leave-no-leaf, leaf-stands, leaf-gone}
 use Rattle.event_tree.proofs.Laws.{no-records}
 use Rattle.event_tree.proofs.Standing.{standing-refused, standing-taken, standing-ends, settle-ready}
 use mathlib.Core.Path.{sym, _∙_}

@@ -8,7 +8,7 @@ use lib.ListN.{length}
 use Rattle.meaning.specs.Card.{treeAt}
 use Rattle.memory.specs.Memory.{cardOf}
 use Rattle.memory.proofs.Memory.{trees-length}
-use Rattle.meaning.specs.Wire.{release}
+use Rattle.meaning.specs.Wire.{release, recordSize}
 use Rattle.meaning.specs.Events.{tell, become}
 use borrow.Author.Needs.{needs}
 use Rattle.event_withdraw.proofs.withdraw_standing.Statement.{statement}
@@ -50,7 +50,7 @@ returns c =
     let within : start .args .i < length (card .trees) = rw trees-length (start .pre .2) in
     let S = branch-stands card (start .args .i) (start .pre .5) within _ (start .args .n) _ (the-branch-holder .ensures .0) in
     let its-name = the-tree-name .ensures .0 _ (start .pre .2) in
-    let long = the-record-size .ensures ∙ ap (λ (l : List ℕ). 24 + length l) its-name ∙ release-size card _ (start .args .i) _ (start .args .n) (start .args .label) S (start .args .out .now) in
+    let long = the-record-size .ensures ∙ ap (λ (l : List ℕ). recordSize l) its-name ∙ release-size card _ (start .args .i) _ (start .args .n) (start .args .label) S (start .args .out .now) in
     let becomes = sym (withdraw-standing card _ (start .args .i) (start .pre .5) within (start .args .n) (start .args .label)) ∙ ap (become card (tell (start .args .n) release (treeAt (start .args .i) card .name) (start .args .label) ∷ [])) (sym (the-less-branch .ensures _)) in
     rw becomes (standing-refused card _ _ _ _ S _ _ _ long (c .before .standing-refusal .ensures) (c .if1 .taken))
 
@@ -70,7 +70,7 @@ send-requires c κs =
     let within : start .args .i < length (card .trees) = rw trees-length (start .pre .2) in
     let S = branch-stands card (start .args .i) (start .pre .5) within _ (start .args .n) _ (the-branch-holder .ensures .0) in
     let its-name = the-tree-name .ensures .0 _ (start .pre .2) in
-    let long = the-record-size .ensures ∙ ap (λ (l : List ℕ). 24 + length l) its-name ∙ release-size card _ (start .args .i) _ (start .args .n) (start .args .label) S (start .args .out .now) in
+    let long = the-record-size .ensures ∙ ap (λ (l : List ℕ). recordSize l) its-name ∙ release-size card _ (start .args .i) _ (start .args .n) (start .args .label) S (start .args .out .now) in
     let fits = first-fits card _ _ _ _ S (start .args .out .now) _ _ long (the-standing-refusal .ensures) (the-if1 .left) in
     (omega (arith, fits, the-record-size .ensures), omega (arith, the-tree-name .ensures .1))
 
@@ -93,7 +93,7 @@ settle-requires c κs =
     let within : start .args .i < length (card .trees) = rw trees-length (start .pre .2) in
     let S = branch-stands card (start .args .i) (start .pre .5) within _ (start .args .n) _ (the-branch-holder .ensures .0) in
     let its-name = the-tree-name .ensures .0 _ (start .pre .2) in
-    let long = the-record-size .ensures ∙ ap (λ (l : List ℕ). 24 + length l) its-name ∙ release-size card _ (start .args .i) _ (start .args .n) (start .args .label) S (start .args .out .now) in
+    let long = the-record-size .ensures ∙ ap (λ (l : List ℕ). recordSize l) its-name ∙ release-size card _ (start .args .i) _ (start .args .n) (start .args .label) S (start .args .out .now) in
     let becomes = sym (withdraw-standing card _ (start .args .i) (start .pre .5) within (start .args .n) (start .args .label)) ∙ ap (become card (tell (start .args .n) release (treeAt (start .args .i) card .name) (start .args .label) ∷ [])) (sym (the-less-branch .ensures _)) in
     let R = settle-ready card _ _ _ _ S (start .args .out .now) _ _ long (the-standing-refusal .ensures) (the-if1 .left) _ _ (the-set-branch .ensures _) in
     let fits = first-fits card _ _ _ _ S (start .args .out .now) _ _ long (the-standing-refusal .ensures) (the-if1 .left) in
@@ -127,9 +127,9 @@ returns-2 c =
     let within : start .args .i < length (card .trees) = rw trees-length (start .pre .2) in
     let S = branch-stands card (start .args .i) (start .pre .5) within _ (start .args .n) _ (the-branch-holder .ensures .0) in
     let its-name = the-tree-name .ensures .0 _ (start .pre .2) in
-    let long = the-record-size .ensures ∙ ap (λ (l : List ℕ). 24 + length l) its-name ∙ release-size card _ (start .args .i) _ (start .args .n) (start .args .label) S (start .args .out .now) in
+    let long = the-record-size .ensures ∙ ap (λ (l : List ℕ). recordSize l) its-name ∙ release-size card _ (start .args .i) _ (start .args .n) (start .args .label) S (start .args .out .now) in
     let becomes = sym (withdraw-standing card _ (start .args .i) (start .pre .5) within (start .args .n) (start .args .label)) ∙ ap (become card (tell (start .args .n) release (treeAt (start .args .i) card .name) (start .args .label) ∷ [])) (sym (the-less-branch .ensures _)) in
-    let sized = the-record-size .ensures ∙ ap (λ (l : List ℕ). 24 + length l) its-name in
+    let sized = the-record-size .ensures ∙ ap (λ (l : List ℕ). recordSize l) its-name in
     let fits = rw sized at (first-fits card _ _ _ _ S (start .args .out .now) _ _ long (the-standing-refusal .ensures) (the-if1 .left)) in
     let sent-it = rw its-name at (the-send .ensures .1) in
     rw becomes (standing-taken card _ _ _ _ S (start .args .out .now) _ _ long (the-standing-refusal .ensures) (the-if1 .left) _ _ _
