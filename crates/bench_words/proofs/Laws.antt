@@ -12,7 +12,7 @@ use lib.Dec.{eqb, leb, ltb}
 use borrow.Author.Tests.{eqb-true, eqb-false, eq-eqb, ne-eqb, leb-true, ltb-true, ltb-false, lt-ltb, le-ltb, not-true, not-false}
 use Rattle.meaning.specs.Octets.{pick, same, all}
 use Rattle.meaning.specs.Lists.{by-test, same-eq}
-use Rattle.octets.proofs.Laws.{front, front-more}
+use Rattle.octets.proofs.Parts.{front, front-more}
 use Rattle.bench_words.specs.Words.{ascii, part, NextWord, Puts, isGap, uncommented, lengthen, pieces, filled, words, isDigit, valueFrom, value, isNumber, isHexDigit, digit, isHexTo, octetsOf, glyph, hexOf, spell, numeral}
 use Rattle.bench_words.specs.Scan.{isLetter, letters, numberIn}
 use Rattle.bench_words.specs.declared.Number.{Number}

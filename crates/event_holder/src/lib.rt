@@ -37,8 +37,8 @@ pub fn relabel_size(numbers: &[u64], names: &[u8], i: usize, u: u64) -> usize
     move_size(numbers, names, i, u)
 }
 
-// 12 for the tree at place i, which is to hold a label for u.
-pub fn labels_short(numbers: &[u64], i: usize, u: u64) -> bool
+// 12: no label is free for the tree at place i, which is to hold one for u.
+pub fn no_label_for(numbers: &[u64], i: usize, u: u64) -> bool
     requires { ⌜ Numbers (now numbers) × (i < treeCount (now numbers)) × (i < treeLimit) ⌝ }
     ensures { λ r. ⌜ ((os : List ℕ) → r ≡ labelsShort (cardOf (now (numbers .entry)) os) (need (cardOf (now (numbers .entry)) os) (treeAt i (cardOf (now (numbers .entry)) os)) u)) ⌝ }
 {

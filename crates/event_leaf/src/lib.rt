@@ -95,7 +95,7 @@ fn leave_standing(
     let empty = !memory_trees::any_branch(numbers, i, 16, 0, 16);
     let u = event_tree::leaf_holder(numbers, names, i, false);
     if !memory_trees::is_leaf(numbers, i) {
-        *answer = if event_holder::labels_short(numbers, i, u) {
+        *answer = if event_holder::no_label_for(numbers, i, u) {
             12
         } else {
             14

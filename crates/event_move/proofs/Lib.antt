@@ -1,3 +1,5 @@
-pub mod Laws
+pub mod Records
+pub mod Alike
+pub mod Sizes
 pub mod Trees
 pub mod Steps

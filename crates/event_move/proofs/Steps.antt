@@ -13,9 +13,11 @@ use Rattle.meaning.specs.Events.{still, tell, setUse, setLabel, ended, giveUp, 
 use Rattle.octets.specs.Part.{mid}
 use Rattle.memory.specs.Memory.{cardOf, baseIn, treeCount}
 use Rattle.memory.proofs.Memory.{trees-length, labels-length}
-use Rattle.memory.proofs.Laws.{label-some, label-carried}
+use Rattle.memory.proofs.Trees.{label-some, label-carried}
 use Rattle.event_holder.specs.Move.{Wrote, moveSize}
-use Rattle.event_move.proofs.Laws.{wrote-nothing, wrote-one, then-length, let-go-size, let-go-stays, take-up-size, move-size}
+use Rattle.event_move.proofs.Records.{wrote-nothing, wrote-one, then-length}
+use Rattle.event_move.proofs.Alike.{let-go-stays}
+use Rattle.event_move.proofs.Sizes.{let-go-size, take-up-size, move-size}
 use Rattle.event_move.proofs.Trees.{give-up-free, give-free}
 use Rattle.event_holder.proofs.Sizes.{need-none, need-one}
 

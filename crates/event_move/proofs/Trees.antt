@@ -14,7 +14,8 @@ use Rattle.meaning.specs.Wire.{Sent, records}
 use Rattle.meaning.specs.Card.{Tree, Card, Use, free, mapped, awaiting, withTrees, withLabels, bare, treeAt, isFree, useOf, freeLabels, lowestFree, noRoute}
 use Rattle.meaning.specs.Events.{Moved, still, followedBy, setUse, setLabel, ended, giveUp, give, letGo, takeUp, moveLabel, holder, ofRoot, moveOne, moveFrom, sumFrom}
 use Rattle.event_holder.specs.Move.{sizeOne}
-use Rattle.event_move.proofs.Laws.{move-stays, move-size}
+use Rattle.event_move.proofs.Alike.{move-stays}
+use Rattle.event_move.proofs.Sizes.{move-size}
 
 -- ---- free labels
 

@@ -57,7 +57,7 @@ fn set_route(numbers: &mut [u64], names: &mut [u8], root: &[u8], via: u64)
         memory_routes::remove_route(numbers, names, i);
         return;
     }
-    memory_routes::put_route(numbers, names, i, root, via);
+    memory_routes::enter_route(numbers, names, i, root, via);
 }
 
 fn re_route(

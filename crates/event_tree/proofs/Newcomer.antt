@@ -15,10 +15,14 @@ use Rattle.meaning.specs.Events.{Outcome, taken, unless, finish, Moved, still, 
 use Rattle.meaning.specs.Standing.{not-standing}
 use Rattle.meaning.specs.Calls.{Does}
 use Rattle.octets.proofs.Tab.{put-end, cut-end}
-use Rattle.event_move.proofs.Laws.{take-up-stays, take-up-size, alike-empty}
+use Rattle.event_move.proofs.Alike.{take-up-stays, alike-empty}
+use Rattle.event_move.proofs.Sizes.{take-up-size}
 use Rattle.memory.specs.Memory.{cardOf, treeCount}
 use Rattle.event_tree.specs.End.{Ended}
-use Rattle.event_tree.proofs.Laws.{does-refused, does-short, enter-is, does-ended, when-1, when-2, when-3, when-0, count-is, any-zeros}
+use Rattle.event_tree.proofs.Found.{enter-is, count-is}
+use Rattle.event_tree.proofs.Ends.{does-refused, does-short, does-ended}
+use Rattle.event_tree.proofs.Tests.{when-1, when-2, when-3, when-0}
+use Rattle.event_tree.proofs.Upstream.{any-zeros}
 
 pub none-stands : (c : Card) (a : List ℕ) (i : ℕ) → i ≡ treePlace a c → i ≡ length (c .trees) → treeOf a c ≡ bare a
 none-stands c a i ei h = not-standing c a (rw (← ei) (omega arith))

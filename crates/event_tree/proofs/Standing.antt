@@ -16,10 +16,14 @@ use Rattle.meaning.specs.Events.{taken, unless, finish, relabel, needMove, need
 use Rattle.meaning.specs.Calls.{Does}
 use Rattle.octets.proofs.Tab.{put-in}
 use Rattle.event_holder.specs.Move.{moveSize, relabelSize}
-use Rattle.event_move.proofs.Laws.{records-append, relabel-stays, alike-empty, relabel-size}
+use Rattle.event_move.proofs.Records.{records-append}
+use Rattle.event_move.proofs.Alike.{relabel-stays, alike-empty}
+use Rattle.event_move.proofs.Sizes.{relabel-size}
 use Rattle.memory.specs.Memory.{cardOf, treeCount}
 use Rattle.event_tree.specs.End.{Ended, thenCut}
-use Rattle.event_tree.proofs.Laws.{does-refused, does-short, enter-is, does-ended, when-first, when-second, when-none, count-is}
+use Rattle.event_tree.proofs.Found.{enter-is, count-is}
+use Rattle.event_tree.proofs.Ends.{does-refused, does-short, does-ended}
+use Rattle.event_tree.proofs.Tests.{when-first, when-second, when-none}
 
 pub entered-in : (c : Card) (t : Tree) (i : ℕ) → i ≡ treePlace (t .name) c → i < length (c .trees) → entered c t ≡ withTrees (set (c .trees) i t) c
 unfolding entered

@@ -61,7 +61,7 @@ pub fn standing_refusal(
     ensures { λ r. ⌜ r ≡ 12 when labelsShort (cardOf (now (numbers .entry)) (now (names .entry))) (need (cardOf (now (numbers .entry)) (now (names .entry))) (treeAt i (cardOf (now (numbers .entry)) (now (names .entry)))) u)
         else 16 when ltb room (first + relabelSize (cardOf (now (numbers .entry)) (now (names .entry))) (treeAt i (cardOf (now (numbers .entry)) (now (names .entry)))) u) else 0 ⌝ }
 {
-    if event_holder::labels_short(numbers, i, u) {
+    if event_holder::no_label_for(numbers, i, u) {
         return 12;
     }
     if room < first + event_holder::relabel_size(numbers, names, i, u) {

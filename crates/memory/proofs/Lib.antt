@@ -1,4 +1,6 @@
 pub mod Memory
 pub mod Marks
 pub mod Parts
-pub mod Laws
+pub mod Head
+pub mod Labels
+pub mod Trees

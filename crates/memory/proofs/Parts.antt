@@ -10,7 +10,7 @@ use lib.Dec.{ltb}
 use borrow.Author.Tests.{ltb-true, ltb-false}
 use Rattle.meaning.specs.Lists.{by-test}
 use Rattle.octets.specs.Part.{mid, shifted}
-use Rattle.octets.proofs.Laws.{mid-length, mid-in, mid-before, mid-after, moved-length, moved-in, shifted-length}
+use Rattle.octets.proofs.Parts.{mid-length, mid-in, mid-before, mid-after, moved-length, moved-in, shifted-length}
 use Rattle.octets.proofs.Tab.{tab-ext, tab-is}
 use Rattle.memory.specs.Memory.{upTo, textAt}
 use Rattle.memory.proofs.Memory.{upTo-le, upTo-in}

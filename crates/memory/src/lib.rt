@@ -118,7 +118,7 @@ pub fn text(names: &[u8], k: usize, a: usize) -> &[u8]
 }
 
 // A text in its slot: its length, and then its octets.
-pub fn put_text(names: &mut [u8], at: usize, text: &[u8])
+pub fn set_text(names: &mut [u8], at: usize, text: &[u8])
     requires { ⌜ (at + 1 + length (now text) ≤ length (now names)) × (length (now text) < 256) ⌝ }
     ensures { λ _. ⌜ Written at (length (now (text .entry)) ∷ now (text .entry)) (now (names .entry)) (now (names .exit)) ⌝ }
 {

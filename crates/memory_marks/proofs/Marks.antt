@@ -21,7 +21,7 @@ use Rattle.memory.specs.Memory.{treeName, labelName, baseIn, treeCount, isFreeA
 use Rattle.memory.proofs.Memory.{treeCount-le, base-same, free-same, own-same, tree-with, tree-same, label-same, but-rows, but-trees, agree-refl, agree-set, tree-at}
 use Rattle.memory.proofs.Marks.{mapped-at, mapped-use, unmapped-free, label-mapped, label-awaiting, carried-in, not-mapped, not-named, own-some, use-kept, relabelled-again, remarked, remarked-free, own-beside}
 use Rattle.memory.proofs.Parts.{written, Carries, text-carried, text-put}
-use Rattle.memory.proofs.Laws.{label-at}
+use Rattle.memory.proofs.Trees.{label-at}
 
 -- ---- a label mapped
 
@@ -150,9 +150,9 @@ module _ (ns ks os qs a : List ℕ) (p n v : ℕ) (m : Bool) (hp : p < labelCoun
       let back : markUse (markAt ms p) - 16 ≡ n = omega arith in
       rw (t, label-awaiting ms p qs f (omega arith), back, text-put nameLimit (labelNames + p * nameSpace) a os qs ha w) refl)
 
-  pub put-use : Numbers ns → ((j : ℕ) → j < treeCount ns → treeAt j (cardOf ns os) .label ≡ baseIn ns + p → ⊥) → v ≡ pick m n (n + 16)
+  pub enter-use : Numbers ns → ((j : ℕ) → j < treeCount ns → treeAt j (cardOf ns os) .label ≡ baseIn ns + p → ⊥) → v ≡ pick m n (n + 16)
       → cardOf (set ks (markColumn + p) (v + nowhere)) qs ≡ withLabels (set (cardOf ns os .labels) p (pick m (mapped n a) (awaiting n a))) (cardOf ns os)
-  put-use hl hc hv =
+  enter-use hl hc hv =
       but-rows ns ms os qs (cardOf ns os .trees) (set (cardOf ns os .labels) p (pick m (mapped n a) (awaiting n a)))
       (λ j x y. both-ways .rest j (omega arith))
       (λ j x y. both-ways .rest j (omega arith))

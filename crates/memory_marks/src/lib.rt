@@ -43,13 +43,20 @@ fn use_of(held: bool, n: u64) -> u64
 
 // The label at that place of the block, which no tree carries, is from now on mapped to neighbour n for that name, or awaits release
 // from n. Its mark names place 64, where no tree stands.
-pub fn put_use(numbers: &mut [u64], names: &mut [u8], place: usize, held: bool, n: u64, name: &[u8])
+pub fn enter_use(
+    numbers: &mut [u64],
+    names: &mut [u8],
+    place: usize,
+    held: bool,
+    n: u64,
+    name: &[u8],
+)
     requires { ⌜ Numbers (now numbers) × Names (now names) × (place < labelCount) × (n < 16) × (length (now name) ≤ nameLimit)
         × ((j : ℕ) → j < treeCount (now numbers) → treeAt j (cardOf (now numbers) (now names)) .label ≡ baseIn (now numbers) + place → ⊥) ⌝ }
     ensures { λ _. ⌜ cardOf (now (numbers .exit)) (now (names .exit))
         ≡ withLabels (set (cardOf (now (numbers .entry)) (now (names .entry)) .labels) place (pick held (mapped n (now (name .entry))) (awaiting n (now (name .entry))))) (cardOf (now (numbers .entry)) (now (names .entry))) ⌝ }
 {
-    memory::put_text(names, LABEL_NAMES + place * NAME_SPACE, name);
+    memory::set_text(names, LABEL_NAMES + place * NAME_SPACE, name);
     memory_labels::set_taken(numbers, place);
     numbers[MARK_COLUMN + place] = use_of(held, n) + NOWHERE;
 }

@@ -66,13 +66,13 @@ pub fn append_route(numbers: &mut [u64], names: &mut [u8], root: &[u8], via: u64
         ≡ withRoutes (cardOf (now (numbers .entry)) (now (names .entry)) .routes ++ (record { root = now (root .entry); via = via } ∷ [])) (cardOf (now (numbers .entry)) (now (names .entry))) ⌝ }
 {
     let n = memory::route_count(numbers);
-    memory::put_text(names, ROOT_NAMES + n * ROOT_SPACE, root);
+    memory::set_text(names, ROOT_NAMES + n * ROOT_SPACE, root);
     numbers[ROUTE_COLUMN + n] = via;
     numbers[2] = (n + 1) as u64;
 }
 
 // The route of the root whose place is i: its entry, or a new one behind the others.
-pub fn put_route(numbers: &mut [u64], names: &mut [u8], i: usize, root: &[u8], via: u64)
+pub fn enter_route(numbers: &mut [u64], names: &mut [u8], i: usize, root: &[u8], via: u64)
     requires { ⌜ Numbers (now numbers) × Names (now names) × (length (now root) ≤ rootLimit)
         × (i ≡ routePlace (now root) (cardOf (now numbers) (now names)))
         × (routeCount (now numbers) ≤ routePlace (now root) (cardOf (now numbers) (now names)) → routeCount (now numbers) < routeLimit) ⌝ }

@@ -30,7 +30,7 @@ pub fn enter_tree(numbers: &mut [u64], names: &mut [u8], name: &[u8])
 {
     let n = memory::tree_count(numbers);
     memory::clear(numbers, ROW_COLUMN + n * ROW_WIDTH, ROW_WIDTH);
-    memory::put_text(names, n * NAME_SPACE, name);
+    memory::set_text(names, n * NAME_SPACE, name);
     numbers[OWN_COLUMN + n] = NO_LABEL;
     numbers[3] = (n + 1) as u64;
 }
@@ -42,7 +42,7 @@ fn lower_one(numbers: &mut [u64], j: usize)
     ensures { λ _. ⌜ LoweredOne j (now (numbers .entry)) (now (numbers .exit)) ⌝ }
 {
     let t = j + 1;
-    if memory_trees::carries_own(numbers, t) {
+    if memory_trees::own_counts(numbers, t) {
         let k = MARK_COLUMN + numbers[OWN_COLUMN + t] as usize;
         numbers[k] = numbers[k] - 256;
         return;

@@ -39,7 +39,7 @@ fn carries_at(numbers: &[u64], i: usize, p: u64) -> bool
 // ---- trees
 
 // Whether the tree at place i carries the label that it has for its own.
-pub fn carries_own(numbers: &[u64], i: usize) -> bool
+pub fn own_counts(numbers: &[u64], i: usize) -> bool
     requires { ⌜ Numbers (now numbers) × (i < treeLimit) ⌝ }
     ensures { λ r. ⌜ r ≡ carriesAt (now (numbers .entry)) i (ownPlace (now (numbers .entry)) i) ⌝ }
 {
@@ -50,7 +50,7 @@ pub fn tree_label(numbers: &[u64], i: usize) -> u64
     requires { ⌜ Numbers (now numbers) × (i < treeCount (now numbers)) × (i < treeLimit) ⌝ }
     ensures { λ r. ⌜ ((os : List ℕ) → r ≡ treeAt i (cardOf (now (numbers .entry)) os) .label) ⌝ }
 {
-    if carries_own(numbers, i) {
+    if own_counts(numbers, i) {
         memory::base(numbers) + numbers[OWN_COLUMN + i]
     } else {
         0
@@ -171,7 +171,7 @@ pub fn held_for(numbers: &[u64], i: usize) -> u64
     requires { ⌜ Numbers (now numbers) × (i < treeCount (now numbers)) × (i < treeLimit) ⌝ }
     ensures { λ r. ⌜ ((os : List ℕ) → r ≡ heldFor (cardOf (now (numbers .entry)) os) (treeAt i (cardOf (now (numbers .entry)) os))) × (r ≤ 17) ⌝ }
 {
-    if carries_own(numbers, i) {
+    if own_counts(numbers, i) {
         memory_labels::mapped_at(numbers, numbers[OWN_COLUMN + i] as usize)
     } else {
         17

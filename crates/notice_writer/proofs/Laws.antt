@@ -15,7 +15,7 @@ use Rattle.meaning.specs.Calls.{over, Does}
 use Rattle.meaning.specs.Notice.{statusOf, statusCode, copiedId, copiedType, noticeDue, statusValue, noticeOctets, noticeRecord, notice}
 use Rattle.meaning.specs.NoticeLaws.{record-length, far, silent, short, tells}
 use Rattle.octets.specs.Part.{mid}
-use Rattle.octets.proofs.Laws.{mid-mid}
+use Rattle.octets.proofs.Parts.{mid-mid}
 use Rattle.notice_status.proofs.Laws.{heeded}
 
 -- ---- whether a record is due

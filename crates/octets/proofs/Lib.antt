@@ -1,3 +1,4 @@
-pub mod Laws
+pub mod Parts
+pub mod Same
 pub mod Tab
 pub mod Bits

@@ -13,7 +13,7 @@ use Rattle.meaning.specs.Lists.{by-test, picked}
 use Rattle.meaning.specs.Wire.{element, rootLimit, nameLimit}
 use Rattle.meaning.specs.Save.{spacedIn, nameIn, savedOpaque}
 use Rattle.octets.specs.Part.{mid}
-use Rattle.octets.proofs.Laws.{mid-length}
+use Rattle.octets.proofs.Parts.{mid-length}
 use Rattle.memory.specs.Memory.{upTo}
 
 -- ---- numbers behind what was dropped

@@ -19,7 +19,8 @@ use Rattle.octets.specs.Part.{tab}
 use Rattle.memory.specs.Memory.{cardOf, baseIn, treeCount, isFreeAt, isMappedAt, labelIn, labelName}
 use Rattle.memory.proofs.Memory.{base-range, trees-length, labels-length}
 use Rattle.memory.proofs.Marks.{never, mapped-use, label-free, label-mapped}
-use Rattle.memory.proofs.Laws.{label-at, awaited-is}
+use Rattle.memory.proofs.Labels.{awaited-is}
+use Rattle.memory.proofs.Trees.{label-at}
 use Rattle.save_rows.specs.Stages.{headRead, treesBegin, rowsRead}
 use Rattle.save_fields.proofs.Read.{four-drop}
 use Rattle.save_rows.proofs.Rows.{trees-bare}

@@ -40,7 +40,7 @@ fn read_use(octets: &[u8], at: usize, numbers: &mut [u64], names: &mut [u8])
     let n = save_fields::put_name(octets, at + 9, &mut name);
     let held = octets::at(octets, at + 7) == 1;
     let neighbour = octets::at(octets, at + 8) % 16;
-    memory_marks::put_use(numbers, names, p as usize, held, neighbour, &name[0..n]);
+    memory_marks::enter_use(numbers, names, p as usize, held, neighbour, &name[0..n]);
 }
 
 fn read_uses(octets: &[u8], at: usize, n: usize, numbers: &mut [u64], names: &mut [u8])

@@ -10,7 +10,7 @@ use lib.Dec.{eqb}
 use borrow.Author.Tests.{eqb-true, eqb-false}
 use Rattle.meaning.specs.Lists.{by-test, append-nil}
 use Rattle.octets.specs.Part.{mid, tab}
-use Rattle.octets.proofs.Laws.{mid-none}
+use Rattle.octets.proofs.Parts.{mid-none}
 use Rattle.save_texts.specs.Laid.{laid}
 use Rattle.save_texts.proofs.Parts.{laid-then, laid-length}
 

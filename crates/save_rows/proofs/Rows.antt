@@ -13,10 +13,10 @@ use Rattle.meaning.specs.Octets.{fourAt}
 use Rattle.meaning.specs.Wire.{rootLimit}
 use Rattle.meaning.specs.Card.{Route, Tree, Card, fresh, withNext, withRoutes, withTrees, withBranch, withLeaf, bare, treeAt}
 use Rattle.meaning.specs.Save.{spacedIn, nameIn, routeRead, treeRead, foursIn, routesRead, treesRead, headSize, routeSize, leafPlace, branchPlace, treeSize}
-use Rattle.octets.proofs.Laws.{front, front-more, copy-done}
+use Rattle.octets.proofs.Parts.{front, front-more, copy-done}
 use Rattle.memory.specs.Memory.{cardOf, treeCount, routeCount}
 use Rattle.memory.proofs.Memory.{trees-length, routes-length}
-use Rattle.memory.proofs.Laws.{branches-length}
+use Rattle.memory.proofs.Trees.{branches-length}
 use Rattle.save_rows.specs.Stages.{withBranches, headRead, treesBegin, rowsRead}
 use Rattle.save_fields.proofs.Read.{four-drop}
 

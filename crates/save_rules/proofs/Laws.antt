@@ -15,7 +15,7 @@ use Rattle.meaning.specs.Save.{isName, onceEach, isRoute, sameRoot, isTree, sam
 use Rattle.memory.specs.Memory.{baseIn, nextIn, treeCount, labelName, labelIn, cardOf, InBlock}
 use Rattle.memory.proofs.Memory.{routeCount-le, treeCount-le, base-range, routes-length, trees-length, labels-length}
 use Rattle.memory.proofs.Marks.{by-use}
-use Rattle.memory.proofs.Laws.{use-at}
+use Rattle.memory.proofs.Labels.{use-at}
 
 -- ---- one label
 

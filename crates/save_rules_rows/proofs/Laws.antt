@@ -18,7 +18,7 @@ use Rattle.meaning.specs.Save.{isName, onceEach, isRoute, sameRoot, isBranchLab
 use Rattle.octets.proofs.Tab.{tab-get}
 use Rattle.memory.specs.Memory.{baseIn, routeCount, treeCount, rootName, routeIn, labelIn, cardOf}
 use Rattle.memory.proofs.Memory.{routes-length, trees-length, labels-length}
-use Rattle.memory.proofs.Laws.{branches-length}
+use Rattle.memory.proofs.Trees.{branches-length}
 
 -- ---- loops over a list: all, any, once each, from place i on. b is what the code says of the test
 

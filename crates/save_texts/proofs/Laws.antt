@@ -8,7 +8,7 @@ use lib.Seq.{take-all}
 use Rattle.meaning.specs.Wire.{rootLength, rootIn, opaqueIn, rootLimit}
 use Rattle.meaning.specs.Save.{padded, spaced, nameSaved, savedOpaque, nameSize}
 use Rattle.octets.specs.Part.{mid}
-use Rattle.octets.proofs.Laws.{front, front-more, copy-done}
+use Rattle.octets.proofs.Parts.{front, front-more, copy-done}
 use Rattle.save_texts.proofs.Parts.{two-parts}
 use Rattle.save_texts.proofs.Sizes.{padded-at, padded-length, space-length}
 

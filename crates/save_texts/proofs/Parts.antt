@@ -6,7 +6,7 @@ use mathlib.Core.List.{List, _++_}
 use lib.ListN.{length, length-append, drop-of-length-le}
 use Rattle.meaning.specs.Lists.{append-nil}
 use Rattle.octets.specs.Part.{mid}
-use Rattle.octets.proofs.Laws.{mid-mid, mid-length}
+use Rattle.octets.proofs.Parts.{mid-mid, mid-length}
 use Rattle.save_texts.specs.Laid.{laid}
 
 -- ---- one part, and the part behind it

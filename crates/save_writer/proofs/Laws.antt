@@ -12,10 +12,10 @@ use Rattle.meaning.specs.Events.{roomShort, refuse}
 use Rattle.meaning.specs.Calls.{over, Does}
 use Rattle.meaning.specs.SaveFields.{route-length, tree-length}
 use Rattle.octets.specs.Part.{mid, tab}
-use Rattle.octets.proofs.Laws.{mid-none}
+use Rattle.octets.proofs.Parts.{mid-none}
 use Rattle.memory.specs.Memory.{cardOf, baseIn, routeCount, treeCount, routeIn, treeIn, labelIn}
 use Rattle.memory.proofs.Memory.{labels-length, tree-at}
-use Rattle.memory.proofs.Laws.{branches-length}
+use Rattle.memory.proofs.Trees.{branches-length}
 use Rattle.save_texts.specs.Laid.{laid}
 use Rattle.save_texts.proofs.Parts.{laid-part, laid-then}
 use Rattle.save_records.proofs.Rows.{joined, joined-first, joined-ext, joined-length, all-joined, Lot}

@@ -8,7 +8,7 @@ use Rattle.meaning.specs.Octets.{two, four}
 use Rattle.meaning.specs.Wire.{recordOf, octetsOf, tlv}
 use Rattle.meaning.specs.Events.{tell}
 use Rattle.octets.specs.Part.{mid}
-use Rattle.octets.proofs.Laws.{mid-mid}
+use Rattle.octets.proofs.Parts.{mid-mid}
 
 abbrev pub headOf : ℕ → ℕ → ℕ → ℕ → List ℕ
 headOf id to kind size = 0x4C ∷ 0x44 ∷ (two to ++ (two kind ++ (two (16 + size) ++ (four id ++ (two 0x0100 ++ two size)))))

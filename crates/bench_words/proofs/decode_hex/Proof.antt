@@ -4,7 +4,7 @@ use native.Mathlib.Omega.{arith}
 use mathlib.Core.Path.{_≡_, refl, sym}
 use lib.ListN.{length, length-set}
 use borrow.Author.Needs.{needs}
-use Rattle.octets.proofs.Laws.{front, front-more}
+use Rattle.octets.proofs.Parts.{front, front-more}
 use Rattle.bench_words.specs.Words.{octetsOf}
 use lib.Seq.{length-take-le}
 use Rattle.bench_words.proofs.decode_hex.Statement.{statement}

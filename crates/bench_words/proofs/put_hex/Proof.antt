@@ -3,7 +3,7 @@ use native.Mathlib.Omega.{arith}
 use mathlib.Core.Path.{_≡_, refl, sym, _∙_}
 use lib.ListN.{length, length-set}
 use borrow.Author.Needs.{needs}
-use Rattle.octets.proofs.Laws.{front}
+use Rattle.octets.proofs.Parts.{front}
 use Rattle.bench_words.specs.Words.{glyph, hexOf}
 use Rattle.bench_words.proofs.Laws.{hex-length, hex-high, hex-low, front-two, puts-front}
 use Rattle.bench_words.proofs.put_hex.Statement.{statement}

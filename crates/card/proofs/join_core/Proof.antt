@@ -1,6 +1,6 @@
 use mathlib.Core.Path.{sym, _∙_}
 use Rattle.meaning.specs.RoundTrip.{name-fits}
-use Rattle.card.proofs.Laws.{join-refused, join-is}
+use Rattle.card.proofs.Calls.{join-refused, join-is}
 use borrow.Author.Needs.{needs}
 use Rattle.card.proofs.join_core.Statement.{statement}
 use Rattle.card.proofs.join_core.Tie as tie

@@ -1,5 +1,5 @@
 use mathlib.Core.Path.{sym, _∙_}
-use Rattle.card.proofs.Laws.{leave-refused, leave-is}
+use Rattle.card.proofs.Calls.{leave-refused, leave-is}
 use borrow.Author.Needs.{needs}
 use Rattle.card.proofs.leave_core.Statement.{statement}
 use Rattle.card.proofs.leave_core.Tie as tie

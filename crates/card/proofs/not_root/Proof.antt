@@ -1,4 +1,4 @@
-use Rattle.card.proofs.Laws.{four-octets, other-length}
+use Rattle.card.proofs.Calls.{four-octets, other-length}
 use Rattle.card.proofs.not_root.Statement.{statement}
 use Rattle.card.proofs.not_root.Tie as tie
 

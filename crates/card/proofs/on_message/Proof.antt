@@ -1,6 +1,6 @@
 use Rattle.memory.specs.Memory.{cardOf}
-use Rattle.card.proofs.Laws.{does-same, says-mapping, says-withdraw, says-release, says-nothing}
-use Rattle.event_tree.proofs.Laws.{does-refused}
+use Rattle.card.proofs.Calls.{does-same, says-mapping, says-withdraw, says-release, says-nothing}
+use Rattle.event_tree.proofs.Ends.{does-refused}
 use borrow.Author.Needs.{needs}
 use Rattle.card.proofs.on_message.Statement.{statement}
 use Rattle.card.proofs.on_message.Tie as tie

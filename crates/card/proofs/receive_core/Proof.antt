@@ -1,4 +1,4 @@
-use Rattle.card.proofs.Laws.{far, near}
+use Rattle.card.proofs.Calls.{far, near}
 use borrow.Author.Needs.{needs}
 use Rattle.card.proofs.receive_core.Statement.{statement}
 use Rattle.card.proofs.receive_core.Tie as tie

@@ -1,5 +1,5 @@
 use mathlib.Core.Path.{sym, _∙_}
-use Rattle.card.proofs.Laws.{route-far, route-odd, route-is, root-fits}
+use Rattle.card.proofs.Calls.{route-far, route-odd, route-is, root-fits}
 use borrow.Author.Needs.{needs}
 use Rattle.card.proofs.route_core.Statement.{statement}
 use Rattle.card.proofs.route_core.Tie as tie

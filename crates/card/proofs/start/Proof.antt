@@ -1,5 +1,5 @@
 use mathlib.Core.Path.{_∙_}
-use Rattle.card.proofs.Laws.{starts-low, starts-high, starts}
+use Rattle.card.proofs.Calls.{starts-low, starts-high, starts}
 use borrow.Author.Needs.{needs}
 use Rattle.card.proofs.start.Statement.{statement}
 use Rattle.card.proofs.start.Tie as tie

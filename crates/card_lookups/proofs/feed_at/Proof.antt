@@ -7,8 +7,8 @@ use lib.Seq.{set-out}
 use borrow.Author.Needs.{needs}
 use Rattle.meaning.specs.Card.{treeAt}
 use Rattle.memory.specs.Memory.{cardOf}
-use Rattle.memory.proofs.Laws.{branches-length}
-use Rattle.card_lookups.proofs.Laws.{feed-is}
+use Rattle.memory.proofs.Trees.{branches-length}
+use Rattle.card_lookups.proofs.Lookups.{feed-is}
 use Rattle.card_lookups.proofs.feed_at.Statement.{statement}
 use Rattle.card_lookups.proofs.feed_at.Tie as tie
 

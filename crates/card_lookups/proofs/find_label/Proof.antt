@@ -1,6 +1,6 @@
 use mathlib.Core.List.{[]}
 use mathlib.Core.Path.{sym, _∙_}
-use Rattle.card_lookups.proofs.Laws.{none-found, mapped-inside, carrier-found, carrier-none}
+use Rattle.card_lookups.proofs.Lookups.{none-found, mapped-inside, carrier-found, carrier-none}
 use borrow.Author.Needs.{needs}
 use Rattle.card_lookups.proofs.find_label.Statement.{statement}
 use Rattle.card_lookups.proofs.find_label.Tie as tie

@@ -3,7 +3,7 @@ use Prim.Native.Nat.{ℕ}
 use mathlib.Core.List.{List}
 use Rattle.meaning.specs.Card.{routeOf}
 use Rattle.memory.specs.Memory.{cardOf}
-use Rattle.card_lookups.proofs.Laws.{name-refused, name-found, name-unknown}
+use Rattle.card_lookups.proofs.Lookups.{name-refused, name-found, name-unknown}
 use borrow.Author.Needs.{needs}
 use Rattle.card_lookups.proofs.find_name.Statement.{statement}
 use Rattle.card_lookups.proofs.find_name.Tie as tie

@@ -1,4 +1,4 @@
-use Rattle.card_lookups.proofs.Laws.{empty-feed}
+use Rattle.card_lookups.proofs.Lookups.{empty-feed}
 use Rattle.card_lookups.proofs.no_feed.Statement.{statement}
 use Rattle.card_lookups.proofs.no_feed.Tie as tie
 

@@ -4,7 +4,7 @@ use borrow.Author.Needs.{needs}
 use Rattle.meaning.specs.Card.{withBranch, withLeaf, treeAt}
 use Rattle.meaning.specs.Events.{holder}
 use Rattle.memory.specs.Memory.{cardOf}
-use Rattle.memory.proofs.Laws.{branches-length}
+use Rattle.memory.proofs.Trees.{branches-length}
 use Rattle.event_holder.proofs.Held.{with-none, with-own}
 use Rattle.event_holder.proofs.holder.Statement.{statement}
 use Rattle.event_holder.proofs.holder.Tie as tie

@@ -3,7 +3,7 @@ use Prim.Native.Nat.{_<_}
 use lib.ListN.{length}
 use Rattle.memory.specs.Memory.{cardOf, treeCount}
 use Rattle.memory.proofs.Memory.{trees-length}
-use Rattle.event_tree.proofs.Laws.{at-name, own-place}
+use Rattle.event_tree.proofs.Found.{at-name, own-place}
 use borrow.Author.Needs.{needs}
 use Rattle.event_leaf.proofs.join.Statement.{statement}
 use Rattle.event_leaf.proofs.join.Tie as tie

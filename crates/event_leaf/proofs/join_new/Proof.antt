@@ -1,5 +1,5 @@
-use Rattle.event_leaf.proofs.Laws.{joined-new, join-new}
-use Rattle.event_tree.proofs.Laws.{zero-free, count-is}
+use Rattle.event_leaf.proofs.Leaf.{joined-new, join-new}
+use Rattle.event_tree.proofs.Found.{zero-free, count-is}
 use Rattle.event_tree.proofs.Newcomer.{new-refused, few-trees-stand, snoc-length, grow-ready, grown-done, entered-changed}
 use mathlib.Core.Path.{refl, sym, _∙_}
 use mathlib.Core.Bool.{true}

@@ -6,8 +6,8 @@ use lib.ListN.{length}
 use Rattle.meaning.specs.Card.{treeAt}
 use Rattle.memory.specs.Memory.{cardOf}
 use Rattle.memory.proofs.Memory.{trees-length}
-use Rattle.event_leaf.proofs.Laws.{join-standing, leaf-stands, leaf-full}
-use Rattle.event_tree.proofs.Laws.{no-records}
+use Rattle.event_leaf.proofs.Leaf.{join-standing, leaf-stands, leaf-full}
+use Rattle.event_tree.proofs.Ends.{no-records}
 use Rattle.event_tree.proofs.Standing.{standing-refused, standing-taken, standing-ends, settle-ready}
 use borrow.Author.Needs.{needs}
 use Rattle.event_leaf.proofs.join_standing.Statement.{statement}

@@ -3,8 +3,8 @@ use Prim.Native.Nat.{_<_}
 use lib.ListN.{length}
 use Rattle.memory.specs.Memory.{cardOf, treeCount}
 use Rattle.memory.proofs.Memory.{trees-length}
-use Rattle.event_leaf.proofs.Laws.{leave-unknown}
-use Rattle.event_tree.proofs.Laws.{at-name, own-place, zero-free}
+use Rattle.event_leaf.proofs.Leaf.{leave-unknown}
+use Rattle.event_tree.proofs.Found.{at-name, own-place, zero-free}
 use borrow.Author.Needs.{needs}
 use Rattle.event_leaf.proofs.leave.Statement.{statement}
 use Rattle.event_leaf.proofs.leave.Tie as tie

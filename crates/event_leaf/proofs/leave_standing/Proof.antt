@@ -1,6 +1,6 @@
 use borrow.Author.Tests.{not-false, not-true}
-use Rattle.event_leaf.proofs.Laws.{leave-leaf, leave-labels, leave-no-leaf, leaf-stands, leaf-gone}
-use Rattle.event_tree.proofs.Laws.{no-records}
+use Rattle.event_leaf.proofs.Leaf.{leave-leaf, leave-labels, leave-no-leaf, leaf-stands, leaf-gone}
+use Rattle.event_tree.proofs.Ends.{no-records}
 use Rattle.event_tree.proofs.Standing.{standing-refused, standing-taken, standing-ends, settle-ready}
 use mathlib.Core.Path.{sym, _∙_}
 use mathlib.Core.Bool.{false}
@@ -10,7 +10,7 @@ use lib.ListN.{length}
 use Rattle.meaning.specs.Card.{treeAt}
 use Rattle.memory.specs.Memory.{cardOf}
 use Rattle.memory.proofs.Memory.{trees-length}
-use Rattle.memory.proofs.Laws.{branches-length}
+use Rattle.memory.proofs.Trees.{branches-length}
 use borrow.Author.Needs.{needs}
 use Rattle.event_leaf.proofs.leave_standing.Statement.{statement}
 use Rattle.event_leaf.proofs.leave_standing.Tie as tie
@@ -24,8 +24,8 @@ leaf-holder-requires c κs = search needs
 is-leaf-requires : tie.Need-is-leaf-requires
 is-leaf-requires c κs = search needs
 
-labels-short-requires : tie.Need-labels-short-requires
-labels-short-requires c κs = search needs
+no-label-for-requires : tie.Need-no-label-for-requires
+no-label-for-requires c κs = search needs
 
 same-length : tie.Need-same-length
 same-length c = search needs
@@ -44,7 +44,7 @@ returns c =
     let within : start .args .i < length (card .trees) = rw trees-length (start .pre .2) in
     let none = leaf-gone (treeAt (start .args .i) card) _ (branches-length _ _ _ (start .pre .2)) (the-any-branch .ensures _) in
     let S = leaf-stands card (start .args .i) (start .pre .4) within _ false (the-leaf-holder .ensures .0) in
-    leave-labels card _ (start .args .i) _ (start .pre .4) S (sym (the-is-leaf .ensures _) ∙ not-true _ (the-if1 .taken)) _ (sym (c .before .labels-short .ensures _) ∙ c .if2 .taken)
+    leave-labels card _ (start .args .i) _ (start .pre .4) S (sym (the-is-leaf .ensures _) ∙ not-true _ (the-if1 .taken)) _ (sym (c .before .no-label-for .ensures _) ∙ c .if2 .taken)
 
 same-length-3 : tie.Need-same-length-3
 same-length-3 c = search needs
@@ -63,7 +63,7 @@ returns-2 c =
     let within : start .args .i < length (card .trees) = rw trees-length (start .pre .2) in
     let none = leaf-gone (treeAt (start .args .i) card) _ (branches-length _ _ _ (start .pre .2)) (the-any-branch .ensures _) in
     let S = leaf-stands card (start .args .i) (start .pre .4) within _ false (the-leaf-holder .ensures .0) in
-    leave-no-leaf card _ (start .args .i) _ (start .pre .4) S (sym (the-is-leaf .ensures _) ∙ not-true _ (the-if1 .taken)) _ (sym (c .before .labels-short .ensures _) ∙ c .if2 .left)
+    leave-no-leaf card _ (start .args .i) _ (start .pre .4) S (sym (the-is-leaf .ensures _) ∙ not-true _ (the-if1 .taken)) _ (sym (c .before .no-label-for .ensures _) ∙ c .if2 .left)
 
 standing-refusal-requires : tie.Need-standing-refusal-requires
 standing-refusal-requires c κs = search needs
@@ -145,7 +145,7 @@ leave-standing-spec =
     any-branch-requires
     leaf-holder-requires
     is-leaf-requires
-    labels-short-requires
+    no-label-for-requires
     same-length
     same-length-2
     returns

@@ -1,5 +1,5 @@
-use Rattle.event_mapping.proofs.Laws.{mapped-new, mapping-new}
-use Rattle.event_tree.proofs.Laws.{zero-free, count-is}
+use Rattle.event_mapping.proofs.Mapping.{mapped-new, mapping-new}
+use Rattle.event_tree.proofs.Found.{zero-free, count-is}
 use Rattle.event_tree.proofs.Newcomer.{new-refused, few-trees-stand, snoc-length, grow-ready, grown-done, entered-changed}
 use mathlib.Core.Path.{refl, sym, _∙_}
 use native.Mathlib.Omega.{arith}

@@ -6,9 +6,9 @@ use lib.ListN.{length}
 use Rattle.meaning.specs.Card.{treeAt}
 use Rattle.memory.specs.Memory.{cardOf}
 use Rattle.memory.proofs.Memory.{trees-length}
-use Rattle.memory.proofs.Laws.{branches-length}
-use Rattle.event_mapping.proofs.Laws.{mapping-other, mapping-standing, branch-left}
-use Rattle.event_tree.proofs.Laws.{no-records}
+use Rattle.memory.proofs.Trees.{branches-length}
+use Rattle.event_mapping.proofs.Mapping.{mapping-other, mapping-standing, branch-left}
+use Rattle.event_tree.proofs.Ends.{no-records}
 use Rattle.event_tree.proofs.Standing.{branch-stands, standing-refused, standing-taken, standing-ends, settle-ready}
 use borrow.Author.Needs.{needs}
 use Rattle.event_mapping.proofs.map_standing.Statement.{statement}

@@ -1,4 +1,4 @@
-use Rattle.event_mapping.proofs.Laws.{other-none, other-some}
+use Rattle.event_mapping.proofs.Mapping.{other-none, other-some}
 use borrow.Author.Needs.{needs}
 use Rattle.event_mapping.proofs.other_label.Statement.{statement}
 use Rattle.event_mapping.proofs.other_label.Tie as tie

@@ -1,7 +1,7 @@
 use mathlib.Core.Path.{_∙_}
 use Rattle.meaning.specs.Events.{letGo, takeUp, moveLabel}
 use Rattle.memory.specs.Memory.{cardOf}
-use Rattle.event_move.proofs.Laws.{wrote-then}
+use Rattle.event_move.proofs.Records.{wrote-then}
 use Rattle.event_move.proofs.Steps.{room-first, room-then, let-go-many}
 use borrow.Author.Needs.{needs}
 use Rattle.event_move.proofs.move_label.Statement.{statement}

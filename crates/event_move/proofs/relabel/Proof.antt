@@ -2,7 +2,7 @@ use native.Mathlib.Omega.{arith}
 use mathlib.Core.Path.{_≡_, sym, _∙_}
 use Rattle.meaning.specs.Card.{Card, treeAt, heldFor}
 use Rattle.memory.specs.Memory.{cardOf}
-use Rattle.event_move.proofs.Laws.{wrote-nothing}
+use Rattle.event_move.proofs.Records.{wrote-nothing}
 use Rattle.event_holder.proofs.Sizes.{need-other, resize-some}
 use Rattle.event_move.proofs.Steps.{relabel-none, relabel-some}
 use borrow.Author.Needs.{needs}

@@ -1,4 +1,4 @@
-use Rattle.event_roots.proofs.Laws.{of-root}
+use Rattle.event_roots.proofs.Roots.{of-root}
 use borrow.Author.Needs.{needs}
 use Rattle.event_roots.proofs.is_of_root.Statement.{statement}
 use Rattle.event_roots.proofs.is_of_root.Tie as tie

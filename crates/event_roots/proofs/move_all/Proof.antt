@@ -3,7 +3,7 @@ use native.Mathlib.Omega.{arith}
 use mathlib.Core.Path.{_≡_, refl, _∙_}
 use lib.ListN.{length}
 use Rattle.memory.specs.Memory.{treeCount}
-use Rattle.event_roots.proofs.Laws.{Moving, moving-none, moving-in, moving-need, moving-room, moving-more, moving-all}
+use Rattle.event_roots.proofs.Roots.{Moving, moving-none, moving-in, moving-need, moving-room, moving-more, moving-all}
 use borrow.Author.Needs.{needs}
 use Rattle.event_roots.proofs.move_all.Statement.{statement}
 use Rattle.event_roots.proofs.move_all.Tie as tie

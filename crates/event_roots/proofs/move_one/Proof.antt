@@ -4,7 +4,7 @@ use Rattle.meaning.specs.Card.{Card, treeAt}
 use Rattle.memory.specs.Memory.{cardOf}
 use Rattle.memory.proofs.Memory.{trees-length}
 use Rattle.event_holder.proofs.Held.{holder-range}
-use Rattle.event_roots.proofs.Laws.{need-of, one-fills, one-of, one-nothing}
+use Rattle.event_roots.proofs.Roots.{need-of, one-fills, one-of, one-nothing}
 use borrow.Author.Needs.{needs}
 use Rattle.event_roots.proofs.move_one.Statement.{statement}
 use Rattle.event_roots.proofs.move_one.Tie as tie

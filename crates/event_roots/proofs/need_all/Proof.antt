@@ -4,7 +4,7 @@ use mathlib.Core.Path.{_≡_, sym}
 use Rattle.meaning.specs.Events.{needOne, needAll, sumFrom}
 use Rattle.memory.specs.Memory.{cardOf}
 use Rattle.event_move.proofs.Trees.{sum-none}
-use Rattle.event_roots.proofs.Laws.{sum-next, sum-done}
+use Rattle.event_roots.proofs.Roots.{sum-next, sum-done}
 use borrow.Author.Needs.{needs}
 use Rattle.event_roots.proofs.need_all.Statement.{statement}
 use Rattle.event_roots.proofs.need_all.Tie as tie

@@ -2,7 +2,7 @@ use native.Mathlib.Omega.{arith}
 use mathlib.Core.Path.{sym, ap, _∙_}
 use Rattle.meaning.specs.Events.{needMove}
 use Rattle.event_holder.proofs.Sizes.{need-none, need-one}
-use Rattle.event_roots.proofs.Laws.{need-of, need-not}
+use Rattle.event_roots.proofs.Roots.{need-of, need-not}
 use borrow.Author.Needs.{needs}
 use Rattle.event_roots.proofs.need_one.Statement.{statement}
 use Rattle.event_roots.proofs.need_one.Tie as tie

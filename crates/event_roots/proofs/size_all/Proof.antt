@@ -6,7 +6,7 @@ use Rattle.meaning.specs.Events.{sumFrom}
 use Rattle.memory.specs.Memory.{cardOf}
 use Rattle.event_holder.specs.Move.{sizeOne, sizeAll}
 use Rattle.event_move.proofs.Trees.{sum-none}
-use Rattle.event_roots.proofs.Laws.{sum-next, sum-done}
+use Rattle.event_roots.proofs.Roots.{sum-next, sum-done}
 use borrow.Author.Needs.{needs}
 use Rattle.event_roots.proofs.size_all.Statement.{statement}
 use Rattle.event_roots.proofs.size_all.Tie as tie

@@ -1,7 +1,7 @@
 use native.Mathlib.Omega.{arith}
 use mathlib.Core.Path.{sym, ap, _∙_}
 use Rattle.event_holder.specs.Move.{moveSize}
-use Rattle.event_roots.proofs.Laws.{size-of, size-not}
+use Rattle.event_roots.proofs.Roots.{size-of, size-not}
 use borrow.Author.Needs.{needs}
 use Rattle.event_roots.proofs.size_one.Statement.{statement}
 use Rattle.event_roots.proofs.size_one.Tie as tie

@@ -1,7 +1,7 @@
 use mathlib.Core.Path.{refl, sym, ap, _∙_, subst}
 use native.Mathlib.Omega.{arith}
 use Rattle.memory.specs.Memory.{cardOf}
-use Rattle.event_route.proofs.Laws.{order-same, order-refused, order-ready, order-done}
+use Rattle.event_route.proofs.Route.{order-same, order-refused, order-ready, order-done}
 use borrow.Author.Needs.{needs}
 use Rattle.event_route.proofs.change_route.Statement.{statement}
 use Rattle.event_route.proofs.change_route.Tie as tie

@@ -1,9 +1,9 @@
 use Rattle.meaning.specs.Card.{withNext}
-use Rattle.event_route.proofs.Laws.{moved-room, moved-ends}
+use Rattle.event_route.proofs.Route.{moved-room, moved-ends}
 use mathlib.Core.Path.{refl, sym, ap, _∙_, subst}
 use native.Mathlib.Omega.{arith}
 use Rattle.memory.specs.Memory.{cardOf}
-use Rattle.event_route.proofs.Laws.{same-place, moved-ends}
+use Rattle.event_route.proofs.Route.{same-place, moved-ends}
 use borrow.Author.Needs.{needs}
 use Rattle.event_route.proofs.re_route.Statement.{statement}
 use Rattle.event_route.proofs.re_route.Tie as tie

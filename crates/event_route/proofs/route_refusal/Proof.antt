@@ -5,8 +5,8 @@ use borrow.Author.Tests.{lt-ltb, le-ltb}
 use Rattle.memory.specs.Memory.{cardOf}
 use Rattle.meaning.specs.Events.{labelsShort, needAll, upstream}
 use Rattle.event_holder.specs.Move.{sizeAll}
-use Rattle.event_tree.proofs.Laws.{when-1, when-2, when-3, when-0}
-use Rattle.event_route.proofs.Laws.{full-is, labels-short, room-short, room-enough}
+use Rattle.event_tree.proofs.Tests.{when-1, when-2, when-3, when-0}
+use Rattle.event_route.proofs.Route.{full-is, labels-short, room-short, room-enough}
 use borrow.Author.Needs.{needs}
 use Rattle.event_route.proofs.route_refusal.Statement.{statement}
 use Rattle.event_route.proofs.route_refusal.Tie as tie

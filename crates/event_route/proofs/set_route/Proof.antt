@@ -3,7 +3,7 @@ use mathlib.Core.Path.{refl, sym, ap, _∙_, subst}
 use native.Mathlib.Omega.{arith}
 use Rattle.memory.specs.Memory.{cardOf, routeCount}
 use Rattle.memory.proofs.Memory.{routes-length}
-use Rattle.event_route.proofs.Laws.{gone-is, put-is, stands-below, room-for-it}
+use Rattle.event_route.proofs.Route.{gone-is, put-is, stands-below, room-for-it}
 use borrow.Author.Needs.{needs}
 use Rattle.event_route.proofs.set_route.Statement.{statement}
 use Rattle.event_route.proofs.set_route.Tie as tie
@@ -32,8 +32,8 @@ returns c =
     let the-if1 = c .before .before .before .before .before .before .before .if1 in
     the-remove-route .ensures ∙ gone-is _ _ _ _ (the-route-place .ensures .0) (the-if1 .taken)
 
-put-route-requires : tie.Need-put-route-requires
-put-route-requires c κs =
+enter-route-requires : tie.Need-enter-route-requires
+enter-route-requires c κs =
     let the-route-place = c .before .before .before .route-place in
     let start = c .before .before .before .before .before .before .before .before .before in
     (search needs, search needs, search needs, the-route-place .ensures .0, λ h. room-for-it (start .args .numbers .now) (start .args .names .now) (start .args .root .now) (the-route-place .result) (start .args .via) (the-route-place .ensures .0) (the-route-place .ensures .1) (start .pre .3) h)
@@ -46,10 +46,10 @@ same-length-4 c = search needs
 
 returns-2 : tie.Need-returns-2
 returns-2 c =
-    let the-put-route = c .before .before .before .before .put-route in
+    let the-enter-route = c .before .before .before .before .enter-route in
     let the-route-place = c .before .before .before .before .before .before .before .before .route-place in
     let the-if1 = c .before .before .before .before .before .before .before .if1 in
-    the-put-route .ensures ∙ put-is _ _ _ (the-route-place .result) (the-if1 .left)
+    the-enter-route .ensures ∙ put-is _ _ _ (the-route-place .result) (the-if1 .left)
 
 pub set-route-spec : {M : Type 1} → statement M
 set-route-spec =
@@ -60,7 +60,7 @@ set-route-spec =
     same-length
     same-length-2
     returns
-    put-route-requires
+    enter-route-requires
     same-length-3
     same-length-4
     returns-2)

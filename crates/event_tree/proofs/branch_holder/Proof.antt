@@ -1,7 +1,7 @@
 use borrow.Author.Needs.{needs}
 use Rattle.meaning.specs.Card.{treeAt}
 use Rattle.memory.specs.Memory.{cardOf}
-use Rattle.event_tree.proofs.Laws.{branch-held}
+use Rattle.event_tree.proofs.Upstream.{branch-held}
 use Rattle.event_tree.proofs.branch_holder.Statement.{statement}
 use Rattle.event_tree.proofs.branch_holder.Tie as tie
 

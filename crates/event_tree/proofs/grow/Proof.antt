@@ -1,4 +1,4 @@
-use Rattle.event_tree.proofs.Laws.{ended-is}
+use Rattle.event_tree.proofs.Ends.{ended-is}
 use borrow.Author.Needs.{needs}
 use Rattle.event_tree.proofs.grow.Statement.{statement}
 use Rattle.event_tree.proofs.grow.Tie as tie

@@ -1,8 +1,8 @@
 use borrow.Author.Needs.{needs}
 use Rattle.meaning.specs.Card.{treeAt}
 use Rattle.memory.specs.Memory.{cardOf}
-use Rattle.memory.proofs.Laws.{branches-length}
-use Rattle.event_tree.proofs.Laws.{leaf-held}
+use Rattle.memory.proofs.Trees.{branches-length}
+use Rattle.event_tree.proofs.Upstream.{leaf-held}
 use Rattle.event_tree.proofs.leaf_holder.Statement.{statement}
 use Rattle.event_tree.proofs.leaf_holder.Tie as tie
 

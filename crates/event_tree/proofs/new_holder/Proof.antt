@@ -1,4 +1,4 @@
-use Rattle.event_tree.proofs.Laws.{new-held, new-led}
+use Rattle.event_tree.proofs.Upstream.{new-held, new-led}
 use Rattle.memory.specs.Memory.{cardOf}
 use borrow.Author.Needs.{needs}
 use Rattle.event_tree.proofs.new_holder.Statement.{statement}

@@ -2,9 +2,10 @@ use mathlib.Core.Bool.{true, false}
 use mathlib.Core.Path.{ap, _∙_}
 use native.Mathlib.Omega.{arith}
 use Rattle.meaning.specs.Card.{withNext}
-use Rattle.event_move.proofs.Laws.{relabel-stays}
+use Rattle.event_move.proofs.Alike.{relabel-stays}
 use Rattle.memory.proofs.Memory.{trees-length}
-use Rattle.event_tree.proofs.Laws.{count-is, ended-cut}
+use Rattle.event_tree.proofs.Found.{count-is}
+use Rattle.event_tree.proofs.Ends.{ended-cut}
 use borrow.Author.Needs.{needs}
 use Rattle.event_tree.proofs.settle.Statement.{statement}
 use Rattle.event_tree.proofs.settle.Tie as tie

@@ -1,6 +1,6 @@
 use native.Mathlib.Omega.{arith}
 use borrow.Author.Needs.{needs}
-use Rattle.memory.proofs.Laws.{base-under, base-above, base-in}
+use Rattle.memory.proofs.Head.{base-under, base-above, base-in}
 use Rattle.memory.proofs.base.Statement.{statement}
 use Rattle.memory.proofs.base.Tie as tie
 

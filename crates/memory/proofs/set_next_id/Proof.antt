@@ -1,5 +1,5 @@
 use borrow.Author.Needs.{needs}
-use Rattle.memory.proofs.Laws.{set-next}
+use Rattle.memory.proofs.Head.{set-next}
 use Rattle.memory.proofs.set_next_id.Statement.{statement}
 use Rattle.memory.proofs.set_next_id.Tie as tie
 

@@ -3,7 +3,7 @@ use native.Mathlib.Omega.{arith}
 use lib.ListN.{getD}
 use borrow.Author.Needs.{needs}
 use Rattle.memory.proofs.Memory.{upTo-in, upTo-above}
-use Rattle.memory.proofs.Laws.{text-lent}
+use Rattle.memory.proofs.Head.{text-lent}
 use Rattle.memory.proofs.text.Statement.{statement}
 use Rattle.memory.proofs.text.Tie as tie
 

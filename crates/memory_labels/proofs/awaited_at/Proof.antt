@@ -1,7 +1,7 @@
 use native.Mathlib.Omega.{arith}
 use mathlib.Core.List.{[]}
 use borrow.Author.Needs.{needs}
-use Rattle.memory.proofs.Laws.{awaits-use, awaited-is}
+use Rattle.memory.proofs.Labels.{awaits-use, awaited-is}
 use Rattle.memory_labels.proofs.awaited_at.Statement.{statement}
 use Rattle.memory_labels.proofs.awaited_at.Tie as tie
 

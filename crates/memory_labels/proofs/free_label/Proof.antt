@@ -1,5 +1,5 @@
 use native.Mathlib.Omega.{arith}
-use Rattle.memory.proofs.Laws.{free-label}
+use Rattle.memory.proofs.Labels.{free-label}
 use borrow.Author.Needs.{needs}
 use Rattle.memory_labels.proofs.free_label.Statement.{statement}
 use Rattle.memory_labels.proofs.free_label.Tie as tie

@@ -1,6 +1,6 @@
 use Prim.Native.Nat.{_+_}
 use native.Mathlib.Omega.{arith}
-use Rattle.memory.proofs.Laws.{few-in, counted}
+use Rattle.memory.proofs.Labels.{few-in, counted}
 use borrow.Author.Needs.{needs}
 use Rattle.memory_labels.proofs.free_labels.Statement.{statement}
 use Rattle.memory_labels.proofs.free_labels.Tie as tie

@@ -2,7 +2,7 @@ use Prim.Native.Nat.{ℕ}
 use mathlib.Core.Path.{sym, ap, _∙_}
 use mathlib.Core.List.{List}
 use Rattle.meaning.specs.Octets.{same}
-use Rattle.memory.proofs.Laws.{awaits-out, awaits-free, awaits-not, awaits-same}
+use Rattle.memory.proofs.Labels.{awaits-out, awaits-free, awaits-not, awaits-same}
 use borrow.Author.Needs.{needs}
 use Rattle.memory_labels.proofs.is_awaited.Statement.{statement}
 use Rattle.memory_labels.proofs.is_awaited.Tie as tie

@@ -5,7 +5,7 @@ use Rattle.meaning.specs.Lists.{positive}
 use Rattle.memory.specs.Sizes.{wordColumn}
 use Rattle.memory.specs.Memory.{wordAt}
 use borrow.Author.Needs.{needs}
-use Rattle.memory.proofs.Laws.{labels-start, From, lowest-word, lowest-next, lowest-none}
+use Rattle.memory.proofs.Labels.{labels-start, From, lowest-word, lowest-next, lowest-none}
 use Rattle.memory_labels.proofs.lowest_free.Statement.{statement}
 use Rattle.memory_labels.proofs.lowest_free.Tie as tie
 

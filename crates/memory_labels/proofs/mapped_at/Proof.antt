@@ -1,5 +1,5 @@
 use mathlib.Core.Path.{sym, _∙_}
-use Rattle.memory.proofs.Laws.{maps-free, maps-some, maps-other}
+use Rattle.memory.proofs.Labels.{maps-free, maps-some, maps-other}
 use borrow.Author.Needs.{needs}
 use Rattle.memory_labels.proofs.mapped_at.Statement.{statement}
 use Rattle.memory_labels.proofs.mapped_at.Tie as tie

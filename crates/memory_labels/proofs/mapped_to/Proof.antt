@@ -1,7 +1,7 @@
 use mathlib.Core.Path.{sym, ap, _∙_}
 use native.Mathlib.Omega.{arith}
 use Rattle.meaning.specs.Card.{mappedTo}
-use Rattle.memory.proofs.Laws.{use-at, maps-out}
+use Rattle.memory.proofs.Labels.{use-at, maps-out}
 use borrow.Author.Needs.{needs}
 use Rattle.memory_labels.proofs.mapped_to.Statement.{statement}
 use Rattle.memory_labels.proofs.mapped_to.Tie as tie

@@ -1,4 +1,4 @@
-use Rattle.memory.proofs.Laws.{block-under, block-above, block-at}
+use Rattle.memory.proofs.Labels.{block-under, block-above, block-at}
 use borrow.Author.Needs.{needs}
 use Rattle.memory_labels.proofs.place_in_block.Statement.{statement}
 use Rattle.memory_labels.proofs.place_in_block.Tie as tie

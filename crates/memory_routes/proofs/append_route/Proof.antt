@@ -8,14 +8,14 @@ use Rattle.memory_routes.proofs.append_route.Tie as tie
 route-count-requires : tie.Need-route-count-requires
 route-count-requires c κs = search needs
 
-mul-put-text : tie.Need-mul-put-text
-mul-put-text c = search needs
+mul-set-text : tie.Need-mul-set-text
+mul-set-text c = search needs
 
-add-put-text : tie.Need-add-put-text
-add-put-text c = search needs
+add-set-text : tie.Need-add-set-text
+add-set-text c = search needs
 
-put-text-requires : tie.Need-put-text-requires
-put-text-requires c κs = search needs
+set-text-requires : tie.Need-set-text-requires
+set-text-requires c κs = search needs
 
 add-numbers : tie.Need-add-numbers
 add-numbers c = search needs
@@ -41,16 +41,16 @@ same-length-2 c = search needs
 returns : tie.Need-returns
 returns c =
     let s = c .before .before .before .before .before .before .before .before .before in
-    append-route _ _ _ _ _ _ (s .pre .0) (c .before .before .before .before .route-count .ensures .0) (omega (arith, c .before .before .before .before .route-count .ensures .0)) (s .pre .3) (c .before .before .put-text .ensures)
+    append-route _ _ _ _ _ _ (s .pre .0) (c .before .before .before .before .route-count .ensures .0) (omega (arith, c .before .before .before .before .route-count .ensures .0)) (s .pre .3) (c .before .before .set-text .ensures)
 
 pub append-route-spec : {M : Type 1} → statement M
 append-route-spec =
     tie.close
     (tie.spec
     route-count-requires
-    mul-put-text
-    add-put-text
-    put-text-requires
+    mul-set-text
+    add-set-text
+    set-text-requires
     add-numbers
     mul-numbers
     slice-write-numbers

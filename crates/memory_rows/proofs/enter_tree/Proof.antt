@@ -17,11 +17,11 @@ add-clear c = search needs
 clear-requires : tie.Need-clear-requires
 clear-requires c κs = search needs
 
-mul-put-text : tie.Need-mul-put-text
-mul-put-text c = search needs
+mul-set-text : tie.Need-mul-set-text
+mul-set-text c = search needs
 
-put-text-requires : tie.Need-put-text-requires
-put-text-requires c κs = search needs
+set-text-requires : tie.Need-set-text-requires
+set-text-requires c κs = search needs
 
 add-numbers : tie.Need-add-numbers
 add-numbers c = search needs
@@ -48,7 +48,7 @@ returns : tie.Need-returns
 returns c =
     let k = c .before .before .before .before .before .before .before .before in
     let s = k .before .before .before .before .before in
-    enter-tree _ _ _ _ _ _ (s .pre .0) (k .tree-count .ensures .0) (omega (arith, k .tree-count .ensures .0, s .pre)) (s .pre .3) (c .before .before .before .before .before .before .clear .ensures) (c .before .before .put-text .ensures)
+    enter-tree _ _ _ _ _ _ (s .pre .0) (k .tree-count .ensures .0) (omega (arith, k .tree-count .ensures .0, s .pre)) (s .pre .3) (c .before .before .before .before .before .before .clear .ensures) (c .before .before .set-text .ensures)
 
 pub enter-tree-spec : {M : Type 1} → statement M
 enter-tree-spec =
@@ -58,8 +58,8 @@ enter-tree-spec =
     mul-clear
     add-clear
     clear-requires
-    mul-put-text
-    put-text-requires
+    mul-set-text
+    set-text-requires
     add-numbers
     mul-numbers
     slice-write-numbers

@@ -8,7 +8,7 @@ use borrow.Author.Needs.{needs}
 use Rattle.meaning.specs.Octets.{any}
 use Rattle.meaning.specs.Card.{isBranch, treeAt}
 use Rattle.memory.specs.Memory.{cardOf}
-use Rattle.memory.proofs.Laws.{branches-length, others-but, others-miss, others-hit, others-none}
+use Rattle.memory.proofs.Trees.{branches-length, others-but, others-miss, others-hit, others-none}
 use Rattle.memory_trees.proofs.any_branch.Statement.{statement}
 use Rattle.memory_trees.proofs.any_branch.Tie as tie
 

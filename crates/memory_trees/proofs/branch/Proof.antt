@@ -1,5 +1,5 @@
 use borrow.Author.Needs.{needs}
-use Rattle.memory.proofs.Laws.{branch-at}
+use Rattle.memory.proofs.Trees.{branch-at}
 use Rattle.memory_trees.proofs.branch.Statement.{statement}
 use Rattle.memory_trees.proofs.branch.Tie as tie
 

@@ -6,7 +6,7 @@ use lib.Seq.{getD-set-same, getD-set-other}
 use borrow.Author.Needs.{needs}
 use Rattle.meaning.specs.Card.{treeAt}
 use Rattle.memory.specs.Memory.{cardOf}
-use Rattle.memory.proofs.Laws.{branches-length}
+use Rattle.memory.proofs.Trees.{branches-length}
 use Rattle.memory_trees.proofs.branch_then.Statement.{statement}
 use Rattle.memory_trees.proofs.branch_then.Tie as tie
 

@@ -1,6 +1,6 @@
 use mathlib.Core.Path.{refl, sym, _∙_}
 use Rattle.octets.specs.Part.{tab}
-use Rattle.memory.proofs.Laws.{branches-at}
+use Rattle.memory.proofs.Trees.{branches-at}
 use borrow.Author.Needs.{needs}
 use Rattle.memory_trees.proofs.branches.Statement.{statement}
 use Rattle.memory_trees.proofs.branches.Tie as tie

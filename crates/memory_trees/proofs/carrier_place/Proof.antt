@@ -1,7 +1,7 @@
 use native.Mathlib.Omega.{arith}
 use Prim.Native.Nat.{_-_}
 use mathlib.Core.Path.{refl}
-use Rattle.memory.proofs.Laws.{carrier-named, carrier-unmapped, carrier-beyond, carrier-other}
+use Rattle.memory.proofs.Trees.{carrier-named, carrier-unmapped, carrier-beyond, carrier-other}
 use borrow.Author.Needs.{needs}
 use Rattle.memory_trees.proofs.carrier_place.Statement.{statement}
 use Rattle.memory_trees.proofs.carrier_place.Tie as tie

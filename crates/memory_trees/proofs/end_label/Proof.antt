@@ -1,6 +1,6 @@
 use native.Mathlib.Omega.{arith}
 use mathlib.Core.List.{[]}
-use Rattle.memory.proofs.Laws.{label-carried, own-inside, ends}
+use Rattle.memory.proofs.Trees.{label-carried, own-inside, ends}
 use borrow.Author.Needs.{needs}
 use Rattle.memory_trees.proofs.end_label.Statement.{statement}
 use Rattle.memory_trees.proofs.end_label.Tie as tie

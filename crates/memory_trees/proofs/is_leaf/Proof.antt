@@ -1,5 +1,5 @@
 use borrow.Author.Needs.{needs}
-use Rattle.memory.proofs.Laws.{leaf-at}
+use Rattle.memory.proofs.Trees.{leaf-at}
 use Rattle.memory_trees.proofs.is_leaf.Statement.{statement}
 use Rattle.memory_trees.proofs.is_leaf.Tie as tie
 

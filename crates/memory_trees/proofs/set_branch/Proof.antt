@@ -1,5 +1,5 @@
 use borrow.Author.Needs.{needs}
-use Rattle.memory.proofs.Laws.{set-branch}
+use Rattle.memory.proofs.Trees.{set-branch}
 use Rattle.memory_trees.proofs.set_branch.Statement.{statement}
 use Rattle.memory_trees.proofs.set_branch.Tie as tie
 

@@ -3,7 +3,7 @@ use mathlib.Core.Logic.{⊎-elim}
 use mathlib.Core.Bool.{not}
 use lib.Dec.{eqb}
 use borrow.Author.Needs.{needs}
-use Rattle.memory.proofs.Laws.{set-leaf}
+use Rattle.memory.proofs.Trees.{set-leaf}
 use Rattle.memory_trees.proofs.set_leaf.Statement.{statement}
 use Rattle.memory_trees.proofs.set_leaf.Tie as tie
 

@@ -2,13 +2,13 @@ use native.Mathlib.Omega.{arith}
 use mathlib.Core.Path.{sym, _∙_}
 use Rattle.memory.specs.Memory.{ownPlace}
 use Rattle.memory.proofs.Marks.{carried-out}
-use Rattle.memory.proofs.Laws.{label-some, label-none}
+use Rattle.memory.proofs.Trees.{label-some, label-none}
 use borrow.Author.Needs.{needs}
 use Rattle.memory_trees.proofs.tree_label.Statement.{statement}
 use Rattle.memory_trees.proofs.tree_label.Tie as tie
 
-carries-own-requires : tie.Need-carries-own-requires
-carries-own-requires c κs = search needs
+own-counts-requires : tie.Need-own-counts-requires
+own-counts-requires c κs = search needs
 
 base-requires : tie.Need-base-requires
 base-requires c κs = search needs
@@ -26,24 +26,24 @@ add-result-2 : tie.Need-add-result-2
 add-result-2 c =
     let k = c .before .before .before in
     let s = k .before .before in
-    omega (arith, carried-out (s .args .numbers .now) (s .args .i) (ownPlace (s .args .numbers .now) (s .args .i)) (sym (k .carries-own .ensures) ∙ c .before .before .if1 .taken) .0)
+    omega (arith, carried-out (s .args .numbers .now) (s .args .i) (ownPlace (s .args .numbers .now) (s .args .i)) (sym (k .own-counts .ensures) ∙ c .before .before .if1 .taken) .0)
 
 returns : tie.Need-returns
 returns c =
     let k = c .before .before .before in
     let s = k .before .before in
-    λ os. label-some (s .args .numbers .now) os (s .args .i) (s .pre .1) _ (c .before .base .ensures .0) (sym (k .carries-own .ensures) ∙ c .before .before .if1 .taken)
+    λ os. label-some (s .args .numbers .now) os (s .args .i) (s .pre .1) _ (c .before .base .ensures .0) (sym (k .own-counts .ensures) ∙ c .before .before .if1 .taken)
 
 returns-2 : tie.Need-returns-2
 returns-2 c =
     let s = c .before .before .before in
-    λ os. label-none (s .args .numbers .now) os (s .args .i) (s .pre .1) (sym (c .before .carries-own .ensures) ∙ c .if1 .left)
+    λ os. label-none (s .args .numbers .now) os (s .args .i) (s .pre .1) (sym (c .before .own-counts .ensures) ∙ c .if1 .left)
 
 pub tree-label-spec : {M : Type 1} → statement M
 tree-label-spec =
     tie.close
     (tie.spec
-    carries-own-requires
+    own-counts-requires
     base-requires
     add-result
     mul-result

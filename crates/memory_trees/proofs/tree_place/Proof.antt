@@ -8,7 +8,7 @@ use Rattle.meaning.specs.Card.{named, treePlace}
 use Rattle.octets.specs.Part.{tab}
 use Rattle.octets.proofs.Tab.{place-hit, place-miss, place-none}
 use Rattle.memory.specs.Memory.{cardOf, treeIn}
-use Rattle.memory.proofs.Laws.{trees-start, named-at}
+use Rattle.memory.proofs.Trees.{trees-start, named-at}
 use Rattle.memory_trees.proofs.tree_place.Statement.{statement}
 use Rattle.memory_trees.proofs.tree_place.Tie as tie
 

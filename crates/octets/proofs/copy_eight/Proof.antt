@@ -2,7 +2,7 @@ use native.Mathlib.Omega.{arith}
 use mathlib.Core.Path.{refl}
 use lib.ListN.{length-set}
 use borrow.Author.Needs.{needs}
-use Rattle.octets.proofs.Laws.{copy-eight}
+use Rattle.octets.proofs.Parts.{copy-eight}
 use Rattle.octets.proofs.copy_eight.Statement.{statement}
 use Rattle.octets.proofs.copy_eight.Tie as tie
 use Rattle.octets.proofs.copy_eight.Reads as reads

@@ -6,7 +6,7 @@ use lib.ListN.{length, take, drop, getD, length-set, length-drop}
 use lib.Seq.{getD-drop}
 use borrow.Author.Needs.{needs}
 use Rattle.octets.specs.Part.{mid}
-use Rattle.octets.proofs.Laws.{mid-more, mid-none, mid-before}
+use Rattle.octets.proofs.Parts.{mid-more, mid-none, mid-before}
 use Rattle.octets.proofs.copy_few.Statement.{statement}
 use Rattle.octets.proofs.copy_few.Tie as tie
 

@@ -3,7 +3,7 @@ use native.Mathlib.Omega.{arith}
 use mathlib.Core.Path.{_≡_, refl, sym, ap, _∙_}
 use lib.ListN.{length, length-set}
 use borrow.Author.Needs.{needs}
-use Rattle.octets.proofs.Laws.{front, front-more, copy-done}
+use Rattle.octets.proofs.Parts.{front, front-more, copy-done}
 use Rattle.octets.proofs.copy_numbers.Statement.{statement}
 use Rattle.octets.proofs.copy_numbers.Tie as tie
 

@@ -4,7 +4,7 @@ use mathlib.Core.Path.{_≡_, refl, ap, _∙_}
 use lib.ListN.{length, take, drop}
 use borrow.Author.Needs.{needs}
 use Rattle.octets.specs.Part.{mid}
-use Rattle.octets.proofs.Laws.{mid-none, copied-more}
+use Rattle.octets.proofs.Parts.{mid-none, copied-more}
 use Rattle.octets.proofs.copy_within.Statement.{statement}
 use Rattle.octets.proofs.copy_within.Tie as tie
 

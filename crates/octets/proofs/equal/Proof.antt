@@ -6,7 +6,7 @@ use borrow.Author.Needs.{needs}
 use borrow.Author.Tests.{not-true, not-false}
 use Rattle.meaning.specs.Octets.{same}
 use Rattle.meaning.specs.Lists.{same-refl}
-use Rattle.octets.proofs.Laws.{same-length, same-differ, same-part, same-before, same-before-at}
+use Rattle.octets.proofs.Same.{same-length, same-differ, same-part, same-before, same-before-at}
 use Rattle.octets.proofs.equal.Statement.{statement}
 use Rattle.octets.proofs.equal.Tie as tie
 

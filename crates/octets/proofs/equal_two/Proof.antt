@@ -1,6 +1,6 @@
 use native.Mathlib.Omega.{arith}
 use borrow.Author.Needs.{needs}
-use Rattle.octets.proofs.Laws.{same-two}
+use Rattle.octets.proofs.Same.{same-two}
 use Rattle.octets.proofs.equal_two.Statement.{statement}
 use Rattle.octets.proofs.equal_two.Tie as tie
 

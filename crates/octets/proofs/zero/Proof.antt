@@ -2,7 +2,7 @@ use Prim.Native.Nat.{ℕ, _+_, _-_, _≤_, _<_}
 use native.Mathlib.Omega.{arith}
 use mathlib.Core.Path.{_≡_, refl, sym, ap, _∙_}
 use lib.ListN.{length, length-set, replicate, length-replicate, getD-replicate}
-use Rattle.octets.proofs.Laws.{front, front-more, copy-done}
+use Rattle.octets.proofs.Parts.{front, front-more, copy-done}
 use Rattle.octets.proofs.zero.Statement.{statement}
 use Rattle.octets.proofs.zero.Tie as tie
 

@@ -48,17 +48,17 @@ add-at-2 c = search needs
 at-requires-2 : tie.Need-at-requires-2
 at-requires-2 c κs = search needs
 
-sub-put-use : tie.Need-sub-put-use
-sub-put-use c = search needs
+sub-enter-use : tie.Need-sub-enter-use
+sub-enter-use c = search needs
 
-part-put-use-start : tie.Need-part-put-use-start
-part-put-use-start c = search needs
+part-enter-use-start : tie.Need-part-enter-use-start
+part-enter-use-start c = search needs
 
-part-put-use-end : tie.Need-part-put-use-end
-part-put-use-end c = search needs
+part-enter-use-end : tie.Need-part-enter-use-end
+part-enter-use-end c = search needs
 
-put-use-requires : tie.Need-put-use-requires
-put-use-requires c κs =
+enter-use-requires : tie.Need-enter-use-requires
+enter-use-requires c κs =
     let s = c .before .before .before .before .before .before .before .before .before .before .before .before .before .before .before .before .before in
     (s .pre .0, s .pre .1, omega arith, omega arith, omega (arith, c .before .before .before .before .before .before .before .put-name .ensures .1), none-carries _ _ _ (s .pre .3))
 
@@ -72,7 +72,7 @@ returns-2 : tie.Need-returns-2
 returns-2 c =
     let s = c .before .before .before .before .before .before .before .before .before .before .before .before .before .before .before .before .before .before .before .before .before .before in
     let z : c .before .before .before .before .before .before .before .before .before .before .before .before .put-name .result - 0 ≡ c .before .before .before .before .before .before .before .before .before .before .before .before .put-name .result = omega arith in
-    use-put (s .args .numbers .now) (s .args .names .now) (s .args .octets .now) (s .args .at) _ _ _ (c .before .before .before .before .before .before .before .before .before .before .before .before .before .before .before .place-of .ensures) (c .before .before .before .before .before .before .before .before .before .before .before .before .before .before .before .before .before .before .four-at .ensures .0) (c .before .before .before .before .before .before .before .before .before .before .before .before .before .before .before .before .base .ensures .0) _ _ _ _ (c .before .before .before .before .put-use .ensures) (ap (λ x. eqb x 1) (c .before .before .before .before .before .before .before .before .before .before .at .ensures .0)) (ap (λ x. x % 16) (c .before .before .before .before .before .before .before .before .before .at2 .ensures .0)) (rw z (c .before .before .before .before .before .before .before .before .before .before .before .before .put-name .ensures .0))
+    use-put (s .args .numbers .now) (s .args .names .now) (s .args .octets .now) (s .args .at) _ _ _ (c .before .before .before .before .before .before .before .before .before .before .before .before .before .before .before .place-of .ensures) (c .before .before .before .before .before .before .before .before .before .before .before .before .before .before .before .before .before .before .four-at .ensures .0) (c .before .before .before .before .before .before .before .before .before .before .before .before .before .before .before .before .base .ensures .0) _ _ _ _ (c .before .before .before .before .enter-use .ensures) (ap (λ x. eqb x 1) (c .before .before .before .before .before .before .before .before .before .before .at .ensures .0)) (ap (λ x. x % 16) (c .before .before .before .before .before .before .before .before .before .at2 .ensures .0)) (rw z (c .before .before .before .before .before .before .before .before .before .before .before .before .put-name .ensures .0))
 
 pub read-use-spec : {M : Type 1} → statement M
 read-use-spec =
@@ -91,10 +91,10 @@ read-use-spec =
     at-requires
     add-at-2
     at-requires-2
-    sub-put-use
-    part-put-use-start
-    part-put-use-end
-    put-use-requires
+    sub-enter-use
+    part-enter-use-start
+    part-enter-use-end
+    enter-use-requires
     same-length-2
     same-length-3
     returns-2)

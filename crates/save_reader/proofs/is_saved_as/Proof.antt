@@ -2,7 +2,7 @@ use native.Mathlib.Omega.{arith}
 use mathlib.Core.Path.{sym, ap, _∙_}
 use borrow.Author.Needs.{needs}
 use Rattle.meaning.specs.Octets.{same}
-use Rattle.octets.proofs.Laws.{same-length}
+use Rattle.octets.proofs.Same.{same-length}
 use Rattle.save_reader.proofs.Whole.{over-front}
 use Rattle.save_reader.proofs.is_saved_as.Statement.{statement}
 use Rattle.save_reader.proofs.is_saved_as.Tie as tie

@@ -8,7 +8,7 @@ use lib.ListN.{length}
 use Rattle.meaning.specs.Octets.{four}
 use Rattle.meaning.specs.Card.{treeAt}
 use Rattle.memory.specs.Memory.{cardOf}
-use Rattle.memory.proofs.Laws.{branches-length}
+use Rattle.memory.proofs.Trees.{branches-length}
 use Rattle.octets.specs.Part.{mid}
 use Rattle.save_records.proofs.Rows.{Rows, rows-none}
 use Rattle.save_records.proofs.Laws.{fourRow, fours-lot, fours-next, fours-done}

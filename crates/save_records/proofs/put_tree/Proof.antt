@@ -1,7 +1,7 @@
 -- `save_records::put_tree` meets its contract: four parts of the output, one behind the other, are the tree. Assumes nothing.
 use Rattle.meaning.specs.Card.{treeAt}
 use Rattle.memory.specs.Memory.{cardOf}
-use Rattle.memory.proofs.Laws.{branches-length}
+use Rattle.memory.proofs.Trees.{branches-length}
 use Rattle.save_records.proofs.Laws.{tree-put}
 use borrow.Author.Needs.{needs}
 use Rattle.save_records.proofs.put_tree.Statement.{statement}

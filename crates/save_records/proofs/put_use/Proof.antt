@@ -3,7 +3,7 @@ use mathlib.Core.Path.{sym, ap, _∙_}
 use Prim.Native.Nat.{ℕ, _+_}
 use Rattle.meaning.specs.Card.{mapped}
 use Rattle.memory.specs.Memory.{labelIn, labelName}
-use Rattle.memory.proofs.Laws.{mapped-is}
+use Rattle.memory.proofs.Labels.{mapped-is}
 use Rattle.save_records.proofs.Laws.{use-mapped, use-awaiting}
 use borrow.Author.Needs.{needs}
 use Rattle.save_records.proofs.put_use.Statement.{statement}

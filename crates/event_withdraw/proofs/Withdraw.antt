@@ -16,11 +16,12 @@ use Rattle.meaning.specs.Card.{Tree, Card, free, withNext, withTrees, withLabel
 use Rattle.meaning.specs.Events.{taken, unless, finish, Moved, followedBy, tell, setUse, relabel, become, branch, lessBranch, onWithdraw, onRelease, notAwaited}
 use Rattle.meaning.specs.Calls.{Does}
 use Rattle.octets.specs.Part.{mid}
-use Rattle.octets.proofs.Laws.{mid-none, mid-length}
+use Rattle.octets.proofs.Parts.{mid-none, mid-length}
 use Rattle.event_holder.specs.Move.{Wrote}
-use Rattle.event_move.proofs.Laws.{record-size, records-one, wrote-one}
+use Rattle.event_move.proofs.Records.{record-size, records-one, wrote-one}
 use Rattle.event_tree.specs.End.{Ended, thenCut}
-use Rattle.event_tree.proofs.Laws.{found-tree, does-refused, does-short, does-taken, ended-then, does-ended}
+use Rattle.event_tree.proofs.Found.{found-tree}
+use Rattle.event_tree.proofs.Ends.{does-refused, does-short, does-taken, ended-then, does-ended}
 use Rattle.event_tree.proofs.Newcomer.{none-stands, bare-branch, become-nothing}
 use Rattle.event_tree.proofs.Standing.{Standing}
 

@@ -13,7 +13,8 @@ use Rattle.meaning.specs.Card.{Tree, Card, free, withLeaf, bare, treePlace, tre
 use Rattle.meaning.specs.Events.{refused, unless, finish, need, labelsShort, upstream, holder, upstreamOf, treeRefusal, enter, become, notLeaf}
 use Rattle.meaning.specs.Calls.{Does}
 use Rattle.event_leaf.specs.Order.{joinOf, leaveOf}
-use Rattle.event_tree.proofs.Laws.{found-tree, does-refused}
+use Rattle.event_tree.proofs.Found.{found-tree}
+use Rattle.event_tree.proofs.Ends.{does-refused}
 use Rattle.event_tree.proofs.Newcomer.{none-stands, bare-refusal, Newcomer}
 use Rattle.event_tree.proofs.Standing.{stands-in, need-same, Standing}
 

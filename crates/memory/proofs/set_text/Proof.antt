@@ -4,8 +4,8 @@ use mathlib.Core.Path.{_∙_}
 use lib.ListN.{length, length-set}
 use Rattle.memory.proofs.Parts.{text-written}
 use borrow.Author.Needs.{needs}
-use Rattle.memory.proofs.put_text.Statement.{statement}
-use Rattle.memory.proofs.put_text.Tie as tie
+use Rattle.memory.proofs.set_text.Statement.{statement}
+use Rattle.memory.proofs.set_text.Tie as tie
 
 cast-names : tie.Need-cast-names
 cast-names c = search needs
@@ -39,8 +39,8 @@ returns c =
     let s = c .before .before .before .before .before .before in
     text-written (s .args .at) (s .args .at + 1 + length (s .args .text .now) - (s .args .at + 1)) _ _ _ (s .pre .0) (omega arith) (c .before .before .copy .ensures)
 
-pub put-text-spec : {M : Type 1} → statement M
-put-text-spec =
+pub set-text-spec : {M : Type 1} → statement M
+set-text-spec =
     tie.close
     (tie.spec
     cast-names

@@ -15,7 +15,7 @@ use Rattle.meaning.specs.Card.{Card, fresh, withNext}
 use Rattle.meaning.specs.Events.{Outcome, refused, unless, refuse, accept, finish, onMapping, onWithdraw, onRelease, onMessage, noNeighbour, onOctets, onJoin, onLeave, notRoute, notRoot, onRoute, receive, join, leave, route, outcome, event, baseOutside, start}
 use Rattle.meaning.specs.Calls.{Does}
 use Rattle.event_leaf.specs.Order.{joinOf, leaveOf}
-use Rattle.event_tree.proofs.Laws.{does-refused}
+use Rattle.event_tree.proofs.Ends.{does-refused}
 use Rattle.event_route.specs.Order.{routeOrder}
 use Rattle.card.specs.Calls.{onRead}
 

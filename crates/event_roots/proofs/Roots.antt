@@ -12,7 +12,7 @@ use Rattle.meaning.specs.Events.{still, moveLabel, needMove, holder, ofRoot, mo
 use Rattle.memory.specs.Memory.{cardOf, treeCount}
 use Rattle.memory.proofs.Memory.{trees-length}
 use Rattle.event_holder.specs.Move.{Wrote, moveSize, sizeOne, sizeAll}
-use Rattle.event_move.proofs.Laws.{wrote-nothing, wrote-then}
+use Rattle.event_move.proofs.Records.{wrote-nothing, wrote-then}
 use Rattle.event_move.proofs.Trees.{one-many, one-size, first-more, first-none, first-later, sum-more, sum-none, sum-le}
 use Rattle.event_move.proofs.Steps.{as-many}
 

@@ -14,14 +14,15 @@ use Rattle.meaning.specs.Card.{Route, Tree, Card, noRoute, withNext, withRoutes
 use Rattle.meaning.specs.Events.{taken, unless, finish, still, labelsShort, upstream, moveOne, moveFrom, moveAll, sumFrom, needAll, routesWith, routesFull, routeRefusal, reRoute}
 use Rattle.meaning.specs.RoutesStay.{all-routes}
 use Rattle.meaning.specs.Calls.{Does}
-use Rattle.octets.proofs.Laws.{mid-none}
+use Rattle.octets.proofs.Parts.{mid-none}
 use Rattle.memory.specs.Memory.{cardOf, routeCount}
 use Rattle.memory.proofs.Memory.{routes-length}
 use Rattle.event_holder.specs.Move.{Wrote, sizeOne, sizeAll}
-use Rattle.event_move.proofs.Laws.{then-length}
+use Rattle.event_move.proofs.Records.{then-length}
 use Rattle.event_move.proofs.Trees.{one-other, one-many, one-size}
 use Rattle.event_tree.specs.End.{Ended}
-use Rattle.event_tree.proofs.Laws.{when-1, when-2, when-3, when-0, does-refused, does-short, does-ended}
+use Rattle.event_tree.proofs.Ends.{does-refused, does-short, does-ended}
+use Rattle.event_tree.proofs.Tests.{when-1, when-2, when-3, when-0}
 use Rattle.event_route.specs.Order.{movedTo, routeOrder}
 
 -- ---- what the moves of a root's trees write and leave

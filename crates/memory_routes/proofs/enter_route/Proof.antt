@@ -1,8 +1,8 @@
 use Rattle.memory_routes.proofs.Routes.{set-route, add-route}
 use native.Mathlib.Omega.{arith}
 use borrow.Author.Needs.{needs}
-use Rattle.memory_routes.proofs.put_route.Statement.{statement}
-use Rattle.memory_routes.proofs.put_route.Tie as tie
+use Rattle.memory_routes.proofs.enter_route.Statement.{statement}
+use Rattle.memory_routes.proofs.enter_route.Tie as tie
 
 route-count-requires : tie.Need-route-count-requires
 route-count-requires c κs = search needs
@@ -41,8 +41,8 @@ returns-2 c =
     let s = c .before .before .before .before .before .before .before .before .before .before .before .before .before in
     add-route _ _ _ _ _ _ _ (s .pre .3) (c .before .before .before .before .before .before .before .before .route-count .ensures .0) (c .before .before .before .before .before .before .before .if1 .left) (c .before .before .before .before .append-route .ensures)
 
-pub put-route-spec : {M : Type 1} → statement M
-put-route-spec =
+pub enter-route-spec : {M : Type 1} → statement M
+enter-route-spec =
     tie.close
     (tie.spec
     route-count-requires

@@ -1,17 +1,17 @@
-use Rattle.memory_marks.proofs.Marks.{put-use}
+use Rattle.memory_marks.proofs.Marks.{enter-use}
 use native.Mathlib.Omega.{arith}
 use borrow.Author.Needs.{needs}
-use Rattle.memory_marks.proofs.put_use.Statement.{statement}
-use Rattle.memory_marks.proofs.put_use.Tie as tie
+use Rattle.memory_marks.proofs.enter_use.Statement.{statement}
+use Rattle.memory_marks.proofs.enter_use.Tie as tie
 
-mul-put-text : tie.Need-mul-put-text
-mul-put-text c = search needs
+mul-set-text : tie.Need-mul-set-text
+mul-set-text c = search needs
 
-add-put-text : tie.Need-add-put-text
-add-put-text c = search needs
+add-set-text : tie.Need-add-set-text
+add-set-text c = search needs
 
-put-text-requires : tie.Need-put-text-requires
-put-text-requires c κs = search needs
+set-text-requires : tie.Need-set-text-requires
+set-text-requires c κs = search needs
 
 set-taken-requires : tie.Need-set-taken-requires
 set-taken-requires c κs = search needs
@@ -41,15 +41,15 @@ returns : tie.Need-returns
 returns c =
     let s = c .before .before .before .before .before .before .before .before .before .before .before .before in
     let t = c .before .before .before .set-taken .ensures in
-    put-use (s .args .numbers .now) _ (s .args .names .now) _ (s .args .name .now) (s .args .place) (s .args .n) _ (s .args .held) (s .pre .2) (s .pre .3) (s .pre .4) (c .before .before .before .before .before .before .before .put-text .ensures) (t .0) (t .1) (s .pre .0) (s .pre .5) (c .use-of .ensures .0)
+    enter-use (s .args .numbers .now) _ (s .args .names .now) _ (s .args .name .now) (s .args .place) (s .args .n) _ (s .args .held) (s .pre .2) (s .pre .3) (s .pre .4) (c .before .before .before .before .before .before .before .set-text .ensures) (t .0) (t .1) (s .pre .0) (s .pre .5) (c .use-of .ensures .0)
 
-pub put-use-spec : {M : Type 1} → statement M
-put-use-spec =
+pub enter-use-spec : {M : Type 1} → statement M
+enter-use-spec =
     tie.close
     (tie.spec
-    mul-put-text
-    add-put-text
-    put-text-requires
+    mul-set-text
+    add-set-text
+    set-text-requires
     set-taken-requires
     use-of-requires
     add-numbers

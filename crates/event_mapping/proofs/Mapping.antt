@@ -11,7 +11,9 @@ use Rattle.meaning.specs.Lists.{positive}
 use Rattle.meaning.specs.Card.{Tree, Card, free, withBranch, bare, treePlace, treeAt, isEmpty, useOf}
 use Rattle.meaning.specs.Events.{unless, finish, upstreamOf, become, branch, otherLabel, onMapping}
 use Rattle.meaning.specs.Calls.{Does}
-use Rattle.event_tree.proofs.Laws.{found-tree, does-refused, any-set}
+use Rattle.event_tree.proofs.Found.{found-tree}
+use Rattle.event_tree.proofs.Ends.{does-refused}
+use Rattle.event_tree.proofs.Upstream.{any-set}
 use Rattle.event_tree.proofs.Newcomer.{none-stands, bare-branch, Newcomer}
 
 module _ (c : Card) (a : List ℕ) (i : ℕ) (ei : i ≡ treePlace a c) where

@@ -17,7 +17,7 @@ use Rattle.octets.proofs.Tab.{tab-length}
 use Rattle.memory.specs.Memory.{cardOf, baseIn, treeCount, markAt, markUse, isFreeAt, labelIn}
 use Rattle.memory.proofs.Memory.{trees-length}
 use Rattle.memory.proofs.Marks.{label-free, label-mapped, label-awaiting}
-use Rattle.memory.proofs.Laws.{use-in}
+use Rattle.memory.proofs.Labels.{use-in}
 use Rattle.card_lookups.specs.Feed.{feedIn}
 
 pub empty-feed : feedIn (replicate 16 0) false ≡ nothing
