@@ -48,8 +48,8 @@ fn on_message(
     answer: &mut u32,
 ) -> usize
     requires { ⌜ Numbers (now numbers) × Names (now names) × (n < 16) × (16 ≤ label) × (length (now name) ≤ nameLimit) ⌝ }
-    ensures { λ r. ⌜ Does (finish (length (now (out .entry))) (cardOf (now (numbers .entry)) (now (names .entry))) (onMessage (cardOf (now (numbers .entry)) (now (names .entry))) n (record { kind = kind; name = now (name .entry); label = label })))
-        (now (answer .exit)) r (now (out .entry)) (now (out .exit)) (cardOf (now (numbers .exit)) (now (names .exit))) ⌝ }
+    ensures { λ r. ⌜ (let c = cardOf (now (numbers .entry)) (now (names .entry)) in Does (finish (length (now (out .entry))) c (onMessage c n (record { kind = kind; name = now (name .entry); label = label })))
+        (now (answer .exit)) r (now (out .entry)) (now (out .exit)) (cardOf (now (numbers .exit)) (now (names .exit)))) ⌝ }
 {
     if kind == 0x0400 {
         return event_mapping::map(numbers, names, n, name, label, out, answer);
@@ -75,8 +75,8 @@ fn on_read(
     answer: &mut u32,
 ) -> usize
     requires { ⌜ Numbers (now numbers) × Names (now names) × (n < 16) ⌝ }
-    ensures { λ r. ⌜ Does (finish (length (now (out .entry))) (cardOf (now (numbers .entry)) (now (names .entry))) (onRead (cardOf (now (numbers .entry)) (now (names .entry))) n (now (message .entry))))
-        (now (answer .exit)) r (now (out .entry)) (now (out .exit)) (cardOf (now (numbers .exit)) (now (names .exit))) ⌝ }
+    ensures { λ r. ⌜ (let c = cardOf (now (numbers .entry)) (now (names .entry)) in Does (finish (length (now (out .entry))) c (onRead c n (now (message .entry))))
+        (now (answer .exit)) r (now (out .entry)) (now (out .exit)) (cardOf (now (numbers .exit)) (now (names .exit)))) ⌝ }
 {
     match wire_reader::read_message(message) {
         Read::Refused(refusal) => {

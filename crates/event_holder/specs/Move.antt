@@ -19,7 +19,7 @@ pub record Wrote (m : Moved) (id at : ℕ) (before after : List ℕ) (card : Car
 
 -- how many octets the records of a tree's move have
 unfoldable pub moveSize : Tree → ℕ → ℕ
-moveSize t u = (pick (eqb (t .label) 0) 0 1 + needMove u) * (recordSize (t .name))
+moveSize t u = (pick (eqb (t .label) 0) 0 1 + needMove u) * recordSize (t .name)
 
 unfoldable pub relabelSize : Card → Tree → ℕ → ℕ
 relabelSize c t u = pick (eqb (heldFor c t) u) 0 (moveSize t u)

@@ -29,7 +29,7 @@ pub fn move_size(numbers: &[u64], names: &[u8], i: usize, u: u64) -> usize
 
 pub fn relabel_size(numbers: &[u64], names: &[u8], i: usize, u: u64) -> usize
     requires { ⌜ Numbers (now numbers) × Names (now names) × (i < treeCount (now numbers)) × (i < treeLimit) ⌝ }
-    ensures { λ r. ⌜ (r ≡ relabelSize (cardOf (now (numbers .entry)) (now (names .entry))) (treeAt i (cardOf (now (numbers .entry)) (now (names .entry)))) u) × (r ≤ 2 * recordLimit) ⌝ }
+    ensures { λ r. ⌜ (let c = cardOf (now (numbers .entry)) (now (names .entry)) in (r ≡ relabelSize c (treeAt i c) u) × (r ≤ 2 * recordLimit)) ⌝ }
 {
     if memory_trees::held_for(numbers, i) == u {
         return 0;
@@ -40,7 +40,7 @@ pub fn relabel_size(numbers: &[u64], names: &[u8], i: usize, u: u64) -> usize
 // 12: no label is free for the tree at place i, which is to hold one for u.
 pub fn no_label_for(numbers: &[u64], i: usize, u: u64) -> bool
     requires { ⌜ Numbers (now numbers) × (i < treeCount (now numbers)) × (i < treeLimit) ⌝ }
-    ensures { λ r. ⌜ ((os : List ℕ) → r ≡ labelsShort (cardOf (now (numbers .entry)) os) (need (cardOf (now (numbers .entry)) os) (treeAt i (cardOf (now (numbers .entry)) os)) u)) ⌝ }
+    ensures { λ r. ⌜ ((os : List ℕ) → (let c = cardOf (now (numbers .entry)) os in r ≡ labelsShort c (need c (treeAt i c) u))) ⌝ }
 {
     if memory_trees::held_for(numbers, i) == u {
         return false;

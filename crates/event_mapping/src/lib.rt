@@ -32,10 +32,10 @@ fn map_standing(
     out: &mut [u8],
     answer: &mut u32,
 ) -> usize
-    requires { ⌜ Numbers (now numbers) × Names (now names) × (i < treeCount (now numbers)) × (i < treeLimit) × (n < 16) × (16 ≤ label)
-        × (i ≡ treePlace (treeAt i (cardOf (now numbers) (now names)) .name) (cardOf (now numbers) (now names))) ⌝ }
-    ensures { λ r. ⌜ Does (finish (length (now (out .entry))) (cardOf (now (numbers .entry)) (now (names .entry))) (onMapping (cardOf (now (numbers .entry)) (now (names .entry))) n (treeAt i (cardOf (now (numbers .entry)) (now (names .entry))) .name) label))
-        (now (answer .exit)) r (now (out .entry)) (now (out .exit)) (cardOf (now (numbers .exit)) (now (names .exit))) ⌝ }
+    requires { ⌜ (let c = cardOf (now numbers) (now names) in Numbers (now numbers) × Names (now names) × (i < treeCount (now numbers)) × (i < treeLimit) × (n < 16) × (16 ≤ label)
+        × (i ≡ treePlace (treeAt i c .name) c)) ⌝ }
+    ensures { λ r. ⌜ (let c = cardOf (now (numbers .entry)) (now (names .entry)) in Does (finish (length (now (out .entry))) c (onMapping c n (treeAt i c .name) label))
+        (now (answer .exit)) r (now (out .entry)) (now (out .exit)) (cardOf (now (numbers .exit)) (now (names .exit)))) ⌝ }
 {
     if other_label(numbers, i, n, label) {
         *answer = 10;
@@ -64,8 +64,8 @@ fn map_new(
     answer: &mut u32,
 ) -> usize
     requires { ⌜ Numbers (now numbers) × Names (now names) × (n < 16) × (16 ≤ label) × (length (now name) ≤ nameLimit) × (treePlace (now name) (cardOf (now numbers) (now names)) ≡ treeCount (now numbers)) ⌝ }
-    ensures { λ r. ⌜ Does (finish (length (now (out .entry))) (cardOf (now (numbers .entry)) (now (names .entry))) (onMapping (cardOf (now (numbers .entry)) (now (names .entry))) n (now (name .entry)) label))
-        (now (answer .exit)) r (now (out .entry)) (now (out .exit)) (cardOf (now (numbers .exit)) (now (names .exit))) ⌝ }
+    ensures { λ r. ⌜ (let c = cardOf (now (numbers .entry)) (now (names .entry)) in Does (finish (length (now (out .entry))) c (onMapping c n (now (name .entry)) label))
+        (now (answer .exit)) r (now (out .entry)) (now (out .exit)) (cardOf (now (numbers .exit)) (now (names .exit)))) ⌝ }
 {
     let u = event_tree::new_holder(numbers, names, name, n);
     let refusal = event_tree::new_refusal(numbers, u, wire_writer::record_size(name), out.len());
@@ -91,8 +91,8 @@ pub fn map(
     answer: &mut u32,
 ) -> usize
     requires { ⌜ Numbers (now numbers) × Names (now names) × (n < 16) × (16 ≤ label) × (length (now name) ≤ nameLimit) ⌝ }
-    ensures { λ r. ⌜ Does (finish (length (now (out .entry))) (cardOf (now (numbers .entry)) (now (names .entry))) (onMapping (cardOf (now (numbers .entry)) (now (names .entry))) n (now (name .entry)) label))
-        (now (answer .exit)) r (now (out .entry)) (now (out .exit)) (cardOf (now (numbers .exit)) (now (names .exit))) ⌝ }
+    ensures { λ r. ⌜ (let c = cardOf (now (numbers .entry)) (now (names .entry)) in Does (finish (length (now (out .entry))) c (onMapping c n (now (name .entry)) label))
+        (now (answer .exit)) r (now (out .entry)) (now (out .exit)) (cardOf (now (numbers .exit)) (now (names .exit)))) ⌝ }
 {
     let i = memory_trees::tree_place(numbers, names, name);
     if i < memory::tree_count(numbers) {

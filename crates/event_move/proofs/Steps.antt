@@ -46,7 +46,7 @@ pub gave-up : (i id at next to label : ℕ) (ns ns' os name s s' : List ℕ) →
     → name ≡ treeAt i (cardOf ns os) .name
     → next ≡ nextId id → s' ≡ mid at (recordSize name) s (recordOf id (tell to 0x0402 name label))
     → cardOf ns' os ≡ setLabel i 0 (setUse (treeAt i (cardOf ns os) .label) (ended (useOf (treeAt i (cardOf ns os) .label) (cardOf ns os))) (cardOf ns os))
-    → Wrote (giveUp i (cardOf ns os)) id at s s' (cardOf ns' os) (at + (recordSize name)) next × (freeLabels (cardOf ns' os) ≡ freeLabels (cardOf ns os))
+    → Wrote (giveUp i (cardOf ns os)) id at s s' (cardOf ns' os) (at + recordSize name) next × (freeLabels (cardOf ns' os) ≡ freeLabels (cardOf ns os))
 unfolding giveUp
 gave-up i id at next to label ns ns' os name s s' h ne et el en ei es e =
     let es' : s' ≡ mid at (recordSize (treeAt i (cardOf ns os) .name)) s (recordOf id (tell (heldFor (cardOf ns os) (treeAt i (cardOf ns os))) 0x0402 (treeAt i (cardOf ns os) .name) (treeAt i (cardOf ns os) .label))) = rw (← et, ← el, ← en) es in
@@ -83,7 +83,7 @@ pub gave : (i u p b id at next : ℕ) (ns ns' os os' name s s' : List ℕ) → b
     → name ≡ treeAt i (cardOf ns os) .name
     → next ≡ nextId id → s' ≡ mid at (recordSize name) s (recordOf id (tell u 0x0400 name (b + p)))
     → cardOf ns' os' ≡ setLabel i (baseIn ns + p) (setUse (baseIn ns + p) (mapped u (treeAt i (cardOf ns os) .name)) (cardOf ns os))
-    → Wrote (give i u (cardOf ns os)) id at s s' (cardOf ns' os') (at + (recordSize name)) next × (freeLabels (cardOf ns' os') + 1 ≡ freeLabels (cardOf ns os))
+    → Wrote (give i u (cardOf ns os)) id at s s' (cardOf ns' os') (at + recordSize name) next × (freeLabels (cardOf ns' os') + 1 ≡ freeLabels (cardOf ns os))
 unfolding give
 gave i u p b id at next ns ns' os os' name s s' eb some ep en ei es e₁ =
     let l : b + p ≡ lowestFree (cardOf ns os) = ap (λ (n : ℕ). n + p) eb ∙ lowest-at ns os p ep in
@@ -129,7 +129,7 @@ module _ (i u : ℕ) (ns ns₁ os : List ℕ) (id at : ℕ) (s s₁ : List ℕ) 
   -- whatever its identifier
   pub room-then : (k : ℕ) → Wrote (letGo i (cardOf ns os)) id at s s₁ (cardOf ns₁ os) at₁ id₁ → at₁ + length (records k (takeUp i u (cardOf ns₁ os) .sent)) ≤ length s
   room-then k w =
-      let sized : (n : ℕ) → length (records n (takeUp i u (letGo i (cardOf ns os) .card) .sent)) ≡ needMove u * (recordSize (treeAt i (letGo i (cardOf ns os) .card) .name)) = λ n. take-up-size n i (letGo i (cardOf ns os) .card) u in
+      let sized : (n : ℕ) → length (records n (takeUp i u (letGo i (cardOf ns os) .card) .sent)) ≡ needMove u * recordSize (treeAt i (letGo i (cardOf ns os) .card) .name) = λ n. take-up-size n i (letGo i (cardOf ns os) .card) u in
       rw (w .leaves, w .ends) (omega (arith, both, sized k, sized (idsAfter id (letGo i (cardOf ns os) .sent))))
 
   pub let-go-many : Wrote (letGo i (cardOf ns os)) id at s s₁ (cardOf ns₁ os) at₁ id₁ → treeCount ns₁ ≡ treeCount ns

@@ -25,16 +25,16 @@ fn give_up(
     at: usize,
     id: u32,
 ) -> Written
-    requires { ⌜ Numbers (now numbers) × Names (now names) × (i < treeCount (now numbers)) × (i < treeLimit)
-        × (treeAt i (cardOf (now numbers) (now names)) .label ≡ 0 → ⊥)
-        × (at + (recordSize (treeAt i (cardOf (now numbers) (now names)) .name)) ≤ length (now out)) ⌝ }
-    ensures { λ r. ⌜ Wrote (giveUp i (cardOf (now (numbers .entry)) (now (names .entry)))) id at (now (out .entry)) (now (out .exit)) (cardOf (now (numbers .exit)) (now (names .entry))) (r .at) (r .id)
-        × (freeLabels (cardOf (now (numbers .exit)) (now (names .entry))) ≡ freeLabels (cardOf (now (numbers .entry)) (now (names .entry)))) ⌝ }
+    requires { ⌜ (let c = cardOf (now numbers) (now names) in Numbers (now numbers) × Names (now names) × (i < treeCount (now numbers)) × (i < treeLimit)
+        × (treeAt i c .label ≡ 0 → ⊥)
+        × (at + recordSize (treeAt i c .name) ≤ length (now out))) ⌝ }
+    ensures { λ r. ⌜ (let c = cardOf (now (numbers .entry)) (now (names .entry)) in Wrote (giveUp i c) id at (now (out .entry)) (now (out .exit)) (cardOf (now (numbers .exit)) (now (names .entry))) (r .at) (r .id)
+        × (freeLabels (cardOf (now (numbers .exit)) (now (names .entry))) ≡ freeLabels c)) ⌝ }
 {
     let to = memory_trees::held_for(numbers, i);
     let label = memory_trees::tree_label(numbers, i);
     let name = memory_trees::tree_name(names, i);
-    let end = at + (24 + name.len());
+    let end = at + wire_writer::record_size(name);
     let next = wire_writer::send(id, out, at, to, 0x0402, label, name);
     memory_trees::end_label(numbers, i);
     Written { at: end, id: next }
@@ -50,8 +50,8 @@ fn let_go(
 ) -> Written
     requires { ⌜ Numbers (now numbers) × Names (now names) × (i < treeCount (now numbers)) × (i < treeLimit)
         × (at + length (records id (letGo i (cardOf (now numbers) (now names)) .sent)) ≤ length (now out)) ⌝ }
-    ensures { λ r. ⌜ Wrote (letGo i (cardOf (now (numbers .entry)) (now (names .entry)))) id at (now (out .entry)) (now (out .exit)) (cardOf (now (numbers .exit)) (now (names .entry))) (r .at) (r .id)
-        × (freeLabels (cardOf (now (numbers .exit)) (now (names .entry))) ≡ freeLabels (cardOf (now (numbers .entry)) (now (names .entry)))) ⌝ }
+    ensures { λ r. ⌜ (let c = cardOf (now (numbers .entry)) (now (names .entry)) in Wrote (letGo i c) id at (now (out .entry)) (now (out .exit)) (cardOf (now (numbers .exit)) (now (names .entry))) (r .at) (r .id)
+        × (freeLabels (cardOf (now (numbers .exit)) (now (names .entry))) ≡ freeLabels c)) ⌝ }
 {
     if memory_trees::tree_label(numbers, i) == 0 {
         return Written { at, id };
@@ -68,16 +68,16 @@ fn give(
     at: usize,
     id: u32,
 ) -> Written
-    requires { ⌜ Numbers (now numbers) × Names (now names) × (i < treeCount (now numbers)) × (i < treeLimit) × (u < 16)
-        × (0 < freeLabels (cardOf (now numbers) (now names)))
-        × (at + (recordSize (treeAt i (cardOf (now numbers) (now names)) .name)) ≤ length (now out)) ⌝ }
-    ensures { λ r. ⌜ Wrote (give i u (cardOf (now (numbers .entry)) (now (names .entry)))) id at (now (out .entry)) (now (out .exit)) (cardOf (now (numbers .exit)) (now (names .exit))) (r .at) (r .id)
-        × (freeLabels (cardOf (now (numbers .exit)) (now (names .exit))) + 1 ≡ freeLabels (cardOf (now (numbers .entry)) (now (names .entry)))) ⌝ }
+    requires { ⌜ (let c = cardOf (now numbers) (now names) in Numbers (now numbers) × Names (now names) × (i < treeCount (now numbers)) × (i < treeLimit) × (u < 16)
+        × (0 < freeLabels c)
+        × (at + recordSize (treeAt i c .name) ≤ length (now out))) ⌝ }
+    ensures { λ r. ⌜ (let c = cardOf (now (numbers .entry)) (now (names .entry)) in Wrote (give i u c) id at (now (out .entry)) (now (out .exit)) (cardOf (now (numbers .exit)) (now (names .exit))) (r .at) (r .id)
+        × (freeLabels (cardOf (now (numbers .exit)) (now (names .exit))) + 1 ≡ freeLabels c)) ⌝ }
 {
     let p = memory_labels::lowest_free(numbers);
     let label = memory::base(numbers) + p as u64;
     let name = memory_trees::tree_name(names, i);
-    let end = at + (24 + name.len());
+    let end = at + wire_writer::record_size(name);
     let next = wire_writer::send(id, out, at, u, 0x0400, label, name);
     memory_marks::map_label(numbers, names, p, i, u);
     Written { at: end, id: next }
@@ -92,11 +92,11 @@ pub fn take_up(
     at: usize,
     id: u32,
 ) -> Written
-    requires { ⌜ Numbers (now numbers) × Names (now names) × (i < treeCount (now numbers)) × (i < treeLimit) × (u ≤ 17) × (u ≡ 16 → ⊥)
-        × (needMove u ≤ freeLabels (cardOf (now numbers) (now names)))
-        × (at + length (records id (takeUp i u (cardOf (now numbers) (now names)) .sent)) ≤ length (now out)) ⌝ }
-    ensures { λ r. ⌜ Wrote (takeUp i u (cardOf (now (numbers .entry)) (now (names .entry)))) id at (now (out .entry)) (now (out .exit)) (cardOf (now (numbers .exit)) (now (names .exit))) (r .at) (r .id)
-        × (freeLabels (cardOf (now (numbers .exit)) (now (names .exit))) + needMove u ≡ freeLabels (cardOf (now (numbers .entry)) (now (names .entry)))) ⌝ }
+    requires { ⌜ (let c = cardOf (now numbers) (now names) in Numbers (now numbers) × Names (now names) × (i < treeCount (now numbers)) × (i < treeLimit) × (u ≤ 17) × (u ≡ 16 → ⊥)
+        × (needMove u ≤ freeLabels c)
+        × (at + length (records id (takeUp i u c .sent)) ≤ length (now out))) ⌝ }
+    ensures { λ r. ⌜ (let c = cardOf (now (numbers .entry)) (now (names .entry)) in Wrote (takeUp i u c) id at (now (out .entry)) (now (out .exit)) (cardOf (now (numbers .exit)) (now (names .exit))) (r .at) (r .id)
+        × (freeLabels (cardOf (now (numbers .exit)) (now (names .exit))) + needMove u ≡ freeLabels c)) ⌝ }
 {
     if u == 17 {
         return Written { at, id };
@@ -113,11 +113,11 @@ pub fn move_label(
     at: usize,
     id: u32,
 ) -> Written
-    requires { ⌜ Numbers (now numbers) × Names (now names) × (i < treeCount (now numbers)) × (i < treeLimit) × (u ≤ 17) × (u ≡ 16 → ⊥)
-        × (needMove u ≤ freeLabels (cardOf (now numbers) (now names)))
-        × (at + moveSize (treeAt i (cardOf (now numbers) (now names))) u ≤ length (now out)) ⌝ }
-    ensures { λ r. ⌜ Wrote (moveLabel i u (cardOf (now (numbers .entry)) (now (names .entry)))) id at (now (out .entry)) (now (out .exit)) (cardOf (now (numbers .exit)) (now (names .exit))) (r .at) (r .id)
-        × (freeLabels (cardOf (now (numbers .exit)) (now (names .exit))) + needMove u ≡ freeLabels (cardOf (now (numbers .entry)) (now (names .entry)))) ⌝ }
+    requires { ⌜ (let c = cardOf (now numbers) (now names) in Numbers (now numbers) × Names (now names) × (i < treeCount (now numbers)) × (i < treeLimit) × (u ≤ 17) × (u ≡ 16 → ⊥)
+        × (needMove u ≤ freeLabels c)
+        × (at + moveSize (treeAt i c) u ≤ length (now out))) ⌝ }
+    ensures { λ r. ⌜ (let c = cardOf (now (numbers .entry)) (now (names .entry)) in Wrote (moveLabel i u c) id at (now (out .entry)) (now (out .exit)) (cardOf (now (numbers .exit)) (now (names .exit))) (r .at) (r .id)
+        × (freeLabels (cardOf (now (numbers .exit)) (now (names .exit))) + needMove u ≡ freeLabels c)) ⌝ }
 {
     let w = let_go(numbers, names, i, out, at, id);
     let end = w.at;
@@ -135,9 +135,9 @@ pub fn relabel(
     at: usize,
     id: u32,
 ) -> Written
-    requires { ⌜ Numbers (now numbers) × Names (now names) × (i < treeCount (now numbers)) × (i < treeLimit) × (u ≤ 17) × (u ≡ 16 → ⊥)
-        × (need (cardOf (now numbers) (now names)) (treeAt i (cardOf (now numbers) (now names))) u ≤ freeLabels (cardOf (now numbers) (now names)))
-        × (at + relabelSize (cardOf (now numbers) (now names)) (treeAt i (cardOf (now numbers) (now names))) u ≤ length (now out)) ⌝ }
+    requires { ⌜ (let c = cardOf (now numbers) (now names) in Numbers (now numbers) × Names (now names) × (i < treeCount (now numbers)) × (i < treeLimit) × (u ≤ 17) × (u ≡ 16 → ⊥)
+        × (need c (treeAt i c) u ≤ freeLabels c)
+        × (at + relabelSize c (treeAt i c) u ≤ length (now out))) ⌝ }
     ensures { λ r. ⌜ Wrote (relabel i u (cardOf (now (numbers .entry)) (now (names .entry)))) id at (now (out .entry)) (now (out .exit)) (cardOf (now (numbers .exit)) (now (names .exit))) (r .at) (r .id) ⌝ }
 {
     if memory_trees::held_for(numbers, i) == u {

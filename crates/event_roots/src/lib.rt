@@ -85,11 +85,11 @@ fn move_one(
     at: usize,
     id: u32,
 ) -> Written
-    requires { ⌜ Numbers (now numbers) × Names (now names) × (i < treeCount (now numbers)) × (i < treeLimit) × (u ≤ 17) × (u ≡ 16 → ⊥)
-        × (needOne (now root) u (treeAt i (cardOf (now numbers) (now names))) ≤ freeLabels (cardOf (now numbers) (now names)))
-        × (at + length (records id (moveOne (now root) u i (cardOf (now numbers) (now names)) .sent)) ≤ length (now out)) ⌝ }
-    ensures { λ r. ⌜ Wrote (moveOne (now (root .entry)) u i (cardOf (now (numbers .entry)) (now (names .entry)))) id at (now (out .entry)) (now (out .exit)) (cardOf (now (numbers .exit)) (now (names .exit))) (r .at) (r .id)
-        × (freeLabels (cardOf (now (numbers .exit)) (now (names .exit))) + needOne (now (root .entry)) u (treeAt i (cardOf (now (numbers .entry)) (now (names .entry)))) ≡ freeLabels (cardOf (now (numbers .entry)) (now (names .entry)))) ⌝ }
+    requires { ⌜ (let c = cardOf (now numbers) (now names) in Numbers (now numbers) × Names (now names) × (i < treeCount (now numbers)) × (i < treeLimit) × (u ≤ 17) × (u ≡ 16 → ⊥)
+        × (needOne (now root) u (treeAt i c) ≤ freeLabels c)
+        × (at + length (records id (moveOne (now root) u i c .sent)) ≤ length (now out))) ⌝ }
+    ensures { λ r. ⌜ (let c = cardOf (now (numbers .entry)) (now (names .entry)) in Wrote (moveOne (now (root .entry)) u i c) id at (now (out .entry)) (now (out .exit)) (cardOf (now (numbers .exit)) (now (names .exit))) (r .at) (r .id)
+        × (freeLabels (cardOf (now (numbers .exit)) (now (names .exit))) + needOne (now (root .entry)) u (treeAt i c) ≡ freeLabels c)) ⌝ }
 {
     let ours = is_of_root(names, i, root);
     if ours {
@@ -108,9 +108,9 @@ pub fn move_all(
     out: &mut [u8],
     id: u32,
 ) -> Written
-    requires { ⌜ Numbers (now numbers) × Names (now names) × (u ≤ 17) × (u ≡ 16 → ⊥)
-        × (needAll (now root) u (cardOf (now numbers) (now names)) ≤ freeLabels (cardOf (now numbers) (now names)))
-        × (sizeAll (now root) u (cardOf (now numbers) (now names)) ≤ length (now out)) ⌝ }
+    requires { ⌜ (let c = cardOf (now numbers) (now names) in Numbers (now numbers) × Names (now names) × (u ≤ 17) × (u ≡ 16 → ⊥)
+        × (needAll (now root) u c ≤ freeLabels c)
+        × (sizeAll (now root) u c ≤ length (now out))) ⌝ }
     ensures { λ r. ⌜ Wrote (moveAll (now (root .entry)) u (cardOf (now (numbers .entry)) (now (names .entry)))) id 0 (now (out .entry)) (now (out .exit)) (cardOf (now (numbers .exit)) (now (names .exit))) (r .at) (r .id) ⌝ }
 {
     let n = memory::tree_count(numbers);

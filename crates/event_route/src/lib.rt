@@ -19,8 +19,8 @@ use meaning::ROUTE_LIMIT;
 // 15, for a root whose route is to be another.
 fn routes_full(numbers: &[u64], names: &[u8], root: &[u8]) -> bool
     requires { ⌜ Numbers (now numbers) × Names (now names) ⌝ }
-    ensures { λ r. ⌜ r ≡ (eqb (routeOf (now (root .entry)) (cardOf (now (numbers .entry)) (now (names .entry)))) noRoute
-        && leb routeLimit (length (cardOf (now (numbers .entry)) (now (names .entry)) .routes))) ⌝ }
+    ensures { λ r. ⌜ (let c = cardOf (now (numbers .entry)) (now (names .entry)) in r ≡ (eqb (routeOf (now (root .entry)) c) noRoute
+        && leb routeLimit (length (c .routes)))) ⌝ }
 {
     if memory_routes::route_of(numbers, names, root) == 17 {
         return ROUTE_LIMIT <= memory::route_count(numbers);
@@ -31,8 +31,8 @@ fn routes_full(numbers: &[u64], names: &[u8], root: &[u8]) -> bool
 // 15, 12 and 16 for a route that is another than the old one.
 fn route_refusal(numbers: &[u64], names: &[u8], root: &[u8], via: u64, u: u64, room: usize) -> u32
     requires { ⌜ Numbers (now numbers) × Names (now names) × (u ≡ upstream via) × (routeOf (now root) (cardOf (now numbers) (now names)) ≡ via → ⊥) ⌝ }
-    ensures { λ r. ⌜ r ≡ 15 when routesFull (cardOf (now (numbers .entry)) (now (names .entry))) (now (root .entry)) via else 12 when labelsShort (cardOf (now (numbers .entry)) (now (names .entry))) (needAll (now (root .entry)) (upstream via) (cardOf (now (numbers .entry)) (now (names .entry))))
-        else 16 when ltb room (sizeAll (now (root .entry)) (upstream via) (cardOf (now (numbers .entry)) (now (names .entry)))) else 0 ⌝ }
+    ensures { λ r. ⌜ (let c = cardOf (now (numbers .entry)) (now (names .entry)) in r ≡ 15 when routesFull c (now (root .entry)) via else 12 when labelsShort c (needAll (now (root .entry)) (upstream via) c)
+        else 16 when ltb room (sizeAll (now (root .entry)) (upstream via) c) else 0) ⌝ }
 {
     if routes_full(numbers, names, root) {
         return 15;
@@ -48,9 +48,9 @@ fn route_refusal(numbers: &[u64], names: &[u8], root: &[u8], via: u64, u: u64, r
 
 // The root's entry: anew, or gone where there is no route.
 fn set_route(numbers: &mut [u64], names: &mut [u8], root: &[u8], via: u64)
-    requires { ⌜ Numbers (now numbers) × Names (now names) × (length (now root) ≤ rootLimit)
-        × (routePlace (now root) (cardOf (now numbers) (now names)) ≡ length ((cardOf (now numbers) (now names)) .routes) → (via ≡ 17 → ⊥) × (length ((cardOf (now numbers) (now names)) .routes) < routeLimit)) ⌝ }
-    ensures { λ _. ⌜ (cardOf (now (numbers .exit)) (now (names .exit))) ≡ withRoutes (routesWith (cardOf (now (numbers .entry)) (now (names .entry))) (now (root .entry)) via) (cardOf (now (numbers .entry)) (now (names .entry))) ⌝ }
+    requires { ⌜ (let c = cardOf (now numbers) (now names) in Numbers (now numbers) × Names (now names) × (length (now root) ≤ rootLimit)
+        × (routePlace (now root) c ≡ length (c .routes) → (via ≡ 17 → ⊥) × (length (c .routes) < routeLimit))) ⌝ }
+    ensures { λ _. ⌜ (let c = cardOf (now (numbers .entry)) (now (names .entry)) in (cardOf (now (numbers .exit)) (now (names .exit))) ≡ withRoutes (routesWith c (now (root .entry)) via) c) ⌝ }
 {
     let i = memory_routes::route_place(numbers, names, root);
     if via == 17 {
@@ -68,10 +68,10 @@ fn re_route(
     u: u64,
     out: &mut [u8],
 ) -> usize
-    requires { ⌜ Numbers (now numbers) × Names (now names) × (length (now root) ≤ rootLimit) × (u ≡ upstream via) × (u ≤ 17) × (u ≡ 16 → ⊥)
-        × (routePlace (now root) (cardOf (now numbers) (now names)) ≡ length ((cardOf (now numbers) (now names)) .routes) → (via ≡ 17 → ⊥) × (length ((cardOf (now numbers) (now names)) .routes) < routeLimit))
-        × (needAll (now root) u (cardOf (now numbers) (now names)) ≤ freeLabels (cardOf (now numbers) (now names))) × (sizeAll (now root) u (cardOf (now numbers) (now names)) ≤ length (now out)) ⌝ }
-    ensures { λ r. ⌜ Ended (movedTo (cardOf (now (numbers .entry)) (now (names .entry))) (now (root .entry)) via) ((cardOf (now (numbers .entry)) (now (names .entry))) .next) 0 (now (out .entry)) (now (out .exit)) (cardOf (now (numbers .exit)) (now (names .exit))) r ⌝ }
+    requires { ⌜ (let c = cardOf (now numbers) (now names) in Numbers (now numbers) × Names (now names) × (length (now root) ≤ rootLimit) × (u ≡ upstream via) × (u ≤ 17) × (u ≡ 16 → ⊥)
+        × (routePlace (now root) c ≡ length (c .routes) → (via ≡ 17 → ⊥) × (length (c .routes) < routeLimit))
+        × (needAll (now root) u c ≤ freeLabels c) × (sizeAll (now root) u c ≤ length (now out))) ⌝ }
+    ensures { λ r. ⌜ (let c = cardOf (now (numbers .entry)) (now (names .entry)) in Ended (movedTo c (now (root .entry)) via) (c .next) 0 (now (out .entry)) (now (out .exit)) (cardOf (now (numbers .exit)) (now (names .exit))) r) ⌝ }
 {
     let w = event_roots::move_all(numbers, names, root, u, out, memory::next_id(numbers));
     let next = w.id;
@@ -90,8 +90,8 @@ pub fn change_route(
     answer: &mut u32,
 ) -> usize
     requires { ⌜ Numbers (now numbers) × Names (now names) × (length (now root) ≤ rootLimit) × (via ≤ 17) ⌝ }
-    ensures { λ r. ⌜ Does (finish (length (now (out .entry))) (cardOf (now (numbers .entry)) (now (names .entry))) (routeOrder (cardOf (now (numbers .entry)) (now (names .entry))) (now (root .entry)) via))
-        (now (answer .exit)) r (now (out .entry)) (now (out .exit)) (cardOf (now (numbers .exit)) (now (names .exit))) ⌝ }
+    ensures { λ r. ⌜ (let c = cardOf (now (numbers .entry)) (now (names .entry)) in Does (finish (length (now (out .entry))) c (routeOrder c (now (root .entry)) via))
+        (now (answer .exit)) r (now (out .entry)) (now (out .exit)) (cardOf (now (numbers .exit)) (now (names .exit)))) ⌝ }
 {
     if memory_routes::route_of(numbers, names, root) == via {
         *answer = 0;

@@ -139,7 +139,7 @@ module _ (c : Card) (t : Tree) (i u : ℕ) (ei : i ≡ treePlace (t .name) c) (h
   abbrev larger : Card
   larger = withTrees (c .trees ++ (t ∷ [])) c
 
-  pub larger-size : (id : ℕ) → length (records id (takeUp i u larger .sent)) ≡ needMove u * (recordSize (t .name))
+  pub larger-size : (id : ℕ) → length (records id (takeUp i u larger .sent)) ≡ needMove u * recordSize (t .name)
   larger-size id = take-up-size id i larger u ∙ rw (new-at c t i h) refl
 
   pub new-full : treeLimit ≤ length (c .trees) → Does (finish (length s) c (become c [] t)) 11 0 s s c
@@ -156,10 +156,10 @@ module _ (c : Card) (t : Tree) (i u : ℕ) (ei : i ≡ treePlace (t .name) c) (h
       no-refusal : (x y : Bool) → x ≡ false → y ≡ false → (o : Outcome) → unless (11 when x else 12 when y else 0) o ≡ o
       no-refusal x y p q o = rw (p, q) (unfold _when_else_ unless in refl)
 
-  pub new-room : length (c .trees) < treeLimit → needMove u ≤ freeLabels c → length s < needMove u * (recordSize (t .name)) → Does (finish (length s) c (become c [] t)) 16 0 s s c
+  pub new-room : length (c .trees) < treeLimit → needMove u ≤ freeLabels c → length s < needMove u * recordSize (t .name) → Does (finish (length s) c (become c [] t)) 16 0 s s c
   new-room k l m = rw (taken-new k l) (does-short c _ _ s (rw (larger-size (c .next)) m))
 
-  pub new-done : length (c .trees) < treeLimit → needMove u ≤ freeLabels c → needMove u * (recordSize (t .name)) ≤ length s
+  pub new-done : length (c .trees) < treeLimit → needMove u ≤ freeLabels c → needMove u * recordSize (t .name) ≤ length s
       → (s' : List ℕ) (e : Card) (end : ℕ) → Ended (takeUp i u larger) (c .next) 0 s s' e end → Does (finish (length s) c (become c [] t)) 0 end s s' e
   new-done k l m s' e end w = rw (taken-new k l) (does-ended c _ _ s s' e end (rw (larger-size (c .next)) m) w)
 

@@ -19,7 +19,7 @@ use meaning::TREE_LIMIT;
 // The neighbour that the tree at place i holds a label for, once neighbour n's branch is x; 17 for none.
 pub fn branch_holder(numbers: &[u64], names: &[u8], i: usize, n: usize, x: u64) -> u64
     requires { ⌜ Numbers (now numbers) × Names (now names) × (i < treeCount (now numbers)) × (i < treeLimit) ⌝ }
-    ensures { λ r. ⌜ (r ≡ upstreamOf (cardOf (now (numbers .entry)) (now (names .entry))) (withBranch n x (treeAt i (cardOf (now (numbers .entry)) (now (names .entry)))))) × (r ≤ 17) × (r ≡ 16 → ⊥) ⌝ }
+    ensures { λ r. ⌜ (let c = cardOf (now (numbers .entry)) (now (names .entry)) in (r ≡ upstreamOf c (withBranch n x (treeAt i c))) × (r ≤ 17) × (r ≡ 16 → ⊥)) ⌝ }
 {
     let u = event_holder::upstream_of(numbers, names, memory_trees::tree_name(names, i));
     event_holder::holder_then(numbers, i, n, x, memory_trees::is_leaf(numbers, i), u)
@@ -28,7 +28,7 @@ pub fn branch_holder(numbers: &[u64], names: &[u8], i: usize, n: usize, x: u64) 
 // The same, once its leaf mark is `leaf`.
 pub fn leaf_holder(numbers: &[u64], names: &[u8], i: usize, leaf: bool) -> u64
     requires { ⌜ Numbers (now numbers) × Names (now names) × (i < treeCount (now numbers)) × (i < treeLimit) ⌝ }
-    ensures { λ r. ⌜ (r ≡ upstreamOf (cardOf (now (numbers .entry)) (now (names .entry))) (withLeaf leaf (treeAt i (cardOf (now (numbers .entry)) (now (names .entry)))))) × (r ≤ 17) × (r ≡ 16 → ⊥) ⌝ }
+    ensures { λ r. ⌜ (let c = cardOf (now (numbers .entry)) (now (names .entry)) in (r ≡ upstreamOf c (withLeaf leaf (treeAt i c))) × (r ≤ 17) × (r ≡ 16 → ⊥)) ⌝ }
 {
     let u = event_holder::upstream_of(numbers, names, memory_trees::tree_name(names, i));
     event_holder::holder_then(numbers, i, 16, 0, leaf, u)
@@ -58,8 +58,8 @@ pub fn standing_refusal(
     room: usize,
 ) -> u32
     requires { ⌜ Numbers (now numbers) × Names (now names) × (i < treeCount (now numbers)) × (i < treeLimit) × (first ≤ recordLimit) ⌝ }
-    ensures { λ r. ⌜ r ≡ 12 when labelsShort (cardOf (now (numbers .entry)) (now (names .entry))) (need (cardOf (now (numbers .entry)) (now (names .entry))) (treeAt i (cardOf (now (numbers .entry)) (now (names .entry)))) u)
-        else 16 when ltb room (first + relabelSize (cardOf (now (numbers .entry)) (now (names .entry))) (treeAt i (cardOf (now (numbers .entry)) (now (names .entry)))) u) else 0 ⌝ }
+    ensures { λ r. ⌜ (let c = cardOf (now (numbers .entry)) (now (names .entry)) in r ≡ 12 when labelsShort c (need c (treeAt i c) u)
+        else 16 when ltb room (first + relabelSize c (treeAt i c) u) else 0) ⌝ }
 {
     if event_holder::no_label_for(numbers, i, u) {
         return 12;
@@ -73,8 +73,8 @@ pub fn standing_refusal(
 // 11, 12 and 16 for a new tree that is to hold a label for u.
 pub fn new_refusal(numbers: &[u64], u: u64, size: usize, room: usize) -> u32
     requires { ⌜ Numbers (now numbers) ⌝ }
-    ensures { λ r. ⌜ ((os : List ℕ) → r ≡ 11 when leb treeLimit (length (cardOf (now (numbers .entry)) os .trees))
-        else 12 when ltb (freeLabels (cardOf (now (numbers .entry)) os)) (needMove u) else 16 when ltb room (needMove u * size) else 0) ⌝ }
+    ensures { λ r. ⌜ ((os : List ℕ) → (let c = cardOf (now (numbers .entry)) os in r ≡ 11 when leb treeLimit (length (c .trees))
+        else 12 when ltb (freeLabels c) (needMove u) else 16 when ltb room (needMove u * size) else 0)) ⌝ }
 {
     if TREE_LIMIT <= memory::tree_count(numbers) {
         return 11;
@@ -101,9 +101,9 @@ pub fn settle(
     at: usize,
     id: u32,
 ) -> usize
-    requires { ⌜ Numbers (now numbers) × Names (now names) × (i < treeCount (now numbers)) × (i < treeLimit) × (u ≤ 17) × (u ≡ 16 → ⊥)
-        × (need (cardOf (now numbers) (now names)) (treeAt i (cardOf (now numbers) (now names))) u ≤ freeLabels (cardOf (now numbers) (now names)))
-        × (at + relabelSize (cardOf (now numbers) (now names)) (treeAt i (cardOf (now numbers) (now names))) u ≤ length (now out)) ⌝ }
+    requires { ⌜ (let c = cardOf (now numbers) (now names) in Numbers (now numbers) × Names (now names) × (i < treeCount (now numbers)) × (i < treeLimit) × (u ≤ 17) × (u ≡ 16 → ⊥)
+        × (need c (treeAt i c) u ≤ freeLabels c)
+        × (at + relabelSize c (treeAt i c) u ≤ length (now out))) ⌝ }
     ensures { λ r. ⌜ Ended (thenCut empty i (relabel i u (cardOf (now (numbers .entry)) (now (names .entry))))) id at (now (out .entry)) (now (out .exit)) (cardOf (now (numbers .exit)) (now (names .exit))) r ⌝ }
 {
     let w = event_move::relabel(numbers, names, i, u, out, at, id);
@@ -127,9 +127,9 @@ pub fn grow(
     out: &mut [u8],
     id: u32,
 ) -> usize
-    requires { ⌜ Numbers (now numbers) × Names (now names) × (i < treeCount (now numbers)) × (i < treeLimit) × (u ≤ 17) × (u ≡ 16 → ⊥)
-        × (needMove u ≤ freeLabels (cardOf (now numbers) (now names)))
-        × (length (records id (takeUp i u (cardOf (now numbers) (now names)) .sent)) ≤ length (now out)) ⌝ }
+    requires { ⌜ (let c = cardOf (now numbers) (now names) in Numbers (now numbers) × Names (now names) × (i < treeCount (now numbers)) × (i < treeLimit) × (u ≤ 17) × (u ≡ 16 → ⊥)
+        × (needMove u ≤ freeLabels c)
+        × (length (records id (takeUp i u c .sent)) ≤ length (now out))) ⌝ }
     ensures { λ r. ⌜ Ended (takeUp i u (cardOf (now (numbers .entry)) (now (names .entry)))) id 0 (now (out .entry)) (now (out .exit)) (cardOf (now (numbers .exit)) (now (names .exit))) r ⌝ }
 {
     let w = event_move::take_up(numbers, names, i, u, out, 0, id);

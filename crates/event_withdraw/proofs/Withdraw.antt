@@ -107,7 +107,7 @@ module _ (c : Card) (t : Tree) (i u n l : ℕ) (S : Standing c t i u) (s : List 
   unfolding followedBy thenCut
   withdraw-ends id id₁ at s₁ s₂ d e empty end en fits en₁ es ea ed ee w =
       subst (λ (k : ℕ). Ended (followedBy sent-first (λ (x : Card). thenCut (isEmpty t) i (relabel i u x))) k 0 s s₂ e end) en
-      (ended-then sent-first (λ (x : Card). thenCut (isEmpty t) i (relabel i u x)) id 0 s s₁ s₂ (withTrees (set (c .trees) i t) c) e (0 + (recordSize (treeAt i c .name))) id₁ end
+      (ended-then sent-first (λ (x : Card). thenCut (isEmpty t) i (relabel i u x)) id 0 s s₁ s₂ (withTrees (set (c .trees) i t) c) e (0 + recordSize (treeAt i c .name)) id₁ end
       (rw (records-one id (tell n release (treeAt i c .name) l), record-size id (tell n release (treeAt i c .name) l)) (omega arith))
       (wrote-one (tell n release (treeAt i c .name) l) _ id 0 id₁ s s₁ _ refl es en₁)
       (subst (λ (k : ℕ). Ended (thenCut (isEmpty t) i (relabel i u (withTrees (set (c .trees) i t) c))) id₁ k s₁ s₂ e end) (ea ∙ omega arith)

@@ -13,7 +13,7 @@ ghost use Rattle.memory.specs.Memory.{cardOf, treeCount};
 // What a Withdraw of a label from neighbour n leaves of the tree at place i: its branch there, and whether it is empty.
 fn less_branch(numbers: &[u64], i: usize, n: usize, label: u64) -> u64
     requires { ⌜ Numbers (now numbers) × (i < treeCount (now numbers)) × (i < treeLimit) × (n < 16) ⌝ }
-    ensures { λ r. ⌜ ((os : List ℕ) → withBranch n r (treeAt i (cardOf (now (numbers .entry)) os)) ≡ lessBranch n label (treeAt i (cardOf (now (numbers .entry)) os))) ⌝ }
+    ensures { λ r. ⌜ ((os : List ℕ) → (let c = cardOf (now (numbers .entry)) os in withBranch n r (treeAt i c) ≡ lessBranch n label (treeAt i c))) ⌝ }
 {
     let b = memory_trees::branch(numbers, i, n);
     if b == label { 0 } else { b }
@@ -39,10 +39,10 @@ fn withdraw_standing(
     out: &mut [u8],
     answer: &mut u32,
 ) -> usize
-    requires { ⌜ Numbers (now numbers) × Names (now names) × (i < treeCount (now numbers)) × (i < treeLimit) × (n < 16)
-        × (i ≡ treePlace (treeAt i (cardOf (now numbers) (now names)) .name) (cardOf (now numbers) (now names))) ⌝ }
-    ensures { λ r. ⌜ Does (finish (length (now (out .entry))) (cardOf (now (numbers .entry)) (now (names .entry))) (onWithdraw (cardOf (now (numbers .entry)) (now (names .entry))) n (treeAt i (cardOf (now (numbers .entry)) (now (names .entry))) .name) label))
-        (now (answer .exit)) r (now (out .entry)) (now (out .exit)) (cardOf (now (numbers .exit)) (now (names .exit))) ⌝ }
+    requires { ⌜ (let c = cardOf (now numbers) (now names) in Numbers (now numbers) × Names (now names) × (i < treeCount (now numbers)) × (i < treeLimit) × (n < 16)
+        × (i ≡ treePlace (treeAt i c .name) c)) ⌝ }
+    ensures { λ r. ⌜ (let c = cardOf (now (numbers .entry)) (now (names .entry)) in Does (finish (length (now (out .entry))) c (onWithdraw c n (treeAt i c .name) label))
+        (now (answer .exit)) r (now (out .entry)) (now (out .exit)) (cardOf (now (numbers .exit)) (now (names .exit)))) ⌝ }
 {
     let left = less_branch(numbers, i, n, label);
     let empty = less_empty(numbers, i, n, left);
@@ -79,8 +79,8 @@ fn withdraw_unknown(
     answer: &mut u32,
 ) -> usize
     requires { ⌜ Numbers (now numbers) × Names (now names) × (n < 16) × (16 ≤ label) × (length (now name) ≤ nameLimit) × (treePlace (now name) (cardOf (now numbers) (now names)) ≡ treeCount (now numbers)) ⌝ }
-    ensures { λ r. ⌜ Does (finish (length (now (out .entry))) (cardOf (now (numbers .entry)) (now (names .entry))) (onWithdraw (cardOf (now (numbers .entry)) (now (names .entry))) n (now (name .entry)) label))
-        (now (answer .exit)) r (now (out .entry)) (now (out .exit)) (cardOf (now (numbers .exit)) (now (names .entry))) ⌝ }
+    ensures { λ r. ⌜ (let c = cardOf (now (numbers .entry)) (now (names .entry)) in Does (finish (length (now (out .entry))) c (onWithdraw c n (now (name .entry)) label))
+        (now (answer .exit)) r (now (out .entry)) (now (out .exit)) (cardOf (now (numbers .exit)) (now (names .entry)))) ⌝ }
 {
     let size = wire_writer::record_size(name);
     if out.len() < size {
@@ -111,8 +111,8 @@ pub fn withdraw(
     answer: &mut u32,
 ) -> usize
     requires { ⌜ Numbers (now numbers) × Names (now names) × (n < 16) × (16 ≤ label) × (length (now name) ≤ nameLimit) ⌝ }
-    ensures { λ r. ⌜ Does (finish (length (now (out .entry))) (cardOf (now (numbers .entry)) (now (names .entry))) (onWithdraw (cardOf (now (numbers .entry)) (now (names .entry))) n (now (name .entry)) label))
-        (now (answer .exit)) r (now (out .entry)) (now (out .exit)) (cardOf (now (numbers .exit)) (now (names .exit))) ⌝ }
+    ensures { λ r. ⌜ (let c = cardOf (now (numbers .entry)) (now (names .entry)) in Does (finish (length (now (out .entry))) c (onWithdraw c n (now (name .entry)) label))
+        (now (answer .exit)) r (now (out .entry)) (now (out .exit)) (cardOf (now (numbers .exit)) (now (names .exit)))) ⌝ }
 {
     let i = memory_trees::tree_place(numbers, names, name);
     if i < memory::tree_count(numbers) {
@@ -130,8 +130,8 @@ pub fn release(
     answer: &mut u32,
 )
     requires { ⌜ Numbers (now numbers) × Names (now names) × (n < 16) ⌝ }
-    ensures { λ _. ⌜ ((s : List ℕ) → Does (finish (length s) (cardOf (now (numbers .entry)) (now (names .entry))) (onRelease (cardOf (now (numbers .entry)) (now (names .entry))) n (now (name .entry)) label))
-        (now (answer .exit)) 0 s s (cardOf (now (numbers .exit)) (now (names .entry)))) ⌝ }
+    ensures { λ _. ⌜ (let c = cardOf (now (numbers .entry)) (now (names .entry)) in ((s : List ℕ) → Does (finish (length s) c (onRelease c n (now (name .entry)) label))
+        (now (answer .exit)) 0 s s (cardOf (now (numbers .exit)) (now (names .entry))))) ⌝ }
 {
     if memory_labels::is_awaited(numbers, names, n as u64, name, label) {
         memory_labels::free_label(numbers, label);

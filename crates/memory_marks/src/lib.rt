@@ -19,8 +19,8 @@ use memory::OWN_COLUMN;
 // The label at place p of the block, which is free, is mapped to neighbour n for the tree at place i, which carries it from now on.
 pub fn map_label(numbers: &mut [u64], names: &mut [u8], p: usize, i: usize, n: u64)
     requires { ⌜ Numbers (now numbers) × Names (now names) × (p < labelCount) × (i < treeCount (now numbers)) × (i < treeLimit) × (n < 16) × (isFreeAt (now numbers) p ≡ true) ⌝ }
-    ensures { λ _. ⌜ cardOf (now (numbers .exit)) (now (names .exit))
-        ≡ setLabel i (baseIn (now (numbers .entry)) + p) (setUse (baseIn (now (numbers .entry)) + p) (mapped n (treeAt i (cardOf (now (numbers .entry)) (now (names .entry))) .name)) (cardOf (now (numbers .entry)) (now (names .entry)))) ⌝ }
+    ensures { λ _. ⌜ (let c = cardOf (now (numbers .entry)) (now (names .entry)) in cardOf (now (numbers .exit)) (now (names .exit))
+        ≡ setLabel i (baseIn (now (numbers .entry)) + p) (setUse (baseIn (now (numbers .entry)) + p) (mapped n (treeAt i c .name)) c)) ⌝ }
 {
     octets::copy_within(
         names,
@@ -53,8 +53,8 @@ pub fn enter_use(
 )
     requires { ⌜ Numbers (now numbers) × Names (now names) × (place < labelCount) × (n < 16) × (length (now name) ≤ nameLimit)
         × ((j : ℕ) → j < treeCount (now numbers) → treeAt j (cardOf (now numbers) (now names)) .label ≡ baseIn (now numbers) + place → ⊥) ⌝ }
-    ensures { λ _. ⌜ cardOf (now (numbers .exit)) (now (names .exit))
-        ≡ withLabels (set (cardOf (now (numbers .entry)) (now (names .entry)) .labels) place (pick held (mapped n (now (name .entry))) (awaiting n (now (name .entry))))) (cardOf (now (numbers .entry)) (now (names .entry))) ⌝ }
+    ensures { λ _. ⌜ (let c = cardOf (now (numbers .entry)) (now (names .entry)) in cardOf (now (numbers .exit)) (now (names .exit))
+        ≡ withLabels (set (c .labels) place (pick held (mapped n (now (name .entry))) (awaiting n (now (name .entry))))) c) ⌝ }
 {
     memory::set_text(names, LABEL_NAMES + place * NAME_SPACE, name);
     memory_labels::set_taken(numbers, place);

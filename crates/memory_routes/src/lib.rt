@@ -62,8 +62,8 @@ pub fn route_of(numbers: &[u64], names: &[u8], root: &[u8]) -> u64
 // A route comes, behind the others.
 pub fn append_route(numbers: &mut [u64], names: &mut [u8], root: &[u8], via: u64)
     requires { ⌜ Numbers (now numbers) × Names (now names) × (routeCount (now numbers) < routeLimit) × (length (now root) ≤ rootLimit) ⌝ }
-    ensures { λ _. ⌜ cardOf (now (numbers .exit)) (now (names .exit))
-        ≡ withRoutes (cardOf (now (numbers .entry)) (now (names .entry)) .routes ++ (record { root = now (root .entry); via = via } ∷ [])) (cardOf (now (numbers .entry)) (now (names .entry))) ⌝ }
+    ensures { λ _. ⌜ (let c = cardOf (now (numbers .entry)) (now (names .entry)) in cardOf (now (numbers .exit)) (now (names .exit))
+        ≡ withRoutes (c .routes ++ (record { root = now (root .entry); via = via } ∷ [])) c) ⌝ }
 {
     let n = memory::route_count(numbers);
     memory::set_text(names, ROOT_NAMES + n * ROOT_SPACE, root);
@@ -73,11 +73,11 @@ pub fn append_route(numbers: &mut [u64], names: &mut [u8], root: &[u8], via: u64
 
 // The route of the root whose place is i: its entry, or a new one behind the others.
 pub fn enter_route(numbers: &mut [u64], names: &mut [u8], i: usize, root: &[u8], via: u64)
-    requires { ⌜ Numbers (now numbers) × Names (now names) × (length (now root) ≤ rootLimit)
-        × (i ≡ routePlace (now root) (cardOf (now numbers) (now names)))
-        × (routeCount (now numbers) ≤ routePlace (now root) (cardOf (now numbers) (now names)) → routeCount (now numbers) < routeLimit) ⌝ }
-    ensures { λ _. ⌜ cardOf (now (numbers .exit)) (now (names .exit))
-        ≡ withRoutes (put (cardOf (now (numbers .entry)) (now (names .entry)) .routes) (routePlace (now (root .entry)) (cardOf (now (numbers .entry)) (now (names .entry)))) (record { root = now (root .entry); via = via })) (cardOf (now (numbers .entry)) (now (names .entry))) ⌝ }
+    requires { ⌜ (let c = cardOf (now numbers) (now names) in Numbers (now numbers) × Names (now names) × (length (now root) ≤ rootLimit)
+        × (i ≡ routePlace (now root) c)
+        × (routeCount (now numbers) ≤ routePlace (now root) c → routeCount (now numbers) < routeLimit)) ⌝ }
+    ensures { λ _. ⌜ (let c = cardOf (now (numbers .entry)) (now (names .entry)) in cardOf (now (numbers .exit)) (now (names .exit))
+        ≡ withRoutes (put (c .routes) (routePlace (now (root .entry)) c) (record { root = now (root .entry); via = via })) c) ⌝ }
 {
     let n = memory::route_count(numbers);
     if i < n {
@@ -90,8 +90,8 @@ pub fn enter_route(numbers: &mut [u64], names: &mut [u8], i: usize, root: &[u8],
 // A root's entry goes, and the gap is closed.
 pub fn remove_route(numbers: &mut [u64], names: &mut [u8], i: usize)
     requires { ⌜ Numbers (now numbers) × Names (now names) × (i < routeCount (now numbers)) × (i < routeLimit) ⌝ }
-    ensures { λ _. ⌜ cardOf (now (numbers .exit)) (now (names .exit))
-        ≡ withRoutes (cut (cardOf (now (numbers .entry)) (now (names .entry)) .routes) i) (cardOf (now (numbers .entry)) (now (names .entry))) ⌝ }
+    ensures { λ _. ⌜ (let c = cardOf (now (numbers .entry)) (now (names .entry)) in cardOf (now (numbers .exit)) (now (names .exit))
+        ≡ withRoutes (cut (c .routes) i) c) ⌝ }
 {
     let n = memory::route_count(numbers);
     memory::close_numbers(numbers, ROUTE_COLUMN + i, ROUTE_COLUMN + n, 1);

@@ -25,8 +25,8 @@ use memory::WORD_COLUMN;
 // A tree comes, with neither branch nor leaf nor label: the newest.
 pub fn enter_tree(numbers: &mut [u64], names: &mut [u8], name: &[u8])
     requires { ⌜ Numbers (now numbers) × Names (now names) × (treeCount (now numbers) < treeLimit) × (length (now name) ≤ nameLimit) ⌝ }
-    ensures { λ _. ⌜ cardOf (now (numbers .exit)) (now (names .exit))
-        ≡ withTrees (cardOf (now (numbers .entry)) (now (names .entry)) .trees ++ (bare (now (name .entry)) ∷ [])) (cardOf (now (numbers .entry)) (now (names .entry))) ⌝ }
+    ensures { λ _. ⌜ (let c = cardOf (now (numbers .entry)) (now (names .entry)) in cardOf (now (numbers .exit)) (now (names .exit))
+        ≡ withTrees (c .trees ++ (bare (now (name .entry)) ∷ [])) c) ⌝ }
 {
     let n = memory::tree_count(numbers);
     memory::clear(numbers, ROW_COLUMN + n * ROW_WIDTH, ROW_WIDTH);
@@ -65,8 +65,7 @@ fn lower_behind(numbers: &mut [u64], i: usize, n: usize)
 // A tree goes, and the gap is closed.
 pub fn remove_tree(numbers: &mut [u64], names: &mut [u8], i: usize)
     requires { ⌜ Numbers (now numbers) × Names (now names) × (i < treeCount (now numbers)) × (i < treeLimit) ⌝ }
-    ensures { λ _. ⌜ cardOf (now (numbers .exit)) (now (names .exit))
-        ≡ withTrees (cut (cardOf (now (numbers .entry)) (now (names .entry)) .trees) i) (cardOf (now (numbers .entry)) (now (names .entry))) ⌝ }
+    ensures { λ _. ⌜ (let c = cardOf (now (numbers .entry)) (now (names .entry)) in cardOf (now (numbers .exit)) (now (names .exit)) ≡ withTrees (cut (c .trees) i) c) ⌝ }
 {
     let n = memory::tree_count(numbers);
     lower_behind(numbers, i, n);

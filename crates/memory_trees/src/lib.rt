@@ -150,16 +150,16 @@ pub fn tree_place(numbers: &[u64], names: &[u8], name: &[u8]) -> usize
 
 pub fn set_branch(numbers: &mut [u64], i: usize, n: usize, label: u64)
     requires { ⌜ Numbers (now numbers) × (i < treeCount (now numbers)) × (i < treeLimit) × (n < 16) ⌝ }
-    ensures { λ _. ⌜ ((os : List ℕ) → cardOf (now (numbers .exit)) os
-        ≡ withTrees (set (cardOf (now (numbers .entry)) os .trees) i (withBranch n label (treeAt i (cardOf (now (numbers .entry)) os)))) (cardOf (now (numbers .entry)) os)) ⌝ }
+    ensures { λ _. ⌜ ((os : List ℕ) → (let c = cardOf (now (numbers .entry)) os in cardOf (now (numbers .exit)) os
+        ≡ withTrees (set (c .trees) i (withBranch n label (treeAt i c))) c)) ⌝ }
 {
     numbers[BRANCH_COLUMN + i * ROW_WIDTH + n] = label;
 }
 
 pub fn set_leaf(numbers: &mut [u64], i: usize, leaf: bool)
     requires { ⌜ Numbers (now numbers) × (i < treeCount (now numbers)) × (i < treeLimit) ⌝ }
-    ensures { λ _. ⌜ ((os : List ℕ) → cardOf (now (numbers .exit)) os
-        ≡ withTrees (set (cardOf (now (numbers .entry)) os .trees) i (withLeaf leaf (treeAt i (cardOf (now (numbers .entry)) os)))) (cardOf (now (numbers .entry)) os)) ⌝ }
+    ensures { λ _. ⌜ ((os : List ℕ) → (let c = cardOf (now (numbers .entry)) os in cardOf (now (numbers .exit)) os
+        ≡ withTrees (set (c .trees) i (withLeaf leaf (treeAt i c))) c)) ⌝ }
 {
     numbers[ROW_COLUMN + i * ROW_WIDTH] = if leaf { 1 } else { 0 };
 }
@@ -169,7 +169,7 @@ pub fn set_leaf(numbers: &mut [u64], i: usize, leaf: bool)
 // The neighbour for which the tree at place i holds its label; 17 for none.
 pub fn held_for(numbers: &[u64], i: usize) -> u64
     requires { ⌜ Numbers (now numbers) × (i < treeCount (now numbers)) × (i < treeLimit) ⌝ }
-    ensures { λ r. ⌜ ((os : List ℕ) → r ≡ heldFor (cardOf (now (numbers .entry)) os) (treeAt i (cardOf (now (numbers .entry)) os))) × (r ≤ 17) ⌝ }
+    ensures { λ r. ⌜ ((os : List ℕ) → (let c = cardOf (now (numbers .entry)) os in r ≡ heldFor c (treeAt i c))) × (r ≤ 17) ⌝ }
 {
     if own_counts(numbers, i) {
         memory_labels::mapped_at(numbers, numbers[OWN_COLUMN + i] as usize)
@@ -199,8 +199,8 @@ pub fn carrier_place(numbers: &[u64], label: u64) -> usize
 // The label that the tree carries awaits release from now on, and the tree carries none: a label that is not mapped has no carrier.
 pub fn end_label(numbers: &mut [u64], i: usize)
     requires { ⌜ Numbers (now numbers) × (i < treeCount (now numbers)) × (i < treeLimit) × ((os : List ℕ) → treeAt i (cardOf (now numbers) os) .label ≡ 0 → ⊥) ⌝ }
-    ensures { λ _. ⌜ ((os : List ℕ) → cardOf (now (numbers .exit)) os
-        ≡ setLabel i 0 (setUse (treeAt i (cardOf (now (numbers .entry)) os) .label) (ended (useOf (treeAt i (cardOf (now (numbers .entry)) os) .label) (cardOf (now (numbers .entry)) os))) (cardOf (now (numbers .entry)) os))) ⌝ }
+    ensures { λ _. ⌜ ((os : List ℕ) → (let c = cardOf (now (numbers .entry)) os in cardOf (now (numbers .exit)) os
+        ≡ setLabel i 0 (setUse (treeAt i c .label) (ended (useOf (treeAt i c .label) c)) c))) ⌝ }
 {
     let k = MARK_COLUMN + numbers[OWN_COLUMN + i] as usize;
     numbers[k] = numbers[k] % 256 + 16;

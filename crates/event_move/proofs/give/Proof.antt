@@ -18,20 +18,20 @@ add-label c = search needs
 tree-name-requires : tie.Need-tree-name-requires
 tree-name-requires c κs = search needs
 
+record-size-requires : tie.Need-record-size-requires
+record-size-requires c κs = search needs
+
 add-end : tie.Need-add-end
 add-end c = search needs
 
-add-end-2 : tie.Need-add-end-2
-add-end-2 c = search needs
-
 send-requires : tie.Need-send-requires
 send-requires c κs =
-    let s = c .before .before .before .before .before .before .before .before .before .before in
-    (omega (arith, ap length (c .before .tree-name .ensures .0 _ (s .pre .2)), s .pre .6), omega arith)
+    let s = c .before .before .before .before .before .before .before .before .before .before .before in
+    (omega (arith, ap length (c .before .before .tree-name .ensures .0 _ (s .pre .2)), s .pre .6), omega arith)
 
 map-label-requires : tie.Need-map-label-requires
 map-label-requires c κs =
-    let f = c .before .before .before .before .before .before .before .before .before .before in
+    let f = c .before .before .before .before .before .before .before .before .before .before .before in
     let s = f .before .before .before .before .before in
     let p = free-place _ (s .args .names .now) _ (f .lowest-free .ensures .0 _) (s .pre .5) in
     (s .pre .0, s .pre .1, p, s .pre .2, s .pre .3, s .pre .4, f .lowest-free .ensures .2 p)
@@ -48,11 +48,12 @@ same-length-3 c = search needs
 returns : tie.Need-returns
 returns c =
     let w = c .before .before .before .before .before .before .before .before .before in
-    let n = w .before .before in
+    let k = w .before .before in
+    let n = k .before in
     let b = n .before .before in
     let f = b .before .before in
     let s = f .before .before .before .before .before in
-    gave (s .args .i) (s .args .u) _ _ (s .args .id) (s .args .at) _ _ _ (s .args .names .now) _ _ _ _ (b .base .ensures .0) (s .pre .5) (f .lowest-free .ensures .0 _) (n .tree-name .ensures .0 _ (s .pre .2)) (w .send .ensures .0) (w .send .ensures .1) (c .before .before .before .before .map-label .ensures)
+    rw (k .record-size .ensures) (gave (s .args .i) (s .args .u) _ _ (s .args .id) (s .args .at) _ _ _ (s .args .names .now) _ _ _ _ (b .base .ensures .0) (s .pre .5) (f .lowest-free .ensures .0 _) (n .tree-name .ensures .0 _ (s .pre .2)) (w .send .ensures .0) (w .send .ensures .1) (c .before .before .before .before .map-label .ensures))
 
 pub give-spec : {M : Type 1} → statement M
 give-spec =
@@ -62,8 +63,8 @@ give-spec =
     base-requires
     add-label
     tree-name-requires
+    record-size-requires
     add-end
-    add-end-2
     send-requires
     map-label-requires
     same-length

@@ -15,20 +15,20 @@ tree-label-requires c κs = search needs
 tree-name-requires : tie.Need-tree-name-requires
 tree-name-requires c κs = search needs
 
+record-size-requires : tie.Need-record-size-requires
+record-size-requires c κs = search needs
+
 add-end : tie.Need-add-end
 add-end c = search needs
 
-add-end-2 : tie.Need-add-end-2
-add-end-2 c = search needs
-
 send-requires : tie.Need-send-requires
 send-requires c κs =
-    let s = c .before .before .before .before .before .before .before .before .before in
-    (omega (arith, ap length (c .before .tree-name .ensures .0 _ (s .pre .2)), s .pre .5), omega arith)
+    let s = c .before .before .before .before .before .before .before .before .before .before in
+    (omega (arith, ap length (c .before .before .tree-name .ensures .0 _ (s .pre .2)), s .pre .5), omega arith)
 
 end-label-requires : tie.Need-end-label-requires
 end-label-requires c κs =
-    let l = c .before .before .before .before .before .before in
+    let l = c .before .before .before .before .before .before .before in
     let s = l .before .before .before .before .before .before .before in
     (search needs, search needs, search needs, λ os z. s .pre .4 (sym (l .tree-label .ensures _) ∙ l .tree-label .ensures os ∙ z))
 
@@ -41,11 +41,12 @@ same-length-2 c = search needs
 returns : tie.Need-returns
 returns c =
     let w = c .before .before .before .before .before .before in
-    let n = w .before .before in
+    let k = w .before .before in
+    let n = k .before in
     let l = n .before in
     let h = l .before .before in
     let s = h .before .before .before .before .before in
-    gave-up (s .args .i) (s .args .id) (s .args .at) _ _ _ _ _ (s .args .names .now) _ _ _ (s .pre .2) (s .pre .4) (h .held-for .ensures .0 _) (l .tree-label .ensures _) (n .tree-name .ensures .0 _ (s .pre .2)) (w .send .ensures .0) (w .send .ensures .1) (c .before .before .end-label .ensures _)
+    rw (k .record-size .ensures) (gave-up (s .args .i) (s .args .id) (s .args .at) _ _ _ _ _ (s .args .names .now) _ _ _ (s .pre .2) (s .pre .4) (h .held-for .ensures .0 _) (l .tree-label .ensures _) (n .tree-name .ensures .0 _ (s .pre .2)) (w .send .ensures .0) (w .send .ensures .1) (c .before .before .end-label .ensures _))
 
 pub give-up-spec : {M : Type 1} → statement M
 give-up-spec =
@@ -54,8 +55,8 @@ give-up-spec =
     held-for-requires
     tree-label-requires
     tree-name-requires
+    record-size-requires
     add-end
-    add-end-2
     send-requires
     end-label-requires
     same-length
