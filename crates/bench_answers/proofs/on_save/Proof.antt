@@ -3,8 +3,6 @@ use native.Mathlib.Omega.{arith}
 use Rattle.bench_replies.proofs.Laws.{save-fits, part-fits, says-told}
 use Rattle.bench_replies.specs.Reply.{replyTo}
 use Rattle.meaning.specs.Save.{save, saveLimit}
-use mathlib.Core.Path.{refl}
-use mathlib.Core.List.{[]}
 use Rattle.bench_words.specs.Words.{ascii}
 use borrow.Author.Needs.{needs}
 use Rattle.bench_answers.proofs.on_save.Statement.{statement}
@@ -26,7 +24,11 @@ slice-aggregate-put-event : tie.Need-slice-aggregate-put-event
 slice-aggregate-put-event c = search needs
 
 put-event-requires : tie.Need-put-event-requires
-put-event-requires c κs = (omega arith, part-fits _ saveLimit (c .before .before .before .save .ensures .0) (save-fits _ _) (omega (arith, c .before .before .before .before .before .lent .ensures .1)), c .before .before .before .before .before .before .before .before .before .pre)
+put-event-requires c κs =
+    let call = c .before .before .before in
+    let lent = call .before .before in
+    let start = lent .before .before .before .before in
+    (omega arith, part-fits _ saveLimit (call .save .ensures .0) (save-fits _ _) (omega (arith, lent .lent .ensures .1)), start .pre)
 
 same-length : tie.Need-same-length
 same-length c = search needs
@@ -34,8 +36,11 @@ same-length c = search needs
 returns : tie.Need-returns
 unfolding replyTo ascii
 returns c =
-    let a = c .before .before .before .before .before .before .before .before .before .before .before .before .before .args in
-    λ number. says-told (λ l s. save l (cardOf (a .numbers .now) (a .names .now))) {s = []} _ _ (a .room) _ (omega (arith, c .before .before .before .before .before .before .before .before .before .lent .ensures .1)) refl (c .before .before .before .before .before .before .before .save .ensures .0) (c .before .before .before .put-event .ensures .1) (c .before .before .before .put-event .ensures .0)
+    let told = c .before .before .before in
+    let call = told .before .before .before .before in
+    let lent = call .before .before in
+    let start = lent .before .before .before .before in
+    λ number. says-told (λ l. save l (cardOf (start .args .numbers .now) (start .args .names .now))) _ _ _ _ (omega (arith, lent .lent .ensures .1)) (call .save .ensures .0) (told .put-event .ensures .1) (told .put-event .ensures .0)
 
 pub on-save-spec : {M : Type 1} → statement M
 on-save-spec =
