@@ -12,6 +12,7 @@ ghost use Rattle.meaning.specs.Calls.{over, Does, Hands};
 ghost use Rattle.memory.specs.Sizes.{Numbers};
 ghost use Rattle.memory.specs.Memory.{cardOf};
 use memory::NUMBER_COUNT;
+use wire_writer::Counter;
 
 // ---- the record
 
@@ -85,11 +86,12 @@ fn put_notice(out: &mut [u8], id: u32, neighbour: u32, number: u32, octets: &[u8
     put_status(&mut out[16..26], code, refused, kind);
 }
 
-// After 4294967295 comes 0.
+// The counter of all messages, after this one.
 fn next_of(id: u32) -> u32
     ensures { λ r. ⌜ r ≡ nextId id ⌝ }
 {
-    std::num::wrapping_add_u32(id, 1)
+    let c = wire_writer::stepped(Counter { next: id });
+    c.next
 }
 
 // ---- the call

@@ -16,10 +16,9 @@ use Rattle.meaning.specs.Card.{Tree, Use, free, mapped, awaiting, Card, fresh, 
 use Rattle.meaning.specs.Events.{setLabel}
 use Rattle.meaning.specs.Save.{nameIn, useRead, usesRead, isMappedFor, labelled, allLabelled, onceEach, sameName, tableIn, headSize, routeSize, treeSize, useSize}
 use Rattle.octets.specs.Part.{tab}
-use Rattle.memory.specs.Memory.{cardOf, baseIn, treeCount, isFreeAt, isMappedAt, labelIn, labelName}
+use Rattle.memory.specs.Memory.{cardOf, baseIn, treeCount, labelIn}
 use Rattle.memory.proofs.Memory.{base-range, trees-length, labels-length}
-use Rattle.memory.proofs.Marks.{never, mapped-use, label-free, label-mapped}
-use Rattle.memory.proofs.Labels.{awaited-is}
+use Rattle.memory.proofs.Marks.{never}
 use Rattle.memory.proofs.Trees.{label-at}
 use Rattle.save_rows.specs.Stages.{headRead, treesBegin, rowsRead}
 use Rattle.save_fields.proofs.Read.{four-drop}
@@ -93,17 +92,6 @@ module _ (c : Card) (o : List ℕ) (at : ℕ) where
 -- ---- the first label that is mapped for a name
 
 module _ (ns os a : List ℕ) where
-  pub mapped-not : (p : ℕ) → isMappedAt ns p ≡ false → isMappedFor a (labelIn ns os p) ≡ false
-  unfolding isMappedFor
-  mapped-not p m =
-      by-test (isFreeAt ns p)
-      (λ e. rw (label-free ns p os e) refl)
-      (λ e. rw (awaited-is ns p os e m) refl)
-
-  pub mapped-named : (p : ℕ) → isMappedAt ns p ≡ true → isMappedFor a (labelIn ns os p) ≡ same (labelName os p) a
-  unfolding isMappedFor
-  mapped-named p m = let u = mapped-use ns p m in rw (label-mapped ns p os (u .0) (u .1)) refl
-
   pub mapped-start : place (isMappedFor a) (cardOf ns os .labels) ≡ 0 + place (isMappedFor a) (drop 0 (tab labelCount (labelIn ns os)))
   unfolding cardOf
   mapped-start = omega arith

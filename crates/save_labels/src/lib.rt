@@ -1,13 +1,13 @@
 // A save's labels in use, and with them the label that each tree carries: out of its octets, into the memory that holds its trees.
 ghost use mathlib.Core.Path.{_≡_};
-ghost use mathlib.Core.Bool.{true, false};
+ghost use mathlib.Core.Bool.{true};
 ghost use Prim.Native.Nat.{_-_, _≤_, _<_};
 ghost use lib.ListN.{drop, set, getD};
 ghost use Rattle.meaning.specs.Octets.{place, fourAt};
 ghost use Rattle.meaning.specs.Card.{withTrees, withLabels, treeAt, labelCount, routeLimit, treeLimit};
 ghost use Rattle.meaning.specs.Save.{useRead, usesRead, isMappedFor, labelled, allLabelled, sameName, onceEach, tableIn};
 ghost use Rattle.memory.specs.Sizes.{Numbers, Names};
-ghost use Rattle.memory.specs.Memory.{cardOf, treeCount, isMappedAt, labelIn};
+ghost use Rattle.memory.specs.Memory.{cardOf, treeCount, isMappedAt};
 ghost use Rattle.save_rows.specs.Stages.{rowsRead};
 ghost use Rattle.save_labels.specs.Labels.{Unlabelled, Ready};
 use meaning::HEAD_SIZE;
@@ -57,16 +57,6 @@ fn read_uses(octets: &[u8], at: usize, n: usize, numbers: &mut [u64], names: &mu
 
 // ---- the label that each tree carries
 
-fn is_mapped_for(numbers: &[u64], names: &[u8], p: usize, name: &[u8]) -> bool
-    requires { ⌜ Numbers (now numbers) × Names (now names) × (p < labelCount) ⌝ }
-    ensures { λ r. ⌜ (r ≡ isMappedFor (now (name .entry)) (labelIn (now (numbers .entry)) (now (names .entry)) p)) × (r ≡ true → isMappedAt (now (numbers .entry)) p ≡ true) ⌝ }
-{
-    if memory_labels::mapped_at(numbers, p) == 17 {
-        return false;
-    }
-    octets::equal(memory_labels::label_name(names, p), name)
-}
-
 // The place of the first label that is mapped for a name; 256 where none is.
 fn mapped_place(numbers: &[u64], names: &[u8], name: &[u8]) -> usize
     requires { ⌜ Numbers (now numbers) × Names (now names) ⌝ }
@@ -74,7 +64,7 @@ fn mapped_place(numbers: &[u64], names: &[u8], name: &[u8]) -> usize
 {
     let mut p = 0;
     while p < LABEL_COUNT {
-        if is_mapped_for(numbers, names, p, name) {
+        if save_rules::is_mapped_for(numbers, names, p, name) {
             return p;
         }
         p += 1;

@@ -8,7 +8,7 @@ use Rattle.meaning.specs.Octets.{pick, two, four}
 use Rattle.meaning.specs.Wire.{rootLimit}
 use Rattle.meaning.specs.Card.{Route, Tree, Use, mapped, awaiting, freeLabels}
 use Rattle.meaning.specs.Save.{spaced, nameSaved, marked, headSaved, routeSaved, foursOf, treeSaved, useSaved, nameSize, routeSize, leafPlace, branchPlace, treeSize, useSize}
-use Rattle.meaning.specs.SaveFields.{name-length}
+use Rattle.meaning.specs.SaveFields.{name-length, fours-length}
 use Rattle.octets.specs.Part.{mid}
 use Rattle.octets.proofs.Tab.{tab-is}
 use Rattle.memory.specs.Memory.{cardOf, baseIn, routeCount, treeCount}
@@ -16,7 +16,6 @@ use Rattle.memory.proofs.Memory.{routes-length, trees-length}
 use Rattle.save_texts.proofs.Parts.{laid-part, laid-then, laid-all, two-parts}
 use Rattle.save_records.proofs.Rows.{joined, all-joined, Lot, Stand, rows-lent, rows-done}
 use Rattle.save_texts.proofs.Sizes.{space-length}
-use Rattle.save_records.proofs.Sizes.{fours-length}
 
 -- ---- records of two parts
 
@@ -40,7 +39,7 @@ pub tree-put : (t : Tree) (xs us vs ws ys a : List ℕ) (f : ℕ) → length xs 
 unfolding treeSaved marked
 tree-put t xs us vs ws ys a f l lb ea ef eu ev ew ey =
     let n : length (nameSaved (t .name)) ≡ nameSize = name-length (t .name) in
-    let b : length (foursOf (t .branches)) ≡ 64 = fours-length (t .branches) ∙ ap (λ (k : ℕ). k * 4) lb in
+    let b : length (foursOf (t .branches)) ≡ 64 = fours-length (t .branches) ∙ ap (λ (k : ℕ). 4 * k) lb in
     let mark : List ℕ = 0x4C ∷ 0x53 ∷ 3 ∷ [] in
     let flag : List ℕ = pick (t .leaf) 1 0 ∷ [] in
     rw (eu, ev, ew, ey, ea, ef)
@@ -71,7 +70,7 @@ module _ (bs xs : List ℕ) (l : length bs ≡ 16) (e : length xs ≡ 64) where
   fours-rows = ap foursOf (tab-is bs 16 (λ k. getD bs k 0) 0 l (λ k h. refl)) ∙ all-joined four foursOf refl (λ x xs. refl) 16 (λ k. getD bs k 0)
 
   pub sized : length (foursOf bs) ≡ 64
-  sized = fours-length bs ∙ ap (λ (k : ℕ). k * 4) l
+  sized = fours-length bs ∙ ap (λ (k : ℕ). 4 * k) l
 
   abbrev pub fours-lot : Lot
   fours-lot = record { row = fourRow bs; many = 16; from = 0; whole = foursOf bs; out = xs; all = fours-rows; fits = omega (arith, sized) }

@@ -1,5 +1,5 @@
 -- Octets laid one behind the other, row by row. Assumes nothing.
-use Prim.Native.Nat.{ℕ, zero, suc, _+_, _*_, _-_, _≤_, _<_}
+use Prim.Native.Nat.{ℕ, zero, suc, _+_, _-_, _≤_, _<_}
 use native.Mathlib.Nat.{not-suc-le-zero}
 use native.Mathlib.Numerals.{add-one}
 use native.Mathlib.Omega.{arith}
@@ -33,11 +33,6 @@ pub joined-ext : (n : ℕ) (f g : ℕ → List ℕ) → ((i : ℕ) → i < n →
 unfolding joined
 joined-ext zero f g h = refl
 joined-ext (suc n) f g h = ap₂ _++_ (joined-ext n f g (λ i k. h i (omega arith))) (h n (omega arith))
-
-pub joined-length : (n w : ℕ) (g : ℕ → List ℕ) → ((i : ℕ) → i < n → length (g i) ≡ w) → length (joined n g) ≡ n * w
-unfolding joined
-joined-length zero w g h = omega arith
-joined-length (suc n) w g h = length-append (joined n g) (g n) ∙ ap₂ _+_ (joined-length n w g (λ i k. h i (omega arith))) (h n (omega arith)) ∙ omega arith
 
 joined-within : (m n : ℕ) (g : ℕ → List ℕ) → m < n → length (joined m g) + length (g m) ≤ length (joined n g)
 unfolding joined

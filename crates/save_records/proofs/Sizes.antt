@@ -1,24 +1,18 @@
 -- The sizes of the records: each is the same for every card that a memory denotes. Assumes nothing.
-use Prim.Native.Nat.{ℕ, suc, _+_, _*_}
+use Prim.Native.Nat.{ℕ}
 use native.Mathlib.Omega.{arith}
 use mathlib.Core.Path.{_≡_, refl}
 use mathlib.Core.Bool.{true, false}
 use mathlib.Core.List.{List, [], _∷_, _++_}
-use lib.ListN.{length, length-append}
-use Rattle.meaning.specs.Octets.{two, four, count}
-use Rattle.meaning.specs.Lists.{by-test}
+use lib.ListN.{length}
+use Rattle.meaning.specs.Octets.{two, four}
 use Rattle.meaning.specs.Card.{Use, free, mapped, awaiting, Card, isFree}
-use Rattle.meaning.specs.Save.{nameSaved, marked, headSaved, foursOf, useSaved, usesSaved, headSize, useSize}
+use Rattle.meaning.specs.Save.{nameSaved, marked, headSaved, useSaved, headSize, useSize}
 use Rattle.meaning.specs.SaveFields.{name-length}
 
 pub head-length : (c : Card) → length (headSaved c) ≡ headSize
 unfolding headSaved marked four two
 head-length c = refl
-
-pub fours-length : (ns : List ℕ) → length (foursOf ns) ≡ length ns * 4
-unfolding foursOf four
-fours-length [] = refl
-fours-length (n ∷ ns) = omega (arith, fours-length ns)
 
 pub state-length : (l s n : ℕ) (a : List ℕ) → length (marked 4 (four l ++ (s ∷ n ∷ nameSaved a))) ≡ useSize
 unfolding marked four
@@ -35,11 +29,3 @@ unfolding useSaved isFree
 use-none l free e = refl
 use-none l (mapped n a) e = let z : _≡_ {A = ℕ} 0 1 = cc in absurd (omega arith)
 use-none l (awaiting n a) e = let z : _≡_ {A = ℕ} 0 1 = cc in absurd (omega arith)
-
-pub uses-length : (l : ℕ) (us : List Use) → length (usesSaved l us) + count isFree us * useSize ≡ length us * useSize
-unfolding usesSaved count
-uses-length l [] = refl
-uses-length l (u ∷ us) =
-    by-test (isFree u)
-    (λ e. rw (e, use-none l u e) (omega (arith, uses-length (suc l) us)))
-    (λ e. rw e (omega (arith, length-append (useSaved l u) (usesSaved (suc l) us), use-length l u e, uses-length (suc l) us)))

@@ -8,14 +8,14 @@ use lib.ListN.{length, getD}
 use lib.Dec.{eqb, leb, ltb}
 use borrow.Author.Tests.{lt-ltb, le-leb, eq-eqb, ne-eqb}
 use Rattle.meaning.specs.Octets.{same, all}
-use Rattle.meaning.specs.Lists.{getD-out, getD-same}
+use Rattle.meaning.specs.Lists.{by-test, getD-out, getD-same}
 use Rattle.meaning.specs.Card.{Tree, mapped, awaiting, Card, treeAt, treeOf, treePlace, bare, isFree, mappedTo, useOf, labelCount, routeLimit, treeLimit}
 use Rattle.meaning.specs.Events.{baseOutside}
 use Rattle.meaning.specs.Save.{isName, onceEach, isRoute, sameRoot, isTree, sameName, isUse, isCarried, allCarried, isMappedFor, carriesOwn, holdsRight, keepsRules}
-use Rattle.memory.specs.Memory.{baseIn, nextIn, treeCount, labelName, labelIn, cardOf, InBlock}
+use Rattle.memory.specs.Memory.{baseIn, nextIn, treeCount, isFreeAt, isMappedAt, labelName, labelIn, cardOf, InBlock}
 use Rattle.memory.proofs.Memory.{routeCount-le, treeCount-le, base-range, routes-length, trees-length, labels-length}
-use Rattle.memory.proofs.Marks.{by-use}
-use Rattle.memory.proofs.Labels.{use-at}
+use Rattle.memory.proofs.Marks.{by-use, mapped-use, label-free, label-mapped}
+use Rattle.memory.proofs.Labels.{use-at, awaited-is}
 
 -- ---- one label
 
@@ -62,17 +62,17 @@ module _ (ns os : List ℕ) (p : ℕ) where
         (λ n h k. let r : m ≡ n = rw k at e in absurd (omega arith))
         (λ n k. rw k refl)
 
-    pub mapped-for : (a x : List ℕ) → (m ≡ 17 → ⊥) → x ≡ labelName os p → isMappedFor a (labelIn ns os p) ≡ same x a
+  module _ (a : List ℕ) where
+    pub mapped-not : isMappedAt ns p ≡ false → isMappedFor a (labelIn ns os p) ≡ false
     unfolding isMappedFor
-    mapped-for a x ne k = rw (mapped-so ne, k) refl
+    mapped-not m =
+        by-test (isFreeAt ns p)
+        (λ e. rw (label-free ns p os e) refl)
+        (λ e. rw (awaited-is ns p os e m) refl)
 
-    pub mapped-none : (a : List ℕ) → m ≡ 17 → isMappedFor a (labelIn ns os p) ≡ false
-    unfolding isMappedFor mappedTo
-    mapped-none a q =
-        by-use ns p os
-        (λ k. rw k refl)
-        (λ n h k. let r : m ≡ n = rw k at e in absurd (omega arith))
-        (λ n k. rw k refl)
+    pub mapped-named : isMappedAt ns p ≡ true → isMappedFor a (labelIn ns os p) ≡ same (labelName os p) a
+    unfolding isMappedFor
+    mapped-named m = let u = mapped-use ns p m in rw (label-mapped ns p os (u .0) (u .1)) refl
 
 -- the tree of a label's name, which stands at place i or does not stand
 module _ (ns os : List ℕ) (a : List ℕ) (i n : ℕ) (e : i ≡ treePlace a (cardOf ns os)) (k : n ≡ treeCount ns) where

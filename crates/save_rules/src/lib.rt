@@ -2,14 +2,14 @@
 // Some rules any memory keeps, since it is read so: the base's range, the identifier's, the numbers of routes, trees and labels, sixteen
 // branches to a tree, and a neighbour's number with each label that is mapped. The code tests nothing for them; proofs/Laws.antt says why.
 ghost use mathlib.Core.Path.{_≡_};
-ghost use mathlib.Core.Bool.{false, _&&_};
+ghost use mathlib.Core.Bool.{true, false, _&&_};
 ghost use mathlib.Core.List.{List};
 ghost use Prim.Native.Nat.{ℕ, _+_, _<_};
 ghost use Rattle.meaning.specs.Octets.{all};
-ghost use Rattle.meaning.specs.Card.{treeAt, useOf, labelCount, treeLimit};
+ghost use Rattle.meaning.specs.Card.{treeAt, labelCount, treeLimit};
 ghost use Rattle.meaning.specs.Save.{isName, isUse, isCarried, allCarried, isMappedFor, carriesOwn, holdsRight, keepsRules};
 ghost use Rattle.memory.specs.Sizes.{Numbers, Names};
-ghost use Rattle.memory.specs.Memory.{cardOf, baseIn, isFreeAt, labelIn, labelName, treeCount};
+ghost use Rattle.memory.specs.Memory.{cardOf, baseIn, isFreeAt, isMappedAt, labelIn, labelName, treeCount};
 use meaning::LABEL_COUNT;
 
 // ---- labels
@@ -82,21 +82,18 @@ fn all_carried(numbers: &[u64], names: &[u8]) -> bool
     true
 }
 
-// Whether a label is mapped for that name.
-fn is_mapped_for(numbers: &[u64], names: &[u8], label: u64, name: &[u8]) -> bool
-    requires { ⌜ Numbers (now numbers) × Names (now names) ⌝ }
-    ensures { λ r. ⌜ r ≡ isMappedFor (now (name .entry)) (useOf label (cardOf (now (numbers .entry)) (now (names .entry)))) ⌝ }
+// Whether the label at place p is mapped for that name.
+pub fn is_mapped_for(numbers: &[u64], names: &[u8], p: usize, name: &[u8]) -> bool
+    requires { ⌜ Numbers (now numbers) × Names (now names) × (p < labelCount) ⌝ }
+    ensures { λ r. ⌜ (r ≡ isMappedFor (now (name .entry)) (labelIn (now (numbers .entry)) (now (names .entry)) p)) × (r ≡ true → isMappedAt (now (numbers .entry)) p ≡ true) ⌝ }
 {
-    let p = memory_labels::place_in_block(numbers, label);
-    if LABEL_COUNT <= p {
-        return false;
-    }
     if memory_labels::mapped_at(numbers, p) == 17 {
         return false;
     }
     octets::equal(memory_labels::label_name(names, p), name)
 }
 
+// Whether the label of the tree at place i, if it has one, is mapped for the tree's name.
 fn carries_own(numbers: &[u64], names: &[u8], i: usize) -> bool
     requires { ⌜ Numbers (now numbers) × Names (now names) × (i < treeCount (now numbers)) × (i < treeLimit) ⌝ }
     ensures { λ r. ⌜ r ≡ carriesOwn (cardOf (now (numbers .entry)) (now (names .entry))) (treeAt i (cardOf (now (numbers .entry)) (now (names .entry)))) ⌝ }
@@ -105,7 +102,11 @@ fn carries_own(numbers: &[u64], names: &[u8], i: usize) -> bool
     if label == 0 {
         return true;
     }
-    is_mapped_for(numbers, names, label, memory_trees::tree_name(names, i))
+    let p = memory_labels::place_in_block(numbers, label);
+    if LABEL_COUNT <= p {
+        return false;
+    }
+    is_mapped_for(numbers, names, p, memory_trees::tree_name(names, i))
 }
 
 fn own_labels(numbers: &[u64], names: &[u8]) -> bool

@@ -10,16 +10,17 @@ use Rattle.meaning.specs.Card.{Card, Use, isFree, treeAt, freeLabels, labelCoun
 use Rattle.meaning.specs.Save.{headSaved, routeSaved, treeSaved, useSaved, routesSaved, treesSaved, usesSaved, saved, save, headSize, routeSize, treeSize, useSize}
 use Rattle.meaning.specs.Events.{roomShort, refuse}
 use Rattle.meaning.specs.Calls.{over, Does}
-use Rattle.meaning.specs.SaveFields.{route-length, tree-length}
+use Rattle.meaning.specs.SaveFields.{tree-length}
+use Rattle.meaning.specs.SaveLaws.{length-is}
 use Rattle.octets.specs.Part.{mid, tab}
 use Rattle.octets.proofs.Parts.{mid-none}
 use Rattle.memory.specs.Memory.{cardOf, baseIn, routeCount, treeCount, routeIn, treeIn, labelIn}
-use Rattle.memory.proofs.Memory.{labels-length, tree-at}
+use Rattle.memory.proofs.Memory.{routes-length, trees-length, labels-length, tree-at}
 use Rattle.memory.proofs.Trees.{branches-length}
 use Rattle.save_texts.specs.Laid.{laid}
 use Rattle.save_texts.proofs.Parts.{laid-part, laid-then}
-use Rattle.save_records.proofs.Rows.{joined, joined-first, joined-ext, joined-length, all-joined, Lot}
-use Rattle.save_records.proofs.Sizes.{head-length, use-length, use-none, uses-length}
+use Rattle.save_records.proofs.Rows.{joined, joined-first, joined-ext, all-joined, Lot}
+use Rattle.save_records.proofs.Sizes.{head-length, use-length, use-none}
 
 -- ---- rows
 
@@ -78,20 +79,13 @@ module _ (l : ℕ) (u : Use) (at : ℕ) (xs : List ℕ) where
 
 -- ---- sizes
 
-pub routes-size : (ns os : List ℕ) → length (routesSaved (cardOf ns os .routes)) ≡ routeCount ns * routeSize
-routes-size ns os = ap length (routes-rows ns os) ∙ joined-length (routeCount ns) routeSize (routeRow ns os) (λ i h. route-length (routeIn ns os i))
-
 pub tree-size : (ns os : List ℕ) (i : ℕ) → i < treeCount ns → length (treeRow ns os i) ≡ treeSize
 tree-size ns os i h = rw (sym (tree-at ns os i h)) (tree-length (treeAt i (cardOf ns os)) (branches-length ns os i h))
 
-pub trees-size : (ns os : List ℕ) → length (treesSaved (cardOf ns os .trees)) ≡ treeCount ns * treeSize
-trees-size ns os = ap length (trees-rows ns os) ∙ joined-length (treeCount ns) treeSize (treeRow ns os) (tree-size ns os)
-
 pub saved-size : (ns os : List ℕ) → length (saved (cardOf ns os)) ≡ headSize + routeCount ns * routeSize + treeCount ns * treeSize + (labelCount - freeLabels (cardOf ns os)) * useSize
-unfolding saved freeLabels
 saved-size ns os =
-    simp length-append
-    (omega (arith, head-length (cardOf ns os), routes-size ns os, trees-size ns os, uses-length (cardOf ns os .base) (cardOf ns os .labels), labels-length ns os))
+    let l = length-is (cardOf ns os) (labels-length ns os) (λ i h. branches-length ns os i (rw trees-length at h)) in
+    omega (arith, routes-length ns os, trees-length ns os)
 
 -- ---- the whole save: the head, and three lots of rows
 
