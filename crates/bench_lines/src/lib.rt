@@ -15,14 +15,14 @@ pub const TEXT_SPACE: usize = SAVE_DIGITS + 418;
 
 // ---- parts of a line
 
-fn put(text: &mut [u8], at: usize, part: &[u8]) -> usize
+fn add(text: &mut [u8], at: usize, part: &[u8]) -> usize
     requires { ⌜ at + length (now part) ≤ length (now text) ⌝ }
     ensures { λ r. ⌜ Adds (now (part .entry)) (now (text .entry)) (now (text .exit)) at r ⌝ }
 {
     at + bench_words::put_text(&mut text[at..], part)
 }
 
-fn put_number(text: &mut [u8], at: usize, n: u64) -> usize
+fn add_number(text: &mut [u8], at: usize, n: u64) -> usize
     requires { ⌜ at + 20 ≤ length (now text) ⌝ }
     ensures { λ r. ⌜ Adds (numeral n) (now (text .entry)) (now (text .exit)) at r ⌝ }
     ensures { λ r. ⌜ r ≤ at + 20 ⌝ }
@@ -30,7 +30,7 @@ fn put_number(text: &mut [u8], at: usize, n: u64) -> usize
     at + bench_words::put_number(&mut text[at..], n)
 }
 
-fn put_hex(text: &mut [u8], at: usize, octets: &[u8]) -> usize
+fn add_hex(text: &mut [u8], at: usize, octets: &[u8]) -> usize
     requires { ⌜ at + length (now octets) * 2 ≤ length (now text) ⌝ }
     ensures { λ r. ⌜ Adds (hexOf (now (octets .entry))) (now (text .entry)) (now (text .exit)) at r ⌝ }
     ensures { λ r. ⌜ r ≡ at + length (now (octets .entry)) * 2 ⌝ }
@@ -38,7 +38,7 @@ fn put_hex(text: &mut [u8], at: usize, octets: &[u8]) -> usize
     at + bench_words::put_hex(&mut text[at..], octets)
 }
 
-fn put_records(text: &mut [u8], at: usize, records: &[u8]) -> usize
+fn add_records(text: &mut [u8], at: usize, records: &[u8]) -> usize
     requires { ⌜ at + 1 + length (now records) * 2 ≤ length (now text) ⌝ }
     ensures { λ r. ⌜ Adds (recordsText (now (records .entry))) (now (text .entry)) (now (text .exit)) at r ⌝ }
     ensures { λ r. ⌜ r ≤ at + 1 + length (now (records .entry)) * 2 ⌝ }
@@ -46,12 +46,12 @@ fn put_records(text: &mut [u8], at: usize, records: &[u8]) -> usize
     if records.len() == 0 {
         return at;
     }
-    let at = put(text, at, b" ");
-    put_hex(text, at, records)
+    let at = add(text, at, b" ");
+    add_hex(text, at, records)
 }
 
 // ` NEIGHBOUR:LABEL`, or nothing where there is no label.
-fn put_branch(text: &mut [u8], at: usize, neighbour: usize, label: u64) -> usize
+fn add_branch(text: &mut [u8], at: usize, neighbour: usize, label: u64) -> usize
     requires { ⌜ at + 42 ≤ length (now text) ⌝ }
     ensures { λ r. ⌜ Adds (branchesText (branchesFrom neighbour (label ∷ []))) (now (text .entry)) (now (text .exit)) at r ⌝ }
     ensures { λ r. ⌜ r ≤ at + 42 ⌝ }
@@ -59,13 +59,13 @@ fn put_branch(text: &mut [u8], at: usize, neighbour: usize, label: u64) -> usize
     if label == 0 {
         return at;
     }
-    let at = put(text, at, b" ");
-    let at = put_number(text, at, neighbour as u64);
-    let at = put(text, at, b":");
-    put_number(text, at, label)
+    let at = add(text, at, b" ");
+    let at = add_number(text, at, neighbour as u64);
+    let at = add(text, at, b":");
+    add_number(text, at, label)
 }
 
-fn put_branches(text: &mut [u8], from: usize, branches: &[u64]) -> usize
+fn add_branches(text: &mut [u8], from: usize, branches: &[u64]) -> usize
     requires { ⌜ (length (now branches) ≤ 16) × (from + 672 ≤ length (now text)) ⌝ }
     ensures { λ r. ⌜ Adds (branchesText (branchesFrom 0 (now (branches .entry)))) (now (text .entry)) (now (text .exit)) from r ⌝ }
     ensures { λ r. ⌜ r ≤ from + 672 ⌝ }
@@ -73,27 +73,27 @@ fn put_branches(text: &mut [u8], from: usize, branches: &[u64]) -> usize
     let mut at = from;
     let mut i = 0;
     while i < branches.len() {
-        at = put_branch(text, at, i, branches[i]);
+        at = add_branch(text, at, i, branches[i]);
         i += 1;
     }
     at
 }
 
-fn put_sixteen(text: &mut [u8], at: usize, branches: &[u64; 16]) -> usize
+fn add_sixteen(text: &mut [u8], at: usize, branches: &[u64; 16]) -> usize
     requires { ⌜ at + 672 ≤ length (now text) ⌝ }
     ensures { λ r. ⌜ Adds (branchesText (branchesFrom 0 (now (branches .entry)))) (now (text .entry)) (now (text .exit)) at r ⌝ }
     ensures { λ r. ⌜ r ≤ at + 672 ⌝ }
 {
-    put_branches(text, at, branches)
+    add_branches(text, at, branches)
 }
 
-fn put_leaf(text: &mut [u8], at: usize, leaf: bool) -> usize
+fn add_leaf(text: &mut [u8], at: usize, leaf: bool) -> usize
     requires { ⌜ at + 5 ≤ length (now text) ⌝ }
     ensures { λ r. ⌜ Adds (leafText leaf) (now (text .entry)) (now (text .exit)) at r ⌝ }
     ensures { λ r. ⌜ r ≤ at + 5 ⌝ }
 {
     if leaf {
-        return put(text, at, b" leaf");
+        return add(text, at, b" leaf");
     }
     at
 }
@@ -106,10 +106,10 @@ pub fn put_count(text: &mut [u8], word: &[u8], n: u64) -> usize
     ensures { λ r. ⌜ take r (now (text .exit)) ≡ countLine (now (word .entry)) n ⌝ }
     ensures { λ r. ⌜ r ≤ length (now (word .entry)) + 22 ⌝ }
 {
-    let at = put(text, 0, word);
-    let at = put(text, at, b" ");
-    let at = put_number(text, at, n);
-    put(text, at, b"\n")
+    let at = add(text, 0, word);
+    let at = add(text, at, b" ");
+    let at = add_number(text, at, n);
+    add(text, at, b"\n")
 }
 
 // `WORD ANSWER`, and the records' octets where there are any. A save is the longest that is written so.
@@ -118,11 +118,11 @@ pub fn put_event(text: &mut [u8], word: &[u8], answer: u32, records: &[u8]) -> u
     ensures { λ r. ⌜ take r (now (text .exit)) ≡ eventLine (now (word .entry)) answer (now (records .entry)) ⌝ }
     ensures { λ r. ⌜ r ≤ textSpace ⌝ }
 {
-    let at = put(text, 0, word);
-    let at = put(text, at, b" ");
-    let at = put_number(text, at, answer as u64);
-    let at = put_records(text, at, records);
-    put(text, at, b"\n")
+    let at = add(text, 0, word);
+    let at = add(text, at, b" ");
+    let at = add_number(text, at, answer as u64);
+    let at = add_records(text, at, records);
+    add(text, at, b"\n")
 }
 
 // `WORD`, the leaf mark and the branches, or that there is nothing.
@@ -131,12 +131,12 @@ pub fn put_feed(text: &mut [u8], word: &[u8], leaf: bool, branches: &[u64; 16]) 
     ensures { λ r. ⌜ take r (now (text .exit)) ≡ feedLine (now (word .entry)) (feedIn (now (branches .entry)) leaf) ⌝ }
     ensures { λ r. ⌜ r ≤ textSpace ⌝ }
 {
-    let start = put(text, 0, word);
-    let at = put_leaf(text, start, leaf);
-    let at = put_sixteen(text, at, branches);
+    let start = add(text, 0, word);
+    let at = add_leaf(text, start, leaf);
+    let at = add_sixteen(text, at, branches);
     if at == start {
-        let at = put(text, at, b" nothing");
-        return put(text, at, b"\n");
+        let at = add(text, at, b" nothing");
+        return add(text, at, b"\n");
     }
-    put(text, at, b"\n")
+    add(text, at, b"\n")
 }

@@ -73,7 +73,7 @@ fn is_next(id: u32, next: u32) -> bool {
 }
 
 // Whether the record has its mark, neighbour and identifier, and ends where its length field says.
-fn is_framed(record: &[u8], sent: Sent) -> bool {
+fn is_whole(record: &[u8], sent: Sent) -> bool {
     if octets::two_at(record, 0) != 0x4c44 {
         return false;
     }
@@ -125,7 +125,7 @@ fn is_right(out: &[u8], sent: Sent, name: &[u8]) -> bool
     let end = 24 + name.len();
     let less = end - 1;
     let more = end + 1;
-    if !is_framed(&out[0..end], sent) {
+    if !is_whole(&out[0..end], sent) {
         return false;
     }
     if !is_said(&out[4..end], sent, name) {

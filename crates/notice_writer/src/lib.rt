@@ -29,7 +29,7 @@ fn is_due(number: u32, octets: &[u8]) -> bool
 }
 
 // The mark, the neighbour, the message's type, length and identifier, and the head of the Status TLV.
-fn put_head(out: &mut [u8], neighbour: u32, id: u32)
+fn put_notice_head(out: &mut [u8], neighbour: u32, id: u32)
     requires { ⌜ length (now out) ≡ 16 ⌝ }
     ensures { λ _. ⌜ now (out .exit) ≡ 0x4C ∷ 0x44 ∷ (two neighbour ++ (two 0x0001 ++ (two 18 ++ (four id ++ (two 0x0300 ++ two 10))))) ⌝ }
 {
@@ -82,7 +82,7 @@ fn put_notice(out: &mut [u8], id: u32, neighbour: u32, number: u32, octets: &[u8
     let code = notice_status::status_code(notice_status::status_of(number));
     let refused = notice_status::copied_id(octets);
     let kind = notice_status::copied_type(octets);
-    put_head(&mut out[0..16], neighbour, id);
+    put_notice_head(&mut out[0..16], neighbour, id);
     put_status(&mut out[16..26], code, refused, kind);
 }
 

@@ -39,7 +39,7 @@ fn family(k: usize) -> u8
 }
 
 // What stands before the root in a name: the element's type, the family by the root's length, and that length.
-fn put_head(out: &mut [u8], k: usize)
+fn put_element_head(out: &mut [u8], k: usize)
     requires { ⌜ (length (now out) ≡ 4) × (k ≤ 16) ⌝ }
     ensures { λ _. ⌜ now (out .exit) ≡ 6 ∷ (two (pick (eqb k 4) 1 2) ++ (k ∷ [])) ⌝ }
 {
@@ -56,7 +56,7 @@ fn put_two(out: &mut [u8], n: usize)
 }
 
 // The name whose root and opaque value stand at a place, at the front of a buffer; its length.
-pub fn put_name(octets: &[u8], at: usize, out: &mut [u8]) -> usize
+pub fn read_name(octets: &[u8], at: usize, out: &mut [u8]) -> usize
     requires { ⌜ (length (now out) ≡ nameLimit) × (at < 1073741824) ⌝ }
     ensures { λ r. ⌜ (take r (now (out .exit)) ≡ nameIn (drop at (now (octets .entry)))) × (r ≤ nameLimit) ⌝ }
 {
@@ -65,7 +65,7 @@ pub fn put_name(octets: &[u8], at: usize, out: &mut [u8]) -> usize
     let a = 4 + root.len();
     let b = a + 2;
     let e = b + opaque.len();
-    put_head(&mut out[0..4], root.len());
+    put_element_head(&mut out[0..4], root.len());
     octets::copy(&mut out[4..a], root);
     put_two(&mut out[a..b], opaque.len());
     octets::copy(&mut out[b..e], opaque);

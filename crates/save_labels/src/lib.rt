@@ -37,7 +37,7 @@ fn read_use(octets: &[u8], at: usize, numbers: &mut [u64], names: &mut [u8])
         return;
     }
     let mut name = [0u8; NAME_LIMIT];
-    let n = save_fields::put_name(octets, at + 9, &mut name);
+    let n = save_fields::read_name(octets, at + 9, &mut name);
     let held = octets::at(octets, at + 7) == 1;
     let neighbour = octets::at(octets, at + 8) % 16;
     memory_marks::enter_use(numbers, names, p as usize, held, neighbour, &name[0..n]);

@@ -19,7 +19,7 @@ use meaning::USE_SIZE;
 
 // ---- the head
 
-pub fn put_head(numbers: &[u64], out: &mut [u8])
+pub fn put_save_head(numbers: &[u64], out: &mut [u8])
     requires { ⌜ Numbers (now numbers) × (length (now out) ≡ headSize) ⌝ }
     ensures { λ _. ⌜ ((os : List ℕ) → now (out .exit) ≡ headSaved (cardOf (now (numbers .entry)) os)) ⌝ }
 {
@@ -48,7 +48,7 @@ pub fn put_head(numbers: &[u64], out: &mut [u8])
 
 // ---- a route
 
-pub fn put_route(numbers: &[u64], names: &[u8], i: usize, out: &mut [u8])
+pub fn put_route_record(numbers: &[u64], names: &[u8], i: usize, out: &mut [u8])
     requires { ⌜ Numbers (now numbers) × Names (now names) × (i < routeLimit) × (length (now out) ≡ routeSize) ⌝ }
     ensures { λ _. ⌜ now (out .exit) ≡ routeSaved (routeIn (now (numbers .entry)) (now (names .entry)) i) ⌝ }
 {
@@ -83,7 +83,7 @@ fn put_four(out: &mut [u8], n: u64)
 }
 
 // The sixteen branch labels of the tree at place i.
-fn put_branches(numbers: &[u64], i: usize, out: &mut [u8])
+fn put_fours(numbers: &[u64], i: usize, out: &mut [u8])
     requires { ⌜ Numbers (now numbers) × (i < treeCount (now numbers)) × (i < treeLimit) × (length (now out) ≡ 4 * neighbourCount) ⌝ }
     ensures { λ _. ⌜ ((os : List ℕ) → now (out .exit) ≡ foursOf (treeAt i (cardOf (now (numbers .entry)) os) .branches)) ⌝ }
 {
@@ -107,7 +107,7 @@ fn leaf_octet(numbers: &[u64], i: usize) -> u8
     }
 }
 
-pub fn put_tree(numbers: &[u64], names: &[u8], i: usize, out: &mut [u8])
+pub fn put_tree_record(numbers: &[u64], names: &[u8], i: usize, out: &mut [u8])
     requires { ⌜ Numbers (now numbers) × Names (now names) × (i < treeCount (now numbers)) × (i < treeLimit) × (length (now out) ≡ treeSize) ⌝ }
     ensures { λ _. ⌜ now (out .exit) ≡ treeSaved (treeAt i (cardOf (now (numbers .entry)) (now (names .entry)))) ⌝ }
 {
@@ -116,7 +116,7 @@ pub fn put_tree(numbers: &[u64], names: &[u8], i: usize, out: &mut [u8])
     save_texts::put_name(&mut out[3..LEAF_PLACE], memory_trees::tree_name(names, i));
     let leaf = [leaf_octet(numbers, i)];
     octets::copy(&mut out[LEAF_PLACE..BRANCH_PLACE], &leaf);
-    put_branches(numbers, i, &mut out[BRANCH_PLACE..TREE_SIZE]);
+    put_fours(numbers, i, &mut out[BRANCH_PLACE..TREE_SIZE]);
 }
 
 // ---- a label in use
@@ -142,7 +142,7 @@ fn put_state(out: &mut [u8], label: u64, state: u8, neighbour: u64, name: &[u8])
 }
 
 // The label at place p of the block, which is not free.
-pub fn put_use(numbers: &[u64], names: &[u8], p: usize, out: &mut [u8])
+pub fn put_use_record(numbers: &[u64], names: &[u8], p: usize, out: &mut [u8])
     requires { ⌜ Numbers (now numbers) × Names (now names) × (p < labelCount) × (isFreeAt (now numbers) p ≡ false) × (length (now out) ≡ useSize) ⌝ }
     ensures { λ _. ⌜ now (out .exit) ≡ useSaved (baseIn (now (numbers .entry)) + p) (labelIn (now (numbers .entry)) (now (names .entry)) p) ⌝ }
 {

@@ -60,7 +60,7 @@ fn enter_name(octets: &[u8], at: usize, numbers: &mut [u64], names: &mut [u8])
         ≡ withTrees (cardOf (now (numbers .entry)) (now (names .entry)) .trees ++ (bare (nameIn (drop at (now (octets .entry)))) ∷ [])) (cardOf (now (numbers .entry)) (now (names .entry))) ⌝ }
 {
     let mut name = [0u8; NAME_LIMIT];
-    let n = save_fields::put_name(octets, at, &mut name);
+    let n = save_fields::read_name(octets, at, &mut name);
     memory_rows::enter_tree(numbers, names, &name[0..n]);
 }
 

@@ -33,7 +33,7 @@ fn put_routes(numbers: &[u64], names: &[u8], out: &mut [u8], from: usize) -> usi
     let mut i = 0;
     while i < n {
         let e = at + ROUTE_SIZE;
-        save_records::put_route(numbers, names, i, &mut out[at..e]);
+        save_records::put_route_record(numbers, names, i, &mut out[at..e]);
         at = e;
         i += 1;
     }
@@ -52,7 +52,7 @@ fn put_trees(numbers: &[u64], names: &[u8], out: &mut [u8], from: usize) -> usiz
     let mut i = 0;
     while i < n {
         let e = at + TREE_SIZE;
-        save_records::put_tree(numbers, names, i, &mut out[at..e]);
+        save_records::put_tree_record(numbers, names, i, &mut out[at..e]);
         at = e;
         i += 1;
     }
@@ -70,7 +70,7 @@ fn put_label(numbers: &[u64], names: &[u8], p: usize, out: &mut [u8], at: usize)
         return at;
     }
     let e = at + USE_SIZE;
-    save_records::put_use(numbers, names, p, &mut out[at..e]);
+    save_records::put_use_record(numbers, names, p, &mut out[at..e]);
     e
 }
 
@@ -109,7 +109,7 @@ pub fn write_save(numbers: &[u64], names: &[u8], out: &mut [u8]) -> usize
     ensures { λ r. ⌜ (now (out .exit) ≡ over (saved (cardOf (now (numbers .entry)) (now (names .entry)))) (now (out .entry)))
         × (r ≡ length (saved (cardOf (now (numbers .entry)) (now (names .entry))))) ⌝ }
 {
-    save_records::put_head(numbers, &mut out[0..HEAD_SIZE]);
+    save_records::put_save_head(numbers, &mut out[0..HEAD_SIZE]);
     let a = put_routes(numbers, names, out, HEAD_SIZE);
     let b = put_trees(numbers, names, out, a);
     put_labels(numbers, names, out, b)

@@ -45,7 +45,7 @@ pub fn record_size(name: &[u8]) -> usize
 }
 
 // What stands before the name: the mark, the neighbour, the message's type, length and identifier, and the head of the FEC TLV.
-fn put_head(out: &mut [u8], to: u64, kind: u64, id: u32, size: u64)
+fn put_record_head(out: &mut [u8], to: u64, kind: u64, id: u32, size: u64)
     requires { ⌜ (length (now out) ≡ 16) × (size ≤ 65535) ⌝ }
     ensures { λ _. ⌜ now (out .exit) ≡ 0x4C ∷ 0x44 ∷ (two to ++ (two kind ++ (two (16 + size) ++ (four id ++ (two 0x0100 ++ two size))))) ⌝ }
 {
@@ -72,7 +72,7 @@ fn put_head(out: &mut [u8], to: u64, kind: u64, id: u32, size: u64)
 }
 
 // The Label TLV.
-fn put_label(out: &mut [u8], label: u64)
+fn put_label_tlv(out: &mut [u8], label: u64)
     requires { ⌜ length (now out) ≡ 8 ⌝ }
     ensures { λ _. ⌜ now (out .exit) ≡ two 0x0200 ++ (two 4 ++ four label) ⌝ }
 {
@@ -95,11 +95,11 @@ pub fn put_record(out: &mut [u8], at: usize, to: u64, kind: u64, label: u64, nam
     ensures { λ _. ⌜ now (out .exit) ≡ mid at (24 + length (now (name .entry))) (now (out .entry)) (recordOf id (tell to kind (now (name .entry)) label)) ⌝ }
 {
     let a = at + 16;
-    put_head(&mut out[at..a], to, kind, id, name.len() as u64);
+    put_record_head(&mut out[at..a], to, kind, id, name.len() as u64);
     let b = a + name.len();
     octets::copy(&mut out[a..b], name);
     let e = b + 8;
-    put_label(&mut out[b..e], label);
+    put_label_tlv(&mut out[b..e], label);
 }
 
 // The message writer: it is lent the counter and the output, and advances the counter in place.

@@ -16,17 +16,17 @@ copied-id-requires c κs = search needs
 copied-type-requires : tie.Need-copied-type-requires
 copied-type-requires c κs = search needs
 
-sub-put-head : tie.Need-sub-put-head
-sub-put-head c = search needs
+sub-put-notice-head : tie.Need-sub-put-notice-head
+sub-put-notice-head c = search needs
 
-part-put-head-start : tie.Need-part-put-head-start
-part-put-head-start c = search needs
+part-put-notice-head-start : tie.Need-part-put-notice-head-start
+part-put-notice-head-start c = search needs
 
-part-put-head-end : tie.Need-part-put-head-end
-part-put-head-end c = search needs
+part-put-notice-head-end : tie.Need-part-put-notice-head-end
+part-put-notice-head-end c = search needs
 
-put-head-requires : tie.Need-put-head-requires
-put-head-requires c κs = search needs
+put-notice-head-requires : tie.Need-put-notice-head-requires
+put-notice-head-requires c κs = search needs
 
 sub-put-status : tie.Need-sub-put-status
 sub-put-status c = search needs
@@ -50,9 +50,9 @@ returns c =
     let the-status-code = c .before .before .before .before .before .before .before .before .before .before .status-code in
     let the-copied-id = c .before .before .before .before .before .before .before .before .before .copied-id in
     let the-copied-type = c .before .before .before .before .before .before .before .before .copied-type in
-    let the-put-head = c .before .before .before .before .before .before .put-head in
+    let the-put-notice-head = c .before .before .before .before .before .before .put-notice-head in
     let the-put-status = c .before .before .put-status in
-    put-two (start .args .id) (start .args .neighbour) (start .args .number) _ _ _ _ (start .args .octets .now) (start .args .out .now) _ _ (start .pre) (the-status-of .ensures .0) (the-status-code .ensures) (the-copied-id .ensures) (the-copied-type .ensures .0) (the-put-head .ensures) (the-put-status .ensures)
+    put-two (start .args .id) (start .args .neighbour) (start .args .number) _ _ _ _ (start .args .octets .now) (start .args .out .now) _ _ (start .pre) (the-status-of .ensures .0) (the-status-code .ensures) (the-copied-id .ensures) (the-copied-type .ensures .0) (the-put-notice-head .ensures) (the-put-status .ensures)
 
 pub put-notice-spec : {M : Type 1} → statement M
 put-notice-spec =
@@ -62,10 +62,10 @@ put-notice-spec =
     status-code-requires
     copied-id-requires
     copied-type-requires
-    sub-put-head
-    part-put-head-start
-    part-put-head-end
-    put-head-requires
+    sub-put-notice-head
+    part-put-notice-head-start
+    part-put-notice-head-end
+    put-notice-head-requires
     sub-put-status
     part-put-status-start
     part-put-status-end

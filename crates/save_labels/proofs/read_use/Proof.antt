@@ -27,14 +27,14 @@ returns c =
     let s = c .before .before .before .before .before .before .before .before in
     use-out (s .args .numbers .now) (s .args .names .now) (s .args .octets .now) (s .args .at) _ _ _ (c .before .place-of .ensures) (c .before .before .before .before .four-at .ensures .0) (c .before .before .base .ensures .0) _ (c .if1 .taken)
 
-add-put-name : tie.Need-add-put-name
-add-put-name c = search needs
+add-read-name : tie.Need-add-read-name
+add-read-name c = search needs
 
-slice-aggregate-put-name : tie.Need-slice-aggregate-put-name
-slice-aggregate-put-name c = search needs
+slice-aggregate-read-name : tie.Need-slice-aggregate-read-name
+slice-aggregate-read-name c = search needs
 
-put-name-requires : tie.Need-put-name-requires
-put-name-requires c κs = search needs
+read-name-requires : tie.Need-read-name-requires
+read-name-requires c κs = search needs
 
 add-at : tie.Need-add-at
 add-at c = search needs
@@ -60,7 +60,7 @@ part-enter-use-end c = search needs
 enter-use-requires : tie.Need-enter-use-requires
 enter-use-requires c κs =
     let s = c .before .before .before .before .before .before .before .before .before .before .before .before .before .before .before .before .before in
-    (s .pre .0, s .pre .1, omega arith, omega arith, omega (arith, c .before .before .before .before .before .before .before .put-name .ensures .1), none-carries _ _ _ (s .pre .3))
+    (s .pre .0, s .pre .1, omega arith, omega arith, omega (arith, c .before .before .before .before .before .before .before .read-name .ensures .1), none-carries _ _ _ (s .pre .3))
 
 same-length-2 : tie.Need-same-length-2
 same-length-2 c = search needs
@@ -71,8 +71,8 @@ same-length-3 c = search needs
 returns-2 : tie.Need-returns-2
 returns-2 c =
     let s = c .before .before .before .before .before .before .before .before .before .before .before .before .before .before .before .before .before .before .before .before .before .before in
-    let z : c .before .before .before .before .before .before .before .before .before .before .before .before .put-name .result - 0 ≡ c .before .before .before .before .before .before .before .before .before .before .before .before .put-name .result = omega arith in
-    use-put (s .args .numbers .now) (s .args .names .now) (s .args .octets .now) (s .args .at) _ _ _ (c .before .before .before .before .before .before .before .before .before .before .before .before .before .before .before .place-of .ensures) (c .before .before .before .before .before .before .before .before .before .before .before .before .before .before .before .before .before .before .four-at .ensures .0) (c .before .before .before .before .before .before .before .before .before .before .before .before .before .before .before .before .base .ensures .0) _ _ _ _ (c .before .before .before .before .enter-use .ensures) (ap (λ x. eqb x 1) (c .before .before .before .before .before .before .before .before .before .before .at .ensures .0)) (ap (λ x. x % 16) (c .before .before .before .before .before .before .before .before .before .at2 .ensures .0)) (rw z (c .before .before .before .before .before .before .before .before .before .before .before .before .put-name .ensures .0))
+    let z : c .before .before .before .before .before .before .before .before .before .before .before .before .read-name .result - 0 ≡ c .before .before .before .before .before .before .before .before .before .before .before .before .read-name .result = omega arith in
+    use-put (s .args .numbers .now) (s .args .names .now) (s .args .octets .now) (s .args .at) _ _ _ (c .before .before .before .before .before .before .before .before .before .before .before .before .before .before .before .place-of .ensures) (c .before .before .before .before .before .before .before .before .before .before .before .before .before .before .before .before .before .before .four-at .ensures .0) (c .before .before .before .before .before .before .before .before .before .before .before .before .before .before .before .before .base .ensures .0) _ _ _ _ (c .before .before .before .before .enter-use .ensures) (ap (λ x. eqb x 1) (c .before .before .before .before .before .before .before .before .before .before .at .ensures .0)) (ap (λ x. x % 16) (c .before .before .before .before .before .before .before .before .before .at2 .ensures .0)) (rw z (c .before .before .before .before .before .before .before .before .before .before .before .before .read-name .ensures .0))
 
 pub read-use-spec : {M : Type 1} → statement M
 read-use-spec =
@@ -84,9 +84,9 @@ read-use-spec =
     place-of-requires
     same-length
     returns
-    add-put-name
-    slice-aggregate-put-name
-    put-name-requires
+    add-read-name
+    slice-aggregate-read-name
+    read-name-requires
     add-at
     at-requires
     add-at-2

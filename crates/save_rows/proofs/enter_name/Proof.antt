@@ -5,11 +5,11 @@ use borrow.Author.Needs.{needs}
 use Rattle.save_rows.proofs.enter_name.Statement.{statement}
 use Rattle.save_rows.proofs.enter_name.Tie as tie
 
-slice-aggregate-put-name : tie.Need-slice-aggregate-put-name
-slice-aggregate-put-name c = search needs
+slice-aggregate-read-name : tie.Need-slice-aggregate-read-name
+slice-aggregate-read-name c = search needs
 
-put-name-requires : tie.Need-put-name-requires
-put-name-requires c κs = search needs
+read-name-requires : tie.Need-read-name-requires
+read-name-requires c κs = search needs
 
 sub-enter-tree : tie.Need-sub-enter-tree
 sub-enter-tree c = search needs
@@ -31,15 +31,15 @@ same-length-2 c = search needs
 
 returns : tie.Need-returns
 returns c =
-    let z : c .before .before .before .before .before .before .before .before .before .before .put-name .result - 0 ≡ c .before .before .before .before .before .before .before .before .before .before .put-name .result = omega arith in
-    rw (← c .before .before .before .before .before .before .before .before .before .before .put-name .ensures .0, ← z) (c .before .before .before .before .enter-tree .ensures)
+    let z : c .before .before .before .before .before .before .before .before .before .before .read-name .result - 0 ≡ c .before .before .before .before .before .before .before .before .before .before .read-name .result = omega arith in
+    rw (← c .before .before .before .before .before .before .before .before .before .before .read-name .ensures .0, ← z) (c .before .before .before .before .enter-tree .ensures)
 
 pub enter-name-spec : {M : Type 1} → statement M
 enter-name-spec =
     tie.close
     (tie.spec
-    slice-aggregate-put-name
-    put-name-requires
+    slice-aggregate-read-name
+    read-name-requires
     sub-enter-tree
     part-enter-tree-start
     part-enter-tree-end

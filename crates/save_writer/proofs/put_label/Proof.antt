@@ -8,7 +8,7 @@ use Rattle.save_writer.proofs.Laws.{label-skip, label-put}
 use borrow.Author.Needs.{needs}
 use Rattle.save_writer.proofs.put_label.Statement.{statement}
 use Rattle.save_writer.proofs.put_label.Tie as tie
-use Rattle.save_records.proofs.put_use.Reads as put-use-reads
+use Rattle.save_records.proofs.put_use_record.Reads as put-use-record-reads
 use Rattle.memory_labels.proofs.is_free.Reads as is-free-reads
 
 is-free-requires : tie.Need-is-free-requires
@@ -22,19 +22,19 @@ returns c =
 add-e : tie.Need-add-e
 add-e c = search needs
 
-sub-put-use : tie.Need-sub-put-use
-sub-put-use c = search needs
+sub-put-use-record : tie.Need-sub-put-use-record
+sub-put-use-record c = search needs
 
-part-put-use-start : tie.Need-part-put-use-start
-part-put-use-start c = search needs
+part-put-use-record-start : tie.Need-part-put-use-record-start
+part-put-use-record-start c = search needs
 
-part-put-use-end : tie.Need-part-put-use-end
-part-put-use-end c =
+part-put-use-record-end : tie.Need-part-put-use-record-end
+part-put-use-record-end c =
     let s = c .before .before .before .before .before in
     omega (arith, use-length (baseIn (s .args .numbers .now) + s .args .p) (labelIn (s .args .numbers .now) (s .args .names .now) (s .args .p)) (sym (c .before .is-free .ensures .1 (s .args .names .now)) ∙ c .if1 .left))
 
-put-use-requires : tie.Need-put-use-requires
-put-use-requires c κs =
+put-use-record-requires : tie.Need-put-use-record-requires
+put-use-record-requires c κs =
     (search needs, search needs, search needs, sym (c .before .before .is-free .ensures .0) ∙ c .before .if1 .left, search needs)
 
 same-length : tie.Need-same-length
@@ -44,7 +44,7 @@ returns-2 : tie.Need-returns-2
 returns-2 c =
     let f = c .before .before .before .before .before in
     let s = f .before .before .before .before in
-    label-put _ _ (s .args .at) (s .args .out .now) _ (sym (f .is-free .ensures .1 (s .args .names .now)) ∙ c .before .before .before .before .if1 .left) (c .before .before .put-use .ensures)
+    label-put _ _ (s .args .at) (s .args .out .now) _ (sym (f .is-free .ensures .1 (s .args .names .now)) ∙ c .before .before .before .before .if1 .left) (c .before .before .put-use-record .ensures)
 
 pub put-label-spec : {M : Type 1} → statement M
 put-label-spec =
@@ -53,9 +53,9 @@ put-label-spec =
     is-free-requires
     returns
     add-e
-    sub-put-use
-    part-put-use-start
-    part-put-use-end
-    put-use-requires
+    sub-put-use-record
+    part-put-use-record-start
+    part-put-use-record-end
+    put-use-record-requires
     same-length
     returns-2)

@@ -30,22 +30,22 @@ add-e c =
     let lt : l .i < routeCount (a .numbers .now) = omega (arith, c .before .before .route-count .ensures .0) in
     omega (arith, rows-room (routes-lot (a .numbers .now) (a .names .now) (a .from) (a .out .now) (s .pre .2)) (l .i) (l .at) (l .out) (l .inv) routeSize lt (route-length (routeIn (a .numbers .now) (a .names .now) (l .i))))
 
-sub-put-route : tie.Need-sub-put-route Inv-loop μ-loop
-sub-put-route c = search needs
+sub-put-route-record : tie.Need-sub-put-route-record Inv-loop μ-loop
+sub-put-route-record c = search needs
 
-part-put-route-start : tie.Need-part-put-route-start Inv-loop μ-loop
-part-put-route-start c = search needs
+part-put-route-record-start : tie.Need-part-put-route-record-start Inv-loop μ-loop
+part-put-route-record-start c = search needs
 
-part-put-route-end : tie.Need-part-put-route-end Inv-loop μ-loop
-part-put-route-end c =
+part-put-route-record-end : tie.Need-part-put-route-record-end Inv-loop μ-loop
+part-put-route-record-end c =
     let s = c .before .before .before .before .before .before in
     let a = s .args in
     let l = c .before .loop in
     let lt : l .i < routeCount (a .numbers .now) = omega (arith, c .before .before .route-count .ensures .0) in
     rows-room (routes-lot (a .numbers .now) (a .names .now) (a .from) (a .out .now) (s .pre .2)) (l .i) (l .at) (l .out) (l .inv) routeSize lt (route-length (routeIn (a .numbers .now) (a .names .now) (l .i)))
 
-put-route-requires : tie.Need-put-route-requires Inv-loop μ-loop
-put-route-requires c κs = (search needs, search needs, omega arith, search needs)
+put-route-record-requires : tie.Need-put-route-record-requires Inv-loop μ-loop
+put-route-record-requires c κs = (search needs, search needs, omega arith, search needs)
 
 add-i : tie.Need-add-i Inv-loop μ-loop
 add-i c = search needs
@@ -61,7 +61,7 @@ loop-again c =
     let a = s .args in
     let l = d .before .loop in
     let lt : l .i < routeCount (a .numbers .now) = omega (arith, d .before .before .route-count .ensures .0) in
-    rows-lent (routes-lot (a .numbers .now) (a .names .now) (a .from) (a .out .now) (s .pre .2)) (l .i) (l .at) (l .out) (l .inv) routeSize _ lt (p .put-route .ensures) (route-length (routeIn (a .numbers .now) (a .names .now) (l .i)))
+    rows-lent (routes-lot (a .numbers .now) (a .names .now) (a .from) (a .out .now) (s .pre .2)) (l .i) (l .at) (l .out) (l .inv) routeSize _ lt (p .put-route-record .ensures) (route-length (routeIn (a .numbers .now) (a .names .now) (l .i)))
 
 same-length : tie.Need-same-length Inv-loop μ-loop
 same-length c = c .before .loop .inv .1
@@ -81,10 +81,10 @@ put-routes-spec =
     route-count-requires
     loop-holds
     add-e
-    sub-put-route
-    part-put-route-start
-    part-put-route-end
-    put-route-requires
+    sub-put-route-record
+    part-put-route-record-start
+    part-put-route-record-end
+    put-route-record-requires
     add-i
     loop-less
     loop-again

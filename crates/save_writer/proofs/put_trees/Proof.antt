@@ -31,22 +31,22 @@ add-e c =
     let lt : l .i < treeCount (a .numbers .now) = omega (arith, c .before .before .tree-count .ensures .0) in
     omega (arith, rows-room (trees-lot (a .numbers .now) (a .names .now) (a .from) (a .out .now) (s .pre .2)) (l .i) (l .at) (l .out) (l .inv) treeSize lt (tree-size (a .numbers .now) (a .names .now) (l .i) lt))
 
-sub-put-tree : tie.Need-sub-put-tree Inv-loop μ-loop
-sub-put-tree c = search needs
+sub-put-tree-record : tie.Need-sub-put-tree-record Inv-loop μ-loop
+sub-put-tree-record c = search needs
 
-part-put-tree-start : tie.Need-part-put-tree-start Inv-loop μ-loop
-part-put-tree-start c = search needs
+part-put-tree-record-start : tie.Need-part-put-tree-record-start Inv-loop μ-loop
+part-put-tree-record-start c = search needs
 
-part-put-tree-end : tie.Need-part-put-tree-end Inv-loop μ-loop
-part-put-tree-end c =
+part-put-tree-record-end : tie.Need-part-put-tree-record-end Inv-loop μ-loop
+part-put-tree-record-end c =
     let s = c .before .before .before .before .before .before in
     let a = s .args in
     let l = c .before .loop in
     let lt : l .i < treeCount (a .numbers .now) = omega (arith, c .before .before .tree-count .ensures .0) in
     rows-room (trees-lot (a .numbers .now) (a .names .now) (a .from) (a .out .now) (s .pre .2)) (l .i) (l .at) (l .out) (l .inv) treeSize lt (tree-size (a .numbers .now) (a .names .now) (l .i) lt)
 
-put-tree-requires : tie.Need-put-tree-requires Inv-loop μ-loop
-put-tree-requires c κs = (search needs, search needs, omega (arith, c .before .before .before .tree-count .ensures .0), omega arith, search needs)
+put-tree-record-requires : tie.Need-put-tree-record-requires Inv-loop μ-loop
+put-tree-record-requires c κs = (search needs, search needs, omega (arith, c .before .before .before .tree-count .ensures .0), omega arith, search needs)
 
 add-i : tie.Need-add-i Inv-loop μ-loop
 add-i c = search needs
@@ -62,7 +62,7 @@ loop-again c =
     let a = s .args in
     let l = d .before .loop in
     let lt : l .i < treeCount (a .numbers .now) = omega (arith, d .before .before .tree-count .ensures .0) in
-    rows-lent (trees-lot (a .numbers .now) (a .names .now) (a .from) (a .out .now) (s .pre .2)) (l .i) (l .at) (l .out) (l .inv) treeSize _ lt (p .put-tree .ensures ∙ ap treeSaved (tree-at (a .numbers .now) (a .names .now) (l .i) lt)) (tree-size (a .numbers .now) (a .names .now) (l .i) lt)
+    rows-lent (trees-lot (a .numbers .now) (a .names .now) (a .from) (a .out .now) (s .pre .2)) (l .i) (l .at) (l .out) (l .inv) treeSize _ lt (p .put-tree-record .ensures ∙ ap treeSaved (tree-at (a .numbers .now) (a .names .now) (l .i) lt)) (tree-size (a .numbers .now) (a .names .now) (l .i) lt)
 
 same-length : tie.Need-same-length Inv-loop μ-loop
 same-length c = c .before .loop .inv .1
@@ -82,10 +82,10 @@ put-trees-spec =
     tree-count-requires
     loop-holds
     add-e
-    sub-put-tree
-    part-put-tree-start
-    part-put-tree-end
-    put-tree-requires
+    sub-put-tree-record
+    part-put-tree-record-start
+    part-put-tree-record-end
+    put-tree-record-requires
     add-i
     loop-less
     loop-again

@@ -7,17 +7,17 @@ use Rattle.wire_writer.proofs.put_record.Tie as tie
 add-a : tie.Need-add-a
 add-a c = search needs
 
-sub-put-head : tie.Need-sub-put-head
-sub-put-head c = search needs
+sub-put-record-head : tie.Need-sub-put-record-head
+sub-put-record-head c = search needs
 
-part-put-head-start : tie.Need-part-put-head-start
-part-put-head-start c = search needs
+part-put-record-head-start : tie.Need-part-put-record-head-start
+part-put-record-head-start c = search needs
 
-part-put-head-end : tie.Need-part-put-head-end
-part-put-head-end c = search needs
+part-put-record-head-end : tie.Need-part-put-record-head-end
+part-put-record-head-end c = search needs
 
-put-head-requires : tie.Need-put-head-requires
-put-head-requires c κs = search needs
+put-record-head-requires : tie.Need-put-record-head-requires
+put-record-head-requires c κs = search needs
 
 add-b : tie.Need-add-b
 add-b c = search needs
@@ -37,17 +37,17 @@ copy-requires c κs = search needs
 add-e : tie.Need-add-e
 add-e c = search needs
 
-sub-put-label : tie.Need-sub-put-label
-sub-put-label c = search needs
+sub-put-label-tlv : tie.Need-sub-put-label-tlv
+sub-put-label-tlv c = search needs
 
-part-put-label-start : tie.Need-part-put-label-start
-part-put-label-start c = search needs
+part-put-label-tlv-start : tie.Need-part-put-label-tlv-start
+part-put-label-tlv-start c = search needs
 
-part-put-label-end : tie.Need-part-put-label-end
-part-put-label-end c = search needs
+part-put-label-tlv-end : tie.Need-part-put-label-tlv-end
+part-put-label-tlv-end c = search needs
 
-put-label-requires : tie.Need-put-label-requires
-put-label-requires c κs = search needs
+put-label-tlv-requires : tie.Need-put-label-tlv-requires
+put-label-tlv-requires c κs = search needs
 
 same-length : tie.Need-same-length
 same-length c = search needs
@@ -59,26 +59,26 @@ returns c =
     let h = m .before .before .before .before in
     let s = h .before .before .before .before in
     let a = s .args in
-    put-three (a .id) (a .to) (a .kind) (a .label) (a .at) (a .out .now) _ _ _ (a .name .now) (s .pre .0) (h .put-head .ensures) (m .copy .ensures) (l .put-label .ensures)
+    put-three (a .id) (a .to) (a .kind) (a .label) (a .at) (a .out .now) _ _ _ (a .name .now) (s .pre .0) (h .put-record-head .ensures) (m .copy .ensures) (l .put-label-tlv .ensures)
 
 pub put-record-spec : {M : Type 1} → statement M
 put-record-spec =
     tie.close
     (tie.spec
     add-a
-    sub-put-head
-    part-put-head-start
-    part-put-head-end
-    put-head-requires
+    sub-put-record-head
+    part-put-record-head-start
+    part-put-record-head-end
+    put-record-head-requires
     add-b
     sub-copy
     part-copy-start
     part-copy-end
     copy-requires
     add-e
-    sub-put-label
-    part-put-label-start
-    part-put-label-end
-    put-label-requires
+    sub-put-label-tlv
+    part-put-label-tlv-start
+    part-put-label-tlv-end
+    put-label-tlv-requires
     same-length
     returns)
