@@ -15,7 +15,7 @@ use Rattle.bench_verbs.specs.Line.{isSaveHex, Said, withNumber, withHex, withSa
 use Rattle.bench_orders.specs.Tells.{meant, Lies, SaveLies, Tells}
 use Rattle.bench_words.specs.Scan.{numberIn}
 use Rattle.bench_words.specs.declared.Number.{Number}
-use Rattle.bench_words.proofs.Laws.{number-value, number-none, hex-short}
+use Rattle.bench_words.proofs.Words.{number-value, number-none, hex-short}
 use Rattle.bench_orders.specs.Scan.{numbered, asNumber, withOctets, asHex}
 use Rattle.bench_verbs.specs.declared.Verb.{Verb}
 use Rattle.bench_orders.specs.declared.Order.{Order}

@@ -1,3 +1,3 @@
+pub mod Records
 pub mod Rows
 pub mod Sizes
-pub mod Laws

@@ -1,6 +1,6 @@
 // Whether the card that the memory denotes keeps the rules in force: one function for each rule, and one for what it asks of a row.
 // Some rules any memory keeps, since it is read so: the base's range, the identifier's, the numbers of routes, trees and labels, sixteen
-// branches to a tree, and a neighbour's number with each label that is mapped. The code tests nothing for them; proofs/Laws.antt says why.
+// branches to a tree, and a neighbour's number with each label that is mapped. The code tests nothing for them; proofs/Rules.antt says why.
 ghost use mathlib.Core.Path.{_≡_};
 ghost use mathlib.Core.Bool.{true, false, _&&_};
 ghost use mathlib.Core.List.{List};

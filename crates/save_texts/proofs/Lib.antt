@@ -1,3 +1,3 @@
 pub mod Parts
 pub mod Sizes
-pub mod Laws
+pub mod Texts

@@ -13,7 +13,7 @@ use Rattle.meaning.specs.Wire.{tlvs, isOverrun, found, must, isElement, isOpaqu
 use Rattle.meaning.specs.RoundTrip.{element-ok}
 use Rattle.wire_reader.specs.Read.{tlvAt, endOf, labelIn, headRefusal, Ordered}
 use Rattle.wire_reader.specs.declared.Tlv.the-variants.{Whole}
-use Rattle.wire_reader.proofs.Laws.{whole-within, overrun-on, found-on, end-some, end-none, label-none, label-some}
+use Rattle.wire_reader.proofs.Places.{whole-within, overrun-on, found-on, end-some, end-none, label-none, label-some}
 
 -- a number that was given stays, whatever is tested after it
 when-same : (n : ℕ) (b : Bool) (x y : ℕ) → (n when b else x ≡ 0 → ⊥) → ((x ≡ 0 → ⊥) → x ≡ y) → n when b else x ≡ n when b else y

@@ -1,3 +1,3 @@
-pub mod Laws
 pub mod Lies
+pub mod Record
 pub mod Rest

@@ -1,7 +1,7 @@
 use native.Mathlib.Omega.{arith}
 use mathlib.Core.Path.{sym}
 use lib.Seq.{length-take-le}
-use Rattle.bench.proofs.Laws.{ended-stands}
+use Rattle.bench.proofs.Input.{ended-stands}
 use Rattle.bench.specs.Input.{nextNumber}
 use borrow.Author.Needs.{needs}
 use Rattle.bench.proofs.end_line.Statement.{statement}

@@ -1,4 +1,4 @@
-use Rattle.bench.proofs.Laws.{keeps-more, keeps-over}
+use Rattle.bench.proofs.Input.{keeps-more, keeps-over}
 use borrow.Author.Needs.{needs}
 use Rattle.bench.proofs.keep.Statement.{statement}
 use Rattle.bench.proofs.keep.Tie as tie

@@ -6,7 +6,7 @@ use lib.ListN.{length, take}
 use lib.Seq.{take-all}
 use Rattle.memory.specs.Memory.{cardOf}
 use Rattle.bench.specs.Input.{Stand, afterAll, Stands}
-use Rattle.bench.proofs.Laws.{after-none, after-next}
+use Rattle.bench.proofs.Input.{after-none, after-next}
 use Rattle.bench.proofs.take_chunk.Statement.{statement}
 use Rattle.bench.proofs.take_chunk.Tie as tie
 

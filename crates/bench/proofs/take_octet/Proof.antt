@@ -1,5 +1,5 @@
 use native.Mathlib.Omega.{arith}
-use Rattle.bench.proofs.Laws.{after-end, after-more, longer-stands}
+use Rattle.bench.proofs.Input.{after-end, after-more, longer-stands}
 use borrow.Author.Needs.{needs}
 use Rattle.bench.proofs.take_octet.Statement.{statement}
 use Rattle.bench.proofs.take_octet.Tie as tie

@@ -1,4 +1,4 @@
-use Rattle.bench_replies.proofs.Laws.{room-stays}
+use Rattle.bench_replies.proofs.Reply.{room-stays}
 use Rattle.bench_replies.specs.Reply.{only, replyTo}
 use Rattle.bench_orders.specs.Tells.{meant}
 use borrow.Author.Needs.{needs}

@@ -1,7 +1,7 @@
 use native.Mathlib.Omega.{arith}
 use mathlib.Core.Path.{refl, ap, _∙_}
 use mathlib.Core.List.{[]}
-use Rattle.bench_replies.proofs.Laws.{lies, short, save-short, written, says-only, says-counted}
+use Rattle.bench_replies.proofs.Reply.{lies, short, save-short, written, says-only, says-counted}
 use Rattle.bench_replies.specs.Reply.{only, counted, replyTo}
 use Rattle.meaning.specs.Events.{start}
 use Rattle.bench_lines.specs.Text.{countLine}

@@ -1,5 +1,5 @@
 use Rattle.memory.specs.Memory.{cardOf}
-use Rattle.bench_replies.proofs.Laws.{says-fed}
+use Rattle.bench_replies.proofs.Reply.{says-fed}
 use Rattle.bench_replies.specs.Reply.{replyTo}
 use Rattle.bench_words.specs.Words.{ascii}
 use borrow.Author.Needs.{needs}

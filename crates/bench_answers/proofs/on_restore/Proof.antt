@@ -4,7 +4,7 @@ use Rattle.meaning.specs.Events.{Out}
 use mathlib.Core.Path.{ap, _∙_}
 use Rattle.memory.specs.Memory.{cardOf}
 use native.Mathlib.Omega.{arith}
-use Rattle.bench_replies.proofs.Laws.{decoded, says-counted}
+use Rattle.bench_replies.proofs.Reply.{decoded, says-counted}
 use Rattle.bench_replies.specs.Reply.{replyTo}
 use Rattle.meaning.specs.Save.{restore}
 use Rattle.bench_words.specs.Words.{ascii}

@@ -1,6 +1,6 @@
 use Rattle.memory.specs.Memory.{cardOf}
 use native.Mathlib.Omega.{arith}
-use Rattle.bench_replies.proofs.Laws.{save-fits, part-fits, says-told}
+use Rattle.bench_replies.proofs.Reply.{save-fits, part-fits, says-told}
 use Rattle.bench_replies.specs.Reply.{replyTo}
 use Rattle.meaning.specs.Save.{save, saveLimit}
 use Rattle.bench_words.specs.Words.{ascii}

@@ -1,6 +1,6 @@
 use Rattle.memory.specs.Memory.{cardOf}
 use mathlib.Core.Path.{ap, _∙_}
-use Rattle.bench_replies.proofs.Laws.{decoded, says-fed}
+use Rattle.bench_replies.proofs.Reply.{decoded, says-fed}
 use Rattle.bench_replies.specs.Reply.{replyTo}
 use Rattle.meaning.specs.Card.{lookupName}
 use Rattle.bench_words.specs.Words.{ascii}

@@ -1,5 +1,5 @@
 use native.Mathlib.Omega.{arith}
-use Rattle.bench_lines.proofs.Laws.{adds-part}
+use Rattle.bench_lines.proofs.Text.{adds-part}
 use borrow.Author.Needs.{needs}
 use Rattle.bench_lines.proofs.add.Statement.{statement}
 use Rattle.bench_lines.proofs.add.Tie as tie

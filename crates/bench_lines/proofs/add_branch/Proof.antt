@@ -1,5 +1,5 @@
 use native.Mathlib.Omega.{arith}
-use Rattle.bench_lines.proofs.Laws.{adds-none, adds-then, branch-none, branch-one}
+use Rattle.bench_lines.proofs.Text.{adds-none, adds-then, branch-none, branch-one}
 use borrow.Author.Needs.{needs}
 use Rattle.bench_lines.proofs.add_branch.Statement.{statement}
 use Rattle.bench_lines.proofs.add_branch.Tie as tie

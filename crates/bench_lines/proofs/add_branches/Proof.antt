@@ -4,7 +4,7 @@ use mathlib.Core.Path.{_≡_, refl, sym}
 use lib.ListN.{length, take}
 use lib.Seq.{take-all}
 use borrow.Author.Needs.{needs}
-use Rattle.bench_lines.proofs.Laws.{adds-none, adds-then, branches-more}
+use Rattle.bench_lines.proofs.Text.{adds-none, adds-then, branches-more}
 use Rattle.bench_lines.specs.Text.{branchesText, Adds}
 use Rattle.meaning.specs.Card.{branchesFrom}
 use Rattle.bench_lines.proofs.add_branches.Statement.{statement}

@@ -1,5 +1,5 @@
 use native.Mathlib.Omega.{arith}
-use Rattle.bench_lines.proofs.Laws.{adds-none}
+use Rattle.bench_lines.proofs.Text.{adds-none}
 use Rattle.bench_lines.specs.Text.{leafText}
 use Rattle.bench_words.specs.Words.{ascii}
 use borrow.Author.Needs.{needs}

@@ -1,5 +1,5 @@
 use native.Mathlib.Omega.{arith}
-use Rattle.bench_lines.proofs.Laws.{adds-none, adds-then, records-none, records-some}
+use Rattle.bench_lines.proofs.Text.{adds-none, adds-then, records-none, records-some}
 use borrow.Author.Needs.{needs}
 use Rattle.bench_lines.proofs.add_records.Statement.{statement}
 use Rattle.bench_lines.proofs.add_records.Tie as tie

@@ -1,5 +1,5 @@
 use native.Mathlib.Omega.{arith}
-use Rattle.bench_lines.proofs.Laws.{adds-then}
+use Rattle.bench_lines.proofs.Text.{adds-then}
 use Rattle.bench_lines.specs.Text.{countLine}
 use borrow.Author.Needs.{needs}
 use Rattle.bench_lines.proofs.put_count.Statement.{statement}

@@ -1,5 +1,5 @@
 use native.Mathlib.Omega.{arith}
-use Rattle.bench_lines.proofs.Laws.{feed-nothing, feed-listed}
+use Rattle.bench_lines.proofs.Text.{feed-nothing, feed-listed}
 use Rattle.bench_lines.specs.Text.{feedLine}
 use Rattle.bench_words.specs.Words.{ascii}
 use borrow.Author.Needs.{needs}

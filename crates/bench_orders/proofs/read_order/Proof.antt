@@ -3,7 +3,7 @@ use lib.ListN.{length}
 use borrow.Author.Tests.{le-leb, lt-leb}
 use Rattle.bench_verbs.specs.Line.{orderOf, saidBy}
 use Rattle.bench_orders.specs.Tells.{meant}
-use Rattle.bench_words.proofs.Laws.{word-none, word-some}
+use Rattle.bench_words.proofs.Words.{word-none, word-some}
 use borrow.Author.Needs.{needs}
 use Rattle.bench_orders.proofs.read_order.Statement.{statement}
 use Rattle.bench_orders.proofs.read_order.Tie as tie

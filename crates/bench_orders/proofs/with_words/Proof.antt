@@ -1,4 +1,4 @@
-use Rattle.bench_words.proofs.Laws.{word-none, word-some}
+use Rattle.bench_words.proofs.Words.{word-none, word-some}
 use Rattle.bench_orders.proofs.Verbs.{more-bad}
 use borrow.Author.Needs.{needs}
 use Rattle.bench_orders.proofs.with_words.Statement.{statement}

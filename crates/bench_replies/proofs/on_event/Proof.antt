@@ -1,4 +1,4 @@
-use Rattle.bench_replies.proofs.Laws.{lies, short, not-written}
+use Rattle.bench_replies.proofs.Reply.{lies, short, not-written}
 use Rattle.bench_orders.specs.Tells.{meant}
 use borrow.Author.Needs.{needs}
 use Rattle.bench_replies.proofs.on_event.Statement.{statement}

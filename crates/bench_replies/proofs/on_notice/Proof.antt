@@ -5,7 +5,7 @@ use Rattle.meaning.specs.Notice.{notice}
 use Rattle.memory.specs.Memory.{cardOf}
 use Rattle.bench_words.specs.Words.{ascii}
 use Rattle.bench_replies.specs.Reply.{replyTo}
-use Rattle.bench_replies.proofs.Laws.{notice-fits, record-fits, says-record}
+use Rattle.bench_replies.proofs.Reply.{notice-fits, record-fits, says-record}
 use borrow.Author.Needs.{needs}
 use Rattle.bench_replies.proofs.on_notice.Statement.{statement}
 use Rattle.bench_replies.proofs.on_notice.Tie as tie

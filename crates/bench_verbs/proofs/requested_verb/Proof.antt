@@ -1,7 +1,7 @@
 use mathlib.Core.Path.{refl}
 use Rattle.bench_words.specs.Words.{ascii}
 use Rattle.bench_verbs.specs.Line.{requestedVerb}
-use Rattle.bench_verbs.proofs.Laws.{found, passed}
+use Rattle.bench_verbs.proofs.Chain.{found, passed}
 use borrow.Author.Needs.{needs}
 use Rattle.bench_verbs.proofs.requested_verb.Statement.{statement}
 use Rattle.bench_verbs.proofs.requested_verb.Tie as tie

@@ -1,6 +1,6 @@
 use Rattle.bench_words.specs.Words.{ascii}
 use Rattle.bench_verbs.specs.Line.{verbOf}
-use Rattle.bench_verbs.proofs.Laws.{found, passed}
+use Rattle.bench_verbs.proofs.Chain.{found, passed}
 use borrow.Author.Needs.{needs}
 use Rattle.bench_verbs.proofs.verb_of.Statement.{statement}
 use Rattle.bench_verbs.proofs.verb_of.Tie as tie

@@ -1,7 +1,7 @@
 use native.Mathlib.Omega.{arith}
 use lib.ListN.{length-set}
 use borrow.Author.Needs.{needs}
-use Rattle.bench_words.proofs.Laws.{puts-digit, puts-digits, numeral-short}
+use Rattle.bench_words.proofs.Words.{puts-digit, puts-digits, numeral-short}
 use Prim.Native.Nat.{ℕ, _/_, _<_}
 use borrow.Fn.Kinds.{In}
 use borrow.Fn.PlainCycle.{Measures, is, falls, and}

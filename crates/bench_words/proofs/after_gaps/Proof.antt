@@ -5,7 +5,7 @@ use native.Mathlib.Omega.{arith}
 use mathlib.Core.Path.{_≡_, refl, sym, _∙_}
 use borrow.Author.Needs.{needs}
 use Rattle.bench_words.specs.Words.{words}
-use Rattle.bench_words.proofs.Laws.{gap-more}
+use Rattle.bench_words.proofs.Words.{gap-more}
 use Rattle.bench_words.proofs.after_gaps.Statement.{statement}
 use Rattle.bench_words.proofs.after_gaps.Tie as tie
 

@@ -6,7 +6,7 @@ use lib.ListN.{length, drop}
 use borrow.Author.Needs.{needs}
 use Rattle.meaning.specs.Octets.{all}
 use Rattle.bench_words.specs.Words.{isHexDigit}
-use Rattle.bench_words.proofs.Laws.{all-more, all-stop, all-end}
+use Rattle.bench_words.proofs.Words.{all-more, all-stop, all-end}
 use Rattle.bench_words.proofs.all_hex_digits.Statement.{statement}
 use Rattle.bench_words.proofs.all_hex_digits.Tie as tie
 

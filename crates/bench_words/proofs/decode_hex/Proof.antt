@@ -1,4 +1,4 @@
-use Rattle.bench_words.proofs.Laws.{octets-length, octets-at, puts-front}
+use Rattle.bench_words.proofs.Words.{octets-length, octets-at, puts-front}
 use Prim.Native.Nat.{_-_, _/_, _≤_, _<_}
 use native.Mathlib.Omega.{arith}
 use mathlib.Core.Path.{_≡_, refl, sym}

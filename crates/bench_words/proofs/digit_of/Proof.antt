@@ -2,7 +2,7 @@ use native.Mathlib.Omega.{arith}
 use mathlib.Core.Path.{_≡_, refl, sym, _∙_}
 use mathlib.Core.Bool.{true, false}
 use Rattle.bench_words.specs.Words.{digit, isDigit, isUpper, isLower}
-use Rattle.bench_words.proofs.Laws.{between}
+use Rattle.bench_words.proofs.Words.{between}
 use borrow.Author.Needs.{needs}
 use Rattle.bench_words.proofs.digit_of.Statement.{statement}
 use Rattle.bench_words.proofs.digit_of.Tie as tie

@@ -2,7 +2,7 @@ use native.Mathlib.Omega.{arith}
 use lib.ListN.{length}
 use borrow.Author.Tests.{eq-eqb, ne-eqb, le-leb, lt-leb}
 use Rattle.bench_words.specs.Words.{ascii, isHexTo}
-use Rattle.bench_words.proofs.Laws.{so}
+use Rattle.bench_words.proofs.Words.{so}
 use borrow.Author.Needs.{needs}
 use Rattle.bench_words.proofs.is_hex_to.Statement.{statement}
 use Rattle.bench_words.proofs.is_hex_to.Tie as tie

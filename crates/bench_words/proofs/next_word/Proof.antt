@@ -1,4 +1,4 @@
-use Rattle.bench_words.proofs.Laws.{next-word}
+use Rattle.bench_words.proofs.Words.{next-word}
 use borrow.Author.Needs.{needs}
 use Rattle.bench_words.proofs.next_word.Statement.{statement}
 use Rattle.bench_words.proofs.next_word.Tie as tie

@@ -5,7 +5,7 @@ use lib.ListN.{length, length-set}
 use borrow.Author.Needs.{needs}
 use Rattle.octets.proofs.Parts.{front}
 use Rattle.bench_words.specs.Words.{glyph, hexOf}
-use Rattle.bench_words.proofs.Laws.{hex-length, hex-high, hex-low, front-two, puts-front}
+use Rattle.bench_words.proofs.Words.{hex-length, hex-high, hex-low, front-two, puts-front}
 use Rattle.bench_words.proofs.put_hex.Statement.{statement}
 use Rattle.bench_words.proofs.put_hex.Tie as tie
 

@@ -6,7 +6,7 @@ use borrow.Author.Needs.{needs}
 use borrow.Author.Tests.{not-true, not-false}
 use Rattle.meaning.specs.Octets.{all}
 use Rattle.bench_words.specs.Words.{isDigit, valueFrom}
-use Rattle.bench_words.proofs.Laws.{all-more, all-stop, all-end, value-more, value-end, value-grows, between, number-letter, number-large, number-is}
+use Rattle.bench_words.proofs.Words.{all-more, all-stop, all-end, value-more, value-end, value-grows, between, number-letter, number-large, number-is}
 use Rattle.bench_words.proofs.read_number.Statement.{statement}
 use Rattle.bench_words.proofs.read_number.Tie as tie
 

@@ -5,7 +5,7 @@ use mathlib.Core.Path.{_≡_, refl, sym, _∙_}
 use lib.ListN.{length, drop}
 use borrow.Author.Needs.{needs}
 use Rattle.bench_words.specs.Scan.{letters}
-use Rattle.bench_words.proofs.Laws.{letter-more, letter-stop, letter-end}
+use Rattle.bench_words.proofs.Words.{letter-more, letter-stop, letter-end}
 use Rattle.bench_words.proofs.word_end.Statement.{statement}
 use Rattle.bench_words.proofs.word_end.Tie as tie
 

@@ -1,5 +1,5 @@
 -- `notice_writer::is_framed` meets its contract: each test that fails, and all that pass. Assumes nothing.
-use Rattle.notice_reader.proofs.Laws.{frame-length, frame-mark, frame-far, frame-kind, frame-size, frame-field, frame-right}
+use Rattle.notice_reader.proofs.Reading.{frame-length, frame-mark, frame-far, frame-kind, frame-size, frame-field, frame-right}
 use borrow.Author.Needs.{needs}
 use Rattle.notice_reader.proofs.is_framed.Statement.{statement}
 use Rattle.notice_reader.proofs.is_framed.Tie as tie

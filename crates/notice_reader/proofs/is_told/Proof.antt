@@ -1,6 +1,6 @@
 -- `notice_writer::is_told` meets its contract: by its tests. Assumes nothing.
 use mathlib.Core.Path.{sym, _∙_}
-use Rattle.notice_reader.proofs.Laws.{told-unknown, told-bits, told-type, told-other}
+use Rattle.notice_reader.proofs.Reading.{told-unknown, told-bits, told-type, told-other}
 use borrow.Author.Needs.{needs}
 use Rattle.notice_reader.proofs.is_told.Statement.{statement}
 use Rattle.notice_reader.proofs.is_told.Tie as tie

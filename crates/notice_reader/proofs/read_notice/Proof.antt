@@ -1,6 +1,6 @@
 -- `notice_writer::read_notice` meets its contract: refused by either test, or read by both. Assumes nothing.
 use mathlib.Core.Path.{sym, _∙_}
-use Rattle.notice_reader.proofs.Laws.{reads-refused, reads-untold, reads-says}
+use Rattle.notice_reader.proofs.Reading.{reads-refused, reads-untold, reads-says}
 use borrow.Author.Needs.{needs}
 use Rattle.notice_reader.proofs.read_notice.Statement.{statement}
 use Rattle.notice_reader.proofs.read_notice.Tie as tie

@@ -1,5 +1,5 @@
 -- `notice_writer::copied_id` meets its contract: by the length. Assumes nothing.
-use Rattle.notice_status.proofs.Laws.{id-none, id-there}
+use Rattle.notice_status.proofs.Status.{id-none, id-there}
 use borrow.Author.Needs.{needs}
 use Rattle.notice_status.proofs.copied_id.Statement.{statement}
 use Rattle.notice_status.proofs.copied_id.Tie as tie

@@ -1,6 +1,6 @@
 -- `notice_writer::copied_type` meets its contract: by the length. Assumes nothing.
 use native.Mathlib.Omega.{arith}
-use Rattle.notice_status.proofs.Laws.{type-none, type-there}
+use Rattle.notice_status.proofs.Status.{type-none, type-there}
 use borrow.Author.Needs.{needs}
 use Rattle.notice_status.proofs.copied_type.Statement.{statement}
 use Rattle.notice_status.proofs.copied_type.Tie as tie

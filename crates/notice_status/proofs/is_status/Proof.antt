@@ -1,7 +1,7 @@
 -- `notice_writer::is_status` meets its contract: by the eight numbers. Assumes nothing.
 use mathlib.Core.Logic.{inl, inr}
 use native.Mathlib.Omega.{arith}
-use Rattle.notice_status.proofs.Laws.{known-low, known-high, not-known}
+use Rattle.notice_status.proofs.Status.{known-low, known-high, not-known}
 use Rattle.notice_status.proofs.is_status.Statement.{statement}
 use Rattle.notice_status.proofs.is_status.Tie as tie
 

@@ -1,6 +1,6 @@
 -- `notice_writer::status_code` meets its contract: the E bit by what `is_fatal` answers. Assumes nothing.
 use mathlib.Core.Path.{sym, _∙_}
-use Rattle.notice_status.proofs.Laws.{code-fatal, code-mild}
+use Rattle.notice_status.proofs.Status.{code-fatal, code-mild}
 use borrow.Author.Needs.{needs}
 use Rattle.notice_status.proofs.status_code.Statement.{statement}
 use Rattle.notice_status.proofs.status_code.Tie as tie

@@ -3,7 +3,7 @@ use mathlib.Core.Path.{refl}
 use native.Mathlib.Omega.{arith}
 use Rattle.meaning.specs.Octets.{_when_else_}
 use Rattle.meaning.specs.Notice.{statusOf}
-use Rattle.notice_status.proofs.Laws.{status-at, status-pair, status-none}
+use Rattle.notice_status.proofs.Status.{status-at, status-pair, status-none}
 use Rattle.notice_status.proofs.status_of.Statement.{statement}
 use Rattle.notice_status.proofs.status_of.Tie as tie
 

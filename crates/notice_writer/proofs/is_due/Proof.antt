@@ -1,5 +1,5 @@
 -- `notice_writer::is_due` meets its contract: by its tests. Assumes nothing.
-use Rattle.notice_writer.proofs.Laws.{due-none, due-three, due-other}
+use Rattle.notice_writer.proofs.Notices.{due-none, due-three, due-other}
 use borrow.Author.Needs.{needs}
 use Rattle.notice_writer.proofs.is_due.Statement.{statement}
 use Rattle.notice_writer.proofs.is_due.Tie as tie

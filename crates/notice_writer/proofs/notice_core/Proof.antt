@@ -1,5 +1,5 @@
 -- `notice_writer::notice_core` meets its contract: 1 first, and then what `tell` does. Assumes nothing.
-use Rattle.notice_writer.proofs.Laws.{does-far}
+use Rattle.notice_writer.proofs.Notices.{does-far}
 use Rattle.memory.specs.Memory.{cardOf}
 use borrow.Author.Needs.{needs}
 use Rattle.notice_writer.proofs.notice_core.Statement.{statement}

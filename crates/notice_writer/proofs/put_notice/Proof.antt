@@ -1,5 +1,5 @@
 -- `notice_writer::put_notice` meets its contract: two parts of the output, one after the other, are the record. Assumes nothing.
-use Rattle.notice_writer.proofs.Laws.{put-two}
+use Rattle.notice_writer.proofs.Notices.{put-two}
 use borrow.Author.Needs.{needs}
 use Rattle.notice_writer.proofs.put_notice.Statement.{statement}
 use Rattle.notice_writer.proofs.put_notice.Tie as tie

@@ -1,7 +1,7 @@
 -- `notice_writer::tell` meets its contract: each return is one law of the call's definition. Assumes nothing.
 use mathlib.Core.Path.{sym, _∙_}
 use Rattle.memory.specs.Memory.{cardOf}
-use Rattle.notice_writer.proofs.Laws.{does-silent, does-short, does-tell}
+use Rattle.notice_writer.proofs.Notices.{does-silent, does-short, does-tell}
 use borrow.Author.Needs.{needs}
 use Rattle.notice_writer.proofs.tell.Statement.{statement}
 use Rattle.notice_writer.proofs.tell.Tie as tie

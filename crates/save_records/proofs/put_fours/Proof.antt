@@ -11,7 +11,7 @@ use Rattle.memory.specs.Memory.{cardOf}
 use Rattle.memory.proofs.Trees.{branches-length}
 use Rattle.octets.specs.Part.{mid}
 use Rattle.save_records.proofs.Rows.{Rows, rows-none}
-use Rattle.save_records.proofs.Laws.{fourRow, fours-lot, fours-next, fours-done}
+use Rattle.save_records.proofs.Records.{fourRow, fours-lot, fours-next, fours-done}
 use Rattle.save_records.proofs.put_fours.Statement.{statement}
 use Rattle.save_records.proofs.put_fours.Tie as tie
 use Rattle.save_records.proofs.put_four.Reads as put-four-reads

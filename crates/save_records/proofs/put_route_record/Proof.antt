@@ -1,6 +1,6 @@
 -- `save_records::put_route_record` meets its contract: four octets and a space are the route. Assumes nothing.
 use Rattle.memory.specs.Memory.{routeIn}
-use Rattle.save_records.proofs.Laws.{route-put}
+use Rattle.save_records.proofs.Records.{route-put}
 use borrow.Author.Needs.{needs}
 use Rattle.save_records.proofs.put_route_record.Statement.{statement}
 use Rattle.save_records.proofs.put_route_record.Tie as tie

@@ -2,7 +2,7 @@
 use mathlib.Core.Path.{_∙_}
 use Rattle.meaning.specs.Octets.{two, four}
 use Rattle.meaning.specs.Save.{marked}
-use Rattle.save_records.proofs.Laws.{head-is}
+use Rattle.save_records.proofs.Records.{head-is}
 use borrow.Author.Needs.{needs}
 use Rattle.save_records.proofs.put_save_head.Statement.{statement}
 use Rattle.save_records.proofs.put_save_head.Tie as tie

@@ -1,7 +1,7 @@
 -- `save_records::put_state` meets its contract: nine octets and the name are the record. Assumes nothing.
 use Rattle.meaning.specs.Octets.{four}
 use Rattle.meaning.specs.Save.{marked}
-use Rattle.save_records.proofs.Laws.{state-put}
+use Rattle.save_records.proofs.Records.{state-put}
 use borrow.Author.Needs.{needs}
 use Rattle.save_records.proofs.put_state.Statement.{statement}
 use Rattle.save_records.proofs.put_state.Tie as tie

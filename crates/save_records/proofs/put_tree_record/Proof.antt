@@ -2,7 +2,7 @@
 use Rattle.meaning.specs.Card.{treeAt}
 use Rattle.memory.specs.Memory.{cardOf}
 use Rattle.memory.proofs.Trees.{branches-length}
-use Rattle.save_records.proofs.Laws.{tree-put}
+use Rattle.save_records.proofs.Records.{tree-put}
 use borrow.Author.Needs.{needs}
 use Rattle.save_records.proofs.put_tree_record.Statement.{statement}
 use Rattle.save_records.proofs.put_tree_record.Tie as tie

@@ -4,7 +4,7 @@ use Prim.Native.Nat.{ℕ, _+_}
 use Rattle.meaning.specs.Card.{mapped}
 use Rattle.memory.specs.Memory.{labelIn, labelName}
 use Rattle.memory.proofs.Labels.{mapped-is}
-use Rattle.save_records.proofs.Laws.{use-mapped, use-awaiting}
+use Rattle.save_records.proofs.Records.{use-mapped, use-awaiting}
 use borrow.Author.Needs.{needs}
 use Rattle.save_records.proofs.put_use_record.Statement.{statement}
 use Rattle.save_records.proofs.put_use_record.Tie as tie

@@ -5,7 +5,7 @@ use lib.ListN.{drop}
 use Rattle.meaning.specs.Save.{allCarried}
 use Rattle.meaning.specs.Card.{labelCount}
 use Rattle.memory.specs.Memory.{cardOf, baseIn}
-use Rattle.save_rules_rows.proofs.Laws.{carried-start, carried-hit, carried-miss, carried-none, label-there, labels-end}
+use Rattle.save_rules_rows.proofs.RowRules.{carried-start, carried-hit, carried-miss, carried-none, label-there, labels-end}
 use borrow.Author.Needs.{needs}
 use Rattle.save_rules.proofs.all_carried.Statement.{statement}
 use Rattle.save_rules.proofs.all_carried.Tie as tie

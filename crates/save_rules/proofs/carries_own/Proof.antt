@@ -1,5 +1,5 @@
 use mathlib.Core.Path.{refl, sym, _∙_}
-use Rattle.save_rules.proofs.Laws.{own-none, own-for, for-out, for-at}
+use Rattle.save_rules.proofs.Rules.{own-none, own-for, for-out, for-at}
 use borrow.Author.Needs.{needs}
 use Rattle.save_rules.proofs.carries_own.Statement.{statement}
 use Rattle.save_rules.proofs.carries_own.Tie as tie

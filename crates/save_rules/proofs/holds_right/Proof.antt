@@ -1,4 +1,4 @@
-use Rattle.save_rules_rows.proofs.Laws.{holds}
+use Rattle.save_rules_rows.proofs.RowRules.{holds}
 use borrow.Author.Needs.{needs}
 use Rattle.save_rules.proofs.holds_right.Statement.{statement}
 use Rattle.save_rules.proofs.holds_right.Tie as tie

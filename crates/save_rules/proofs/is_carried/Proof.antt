@@ -1,5 +1,5 @@
 use mathlib.Core.Path.{sym}
-use Rattle.save_rules.proofs.Laws.{carried-free, carried-by, carried-absent}
+use Rattle.save_rules.proofs.Rules.{carried-free, carried-by, carried-absent}
 use borrow.Author.Needs.{needs}
 use Rattle.save_rules.proofs.is_carried.Statement.{statement}
 use Rattle.save_rules.proofs.is_carried.Tie as tie

@@ -2,7 +2,7 @@ use mathlib.Core.Path.{sym, ap, _∙_}
 use borrow.Author.Needs.{needs}
 use Rattle.meaning.specs.Octets.{same}
 use Rattle.memory.proofs.Marks.{never}
-use Rattle.save_rules.proofs.Laws.{mapped-not, mapped-named}
+use Rattle.save_rules.proofs.Rules.{mapped-not, mapped-named}
 use Rattle.save_rules.proofs.is_mapped_for.Statement.{statement}
 use Rattle.save_rules.proofs.is_mapped_for.Tie as tie
 

@@ -1,5 +1,5 @@
 use mathlib.Core.Path.{_∙_}
-use Rattle.save_rules.proofs.Laws.{use-mapped, use-awaiting}
+use Rattle.save_rules.proofs.Rules.{use-mapped, use-awaiting}
 use borrow.Author.Needs.{needs}
 use Rattle.save_rules.proofs.is_near.Statement.{statement}
 use Rattle.save_rules.proofs.is_near.Tie as tie

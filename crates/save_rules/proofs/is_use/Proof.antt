@@ -2,7 +2,7 @@ use mathlib.Core.Path.{sym, ap, _∙_}
 use mathlib.Core.Bool.{Bool, _&&_}
 use Rattle.meaning.specs.Save.{isName}
 use Rattle.memory.specs.Memory.{labelName}
-use Rattle.save_rules.proofs.Laws.{use-none}
+use Rattle.save_rules.proofs.Rules.{use-none}
 use borrow.Author.Needs.{needs}
 use Rattle.save_rules.proofs.is_use.Statement.{statement}
 use Rattle.save_rules.proofs.is_use.Tie as tie

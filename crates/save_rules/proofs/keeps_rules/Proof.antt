@@ -1,4 +1,4 @@
-use Rattle.save_rules.proofs.Laws.{kept}
+use Rattle.save_rules.proofs.Rules.{kept}
 use borrow.Author.Needs.{needs}
 use Rattle.save_rules.proofs.keeps_rules.Statement.{statement}
 use Rattle.save_rules.proofs.keeps_rules.Tie as tie

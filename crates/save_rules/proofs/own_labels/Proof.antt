@@ -5,7 +5,7 @@ use lib.ListN.{drop}
 use Rattle.meaning.specs.Octets.{all}
 use Rattle.meaning.specs.Save.{carriesOwn}
 use Rattle.memory.specs.Memory.{cardOf}
-use Rattle.save_rules_rows.proofs.Laws.{all-hit, all-miss, all-none, tree-there, trees-end}
+use Rattle.save_rules_rows.proofs.RowRules.{all-hit, all-miss, all-none, tree-there, trees-end}
 use borrow.Author.Needs.{needs}
 use Rattle.save_rules.proofs.own_labels.Statement.{statement}
 use Rattle.save_rules.proofs.own_labels.Tie as tie

@@ -6,7 +6,7 @@ use Rattle.meaning.specs.Octets.{all}
 use Rattle.meaning.specs.Save.{isUse}
 use Rattle.meaning.specs.Card.{labelCount}
 use Rattle.memory.specs.Memory.{cardOf}
-use Rattle.save_rules_rows.proofs.Laws.{all-hit, all-miss, all-none, label-there, labels-end}
+use Rattle.save_rules_rows.proofs.RowRules.{all-hit, all-miss, all-none, label-there, labels-end}
 use borrow.Author.Needs.{needs}
 use Rattle.save_rules.proofs.uses_good.Statement.{statement}
 use Rattle.save_rules.proofs.uses_good.Tie as tie

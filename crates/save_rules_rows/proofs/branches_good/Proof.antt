@@ -7,7 +7,7 @@ use Rattle.meaning.specs.Octets.{all}
 use Rattle.meaning.specs.Card.{treeAt}
 use Rattle.meaning.specs.Save.{isBranchLabel}
 use Rattle.memory.specs.Memory.{cardOf}
-use Rattle.save_rules_rows.proofs.Laws.{all-hit, all-miss, all-none, branch-there, branches-end}
+use Rattle.save_rules_rows.proofs.RowRules.{all-hit, all-miss, all-none, branch-there, branches-end}
 use borrow.Author.Needs.{needs}
 use Rattle.save_rules_rows.proofs.branches_good.Statement.{statement}
 use Rattle.save_rules_rows.proofs.branches_good.Tie as tie

@@ -1,5 +1,5 @@
 use mathlib.Core.Path.{sym}
-use Rattle.save_rules_rows.proofs.Laws.{branch-none, branch-low, branch-high}
+use Rattle.save_rules_rows.proofs.RowRules.{branch-none, branch-low, branch-high}
 use Rattle.save_rules_rows.proofs.is_branch_label.Statement.{statement}
 use Rattle.save_rules_rows.proofs.is_branch_label.Tie as tie
 

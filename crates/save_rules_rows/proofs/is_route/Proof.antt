@@ -1,6 +1,6 @@
 use mathlib.Core.Path.{sym, ap}
 use lib.ListN.{length}
-use Rattle.save_rules_rows.proofs.Laws.{route-far, route-four, route-sixteen}
+use Rattle.save_rules_rows.proofs.RowRules.{route-far, route-four, route-sixteen}
 use borrow.Author.Needs.{needs}
 use Rattle.save_rules_rows.proofs.is_route.Statement.{statement}
 use Rattle.save_rules_rows.proofs.is_route.Tie as tie

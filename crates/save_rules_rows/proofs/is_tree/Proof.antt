@@ -1,7 +1,7 @@
 use mathlib.Core.Path.{sym, ap, _∙_}
 use Rattle.meaning.specs.Save.{isName}
 use Rattle.memory.proofs.Trees.{branches-length}
-use Rattle.save_rules_rows.proofs.Laws.{tree-parts, and-then, and-not}
+use Rattle.save_rules_rows.proofs.RowRules.{tree-parts, and-then, and-not}
 use borrow.Author.Needs.{needs}
 use Rattle.save_rules_rows.proofs.is_tree.Statement.{statement}
 use Rattle.save_rules_rows.proofs.is_tree.Tie as tie

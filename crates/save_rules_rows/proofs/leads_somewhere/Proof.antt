@@ -1,6 +1,6 @@
 use mathlib.Core.Path.{sym}
 use Rattle.memory.proofs.Trees.{branches-length}
-use Rattle.save_rules_rows.proofs.Laws.{leaf-leads, branch-leads}
+use Rattle.save_rules_rows.proofs.RowRules.{leaf-leads, branch-leads}
 use borrow.Author.Needs.{needs}
 use Rattle.save_rules_rows.proofs.leads_somewhere.Statement.{statement}
 use Rattle.save_rules_rows.proofs.leads_somewhere.Tie as tie

@@ -5,7 +5,7 @@ use lib.ListN.{drop}
 use Rattle.meaning.specs.Octets.{any}
 use Rattle.meaning.specs.Card.{named}
 use Rattle.memory.specs.Memory.{cardOf}
-use Rattle.save_rules_rows.proofs.Laws.{any-hit, any-miss, any-none, tree-there, tree-for, trees-end}
+use Rattle.save_rules_rows.proofs.RowRules.{any-hit, any-miss, any-none, tree-there, tree-for, trees-end}
 use borrow.Author.Needs.{needs}
 use Rattle.save_rules_rows.proofs.name_from.Statement.{statement}
 use Rattle.save_rules_rows.proofs.name_from.Tie as tie

@@ -4,7 +4,7 @@ use mathlib.Core.Path.{_≡_, refl, sym, _∙_}
 use lib.ListN.{drop}
 use Rattle.meaning.specs.Save.{onceEach, sameName}
 use Rattle.memory.specs.Memory.{cardOf}
-use Rattle.save_rules_rows.proofs.Laws.{once-hit, once-miss, once-none, tree-there, name-like, trees-end}
+use Rattle.save_rules_rows.proofs.RowRules.{once-hit, once-miss, once-none, tree-there, name-like, trees-end}
 use borrow.Author.Needs.{needs}
 use Rattle.save_rules_rows.proofs.names_once.Statement.{statement}
 use Rattle.save_rules_rows.proofs.names_once.Tie as tie

@@ -4,7 +4,7 @@ use lib.ListN.{drop}
 use Rattle.meaning.specs.Octets.{any}
 use Rattle.meaning.specs.Card.{isFor}
 use Rattle.memory.specs.Memory.{cardOf}
-use Rattle.save_rules_rows.proofs.Laws.{any-hit, any-miss, any-none, route-there, route-for, routes-end}
+use Rattle.save_rules_rows.proofs.RowRules.{any-hit, any-miss, any-none, route-there, route-for, routes-end}
 use borrow.Author.Needs.{needs}
 use Rattle.save_rules_rows.proofs.root_from.Statement.{statement}
 use Rattle.save_rules_rows.proofs.root_from.Tie as tie

@@ -1,5 +1,5 @@
 -- `save_texts::opaque_of` meets its contract: what stands behind the opaque length field, if anything. Assumes nothing.
-use Rattle.save_texts.proofs.Laws.{opaque-none, opaque-all}
+use Rattle.save_texts.proofs.Texts.{opaque-none, opaque-all}
 use native.Mathlib.Omega.{arith}
 use borrow.Author.Needs.{needs}
 use Rattle.save_texts.proofs.opaque_of.Statement.{statement}

@@ -1,5 +1,5 @@
 -- `save_texts::put_name` meets its contract: two spaces, one behind the other, are the name. Assumes nothing.
-use Rattle.save_texts.proofs.Laws.{name-put}
+use Rattle.save_texts.proofs.Texts.{name-put}
 use borrow.Author.Needs.{needs}
 use Rattle.save_texts.proofs.put_name.Statement.{statement}
 use Rattle.save_texts.proofs.put_name.Tie as tie

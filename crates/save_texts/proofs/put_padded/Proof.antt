@@ -6,7 +6,7 @@ use mathlib.Core.Path.{_≡_, refl}
 use lib.ListN.{length, take, length-set}
 use Rattle.meaning.specs.Save.{padded}
 use Rattle.octets.proofs.Parts.{front}
-use Rattle.save_texts.proofs.Laws.{filled-next, filled-done}
+use Rattle.save_texts.proofs.Texts.{filled-next, filled-done}
 use Rattle.save_texts.proofs.put_padded.Statement.{statement}
 use Rattle.save_texts.proofs.put_padded.Tie as tie
 use Rattle.octets.proofs.at.Reads as at-reads

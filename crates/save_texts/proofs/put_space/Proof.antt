@@ -1,5 +1,5 @@
 -- `save_texts::put_space` meets its contract: two parts of the output, one behind the other, are the space. Assumes nothing.
-use Rattle.save_texts.proofs.Laws.{space-put}
+use Rattle.save_texts.proofs.Texts.{space-put}
 use borrow.Author.Needs.{needs}
 use Rattle.save_texts.proofs.put_space.Statement.{statement}
 use Rattle.save_texts.proofs.put_space.Tie as tie

@@ -4,7 +4,7 @@ use mathlib.Core.Path.{sym, _∙_}
 use Prim.Native.Nat.{_+_}
 use Rattle.memory.specs.Memory.{baseIn, labelIn}
 use Rattle.save_records.proofs.Sizes.{use-length}
-use Rattle.save_writer.proofs.Laws.{label-skip, label-put}
+use Rattle.save_writer.proofs.Saved.{label-skip, label-put}
 use borrow.Author.Needs.{needs}
 use Rattle.save_writer.proofs.put_label.Statement.{statement}
 use Rattle.save_writer.proofs.put_label.Tie as tie

@@ -5,7 +5,7 @@ use mathlib.Core.Path.{refl}
 use borrow.Author.Needs.{needs}
 use Rattle.meaning.specs.Card.{labelCount}
 use Rattle.save_records.proofs.Rows.{Rows, rows-none, rows-room, rows-more, rows-done}
-use Rattle.save_writer.proofs.Laws.{labelRow, labels-lot}
+use Rattle.save_writer.proofs.Saved.{labelRow, labels-lot}
 use Rattle.save_writer.proofs.put_labels.Statement.{statement}
 use Rattle.save_writer.proofs.put_labels.Tie as tie
 

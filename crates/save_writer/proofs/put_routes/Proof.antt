@@ -6,7 +6,7 @@ use Rattle.meaning.specs.Save.{routeSize}
 use Rattle.memory.specs.Memory.{routeCount, routeIn}
 use Rattle.save_records.proofs.Rows.{Rows, rows-none, rows-room, rows-lent, rows-done}
 use Rattle.meaning.specs.SaveFields.{route-length}
-use Rattle.save_writer.proofs.Laws.{routeRow, routes-lot}
+use Rattle.save_writer.proofs.Saved.{routeRow, routes-lot}
 use Rattle.save_writer.proofs.put_routes.Statement.{statement}
 use Rattle.save_writer.proofs.put_routes.Tie as tie
 

@@ -7,7 +7,7 @@ use Rattle.memory.proofs.Memory.{tree-at}
 use borrow.Author.Needs.{needs}
 use Rattle.memory.specs.Memory.{treeCount}
 use Rattle.save_records.proofs.Rows.{Rows, rows-none, rows-room, rows-lent, rows-done}
-use Rattle.save_writer.proofs.Laws.{treeRow, trees-lot, tree-size}
+use Rattle.save_writer.proofs.Saved.{treeRow, trees-lot, tree-size}
 use Rattle.save_writer.proofs.put_trees.Statement.{statement}
 use Rattle.save_writer.proofs.put_trees.Tie as tie
 

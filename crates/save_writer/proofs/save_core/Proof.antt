@@ -1,7 +1,7 @@
 -- `save_writer::save_core` meets its contract: 16 where the save is longer than the output, and else what `write_save` does. Assumes nothing.
 use native.Mathlib.Omega.{arith}
 use Rattle.memory.specs.Memory.{cardOf}
-use Rattle.save_writer.proofs.Laws.{does-short, does-save}
+use Rattle.save_writer.proofs.Saved.{does-short, does-save}
 use borrow.Author.Needs.{needs}
 use Rattle.save_writer.proofs.save_core.Statement.{statement}
 use Rattle.save_writer.proofs.save_core.Tie as tie

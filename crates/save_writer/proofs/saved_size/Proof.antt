@@ -1,6 +1,6 @@
 -- `save_writer::saved_size` meets its contract: the sum of the sizes of all records. Assumes nothing.
 use native.Mathlib.Omega.{arith}
-use Rattle.save_writer.proofs.Laws.{saved-size}
+use Rattle.save_writer.proofs.Saved.{saved-size}
 use borrow.Author.Needs.{needs}
 use Rattle.save_writer.proofs.saved_size.Statement.{statement}
 use Rattle.save_writer.proofs.saved_size.Tie as tie

@@ -1,6 +1,6 @@
 -- `save_writer::write_save` meets its contract: the head, the routes, the trees and the labels, each behind the one before, are the save. Assumes nothing.
 use native.Mathlib.Omega.{arith}
-use Rattle.save_writer.proofs.Laws.{parts-length, parts-laid}
+use Rattle.save_writer.proofs.Saved.{parts-length, parts-laid}
 use borrow.Author.Needs.{needs}
 use Rattle.save_writer.proofs.write_save.Statement.{statement}
 use Rattle.save_writer.proofs.write_save.Tie as tie

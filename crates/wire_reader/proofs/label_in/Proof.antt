@@ -1,7 +1,7 @@
 -- `wire_reader::label_in` meets its contract: each return's tests are those of one law.
 -- Assumes nothing.
 use borrow.Author.Needs.{needs}
-use Rattle.wire_reader.proofs.Laws.{label-size, label-low, label-high, label-right}
+use Rattle.wire_reader.proofs.Places.{label-size, label-low, label-high, label-right}
 use Rattle.wire_reader.proofs.label_in.Statement.{statement}
 use Rattle.wire_reader.proofs.label_in.Tie as tie
 

@@ -8,7 +8,7 @@ use lib.ListN.{length, drop}
 use borrow.Author.Needs.{needs}
 use Rattle.meaning.specs.Octets.{any}
 use Rattle.meaning.specs.Wire.{tlvs, isOverrun, found, must}
-use Rattle.wire_reader.proofs.Laws.{whole-within, overrun-on, must-here, must-on, must-end, must-past}
+use Rattle.wire_reader.proofs.Places.{whole-within, overrun-on, must-here, must-on, must-end, must-past}
 use Rattle.wire_reader.proofs.must_follow.Statement.{statement}
 use Rattle.wire_reader.proofs.must_follow.Tie as tie
 

@@ -4,7 +4,7 @@ use native.Mathlib.Omega.{arith}
 use denote.Ref.{now}
 use borrow.Author.Needs.{needs}
 use borrow.Author.Tests.{le-ltb}
-use Rattle.wire_reader.proofs.Laws.{no-head, no-value, is-whole}
+use Rattle.wire_reader.proofs.Places.{no-head, no-value, is-whole}
 use Rattle.wire_reader.proofs.tlv_at.Statement.{statement}
 use Rattle.wire_reader.proofs.tlv_at.Tie as tie
 

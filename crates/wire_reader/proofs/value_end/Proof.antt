@@ -4,7 +4,7 @@ use mathlib.Core.Path.{sym, ap, _∙_}
 use denote.Ref.{now}
 use borrow.Author.Needs.{needs}
 use Rattle.wire_reader.specs.Read.{endOf}
-use Rattle.wire_reader.proofs.Laws.{end-here, end-other}
+use Rattle.wire_reader.proofs.Places.{end-here, end-other}
 use Rattle.wire_reader.proofs.value_end.Statement.{statement}
 use Rattle.wire_reader.proofs.value_end.Tie as tie
 

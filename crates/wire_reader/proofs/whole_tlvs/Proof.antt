@@ -7,7 +7,7 @@ use mathlib.Core.Bool.{not}
 use lib.ListN.{length, drop}
 use borrow.Author.Needs.{needs}
 use Rattle.meaning.specs.Wire.{tlvs, isOverrun}
-use Rattle.wire_reader.proofs.Laws.{whole-within, overrun-on, overrun-end, overrun-past}
+use Rattle.wire_reader.proofs.Places.{whole-within, overrun-on, overrun-end, overrun-past}
 use Rattle.wire_reader.proofs.whole_tlvs.Statement.{statement}
 use Rattle.wire_reader.proofs.whole_tlvs.Tie as tie
 

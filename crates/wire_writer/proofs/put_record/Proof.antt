@@ -1,6 +1,6 @@
 -- `wire_writer::put_record` meets its contract: three parts of the output, one after the other, are one. Assumes nothing.
 use borrow.Author.Needs.{needs}
-use Rattle.wire_writer.proofs.Laws.{put-three}
+use Rattle.wire_writer.proofs.Record.{put-three}
 use Rattle.wire_writer.proofs.put_record.Statement.{statement}
 use Rattle.wire_writer.proofs.put_record.Tie as tie
 

@@ -1,4 +1,4 @@
--- What the loops over routes, trees, branches and labels know, and what the tests of one row say. Assumes nothing.
+-- What the loops over routes, trees and branches know, and what the tests of one row say. Assumes nothing.
 use Prim.Native.Nat.{ℕ, suc, _+_, _≤_, _<_}
 use native.Mathlib.Numerals.{add-one}
 use native.Mathlib.Omega.{arith}

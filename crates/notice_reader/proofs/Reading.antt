@@ -1,4 +1,4 @@
--- The laws by which the writer and the reader of notices follow the definitions. Assumes nothing.
+-- The laws by which the reader of notices follows the definitions. Assumes nothing.
 use Prim.Native.Nat.{ℕ, _%_, _≤_, _<_}
 use mathlib.Core.Path.{_≡_, refl, sym, _∙_}
 use mathlib.Core.Bool.{true, false, and-false, false-and}
@@ -10,7 +10,7 @@ use Rattle.meaning.specs.Octets.{twoAt, fourAt, _when_else_}
 use Rattle.meaning.specs.Notice.{isStatus, statusCode, noticeIn, isFramed, isTold, noticeRefusal}
 use Rattle.notice_reader.specs.Read.{readOf}
 use Rattle.notice_reader.specs.declared.Read.the-variants.{Refused, Says}
-use Rattle.notice_status.proofs.Laws.{heeded}
+use Rattle.notice_status.proofs.Status.{heeded}
 
 -- ---- reading: the frame
 

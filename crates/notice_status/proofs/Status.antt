@@ -1,4 +1,4 @@
--- The laws by which the writer and the reader of notices follow the definitions. Assumes nothing.
+-- What a notice tells and copies, by the tests of the code. Assumes nothing.
 use Prim.Native.Nat.{ℕ, _+_, _≤_, _<_}
 use native.Mathlib.Omega.{arith}
 use mathlib.Core.Logic.{_⊎_, inl, inr}

@@ -1,4 +1,4 @@
--- The laws by which the writer and the reader of notices follow the definitions. Assumes nothing.
+-- The laws by which the writer of notices follows the definitions. Assumes nothing.
 use Prim.Native.Nat.{ℕ, _+_, _≤_, _<_}
 use native.Mathlib.Omega.{arith}
 use mathlib.Core.Path.{_≡_, refl, sym, ap, _∙_}
@@ -16,7 +16,7 @@ use Rattle.meaning.specs.Notice.{statusOf, statusCode, copiedId, copiedType, no
 use Rattle.meaning.specs.NoticeLaws.{record-length, far, silent, short, tells}
 use Rattle.octets.specs.Part.{mid}
 use Rattle.octets.proofs.Parts.{mid-mid}
-use Rattle.notice_status.proofs.Laws.{heeded}
+use Rattle.notice_status.proofs.Status.{heeded}
 
 -- ---- whether a record is due
 
