@@ -10,7 +10,9 @@ use Rattle.bench.proofs.reply.Statement.{statement}
 use Rattle.bench.proofs.reply.Tie as tie
 
 slice-aggregate-answer : tie.Need-slice-aggregate-answer
-slice-aggregate-answer c = sym (length-take-le (c .before .before .before .before .before .before .args .state .kept) (c .before .before .before .before .before .before .args .line .now) (omega arith))
+slice-aggregate-answer c =
+    let start = c .before .before .before .before .before .before in
+    sym (length-take-le (start .args .state .kept) (start .args .line .now) (omega arith))
 
 answer-requires : tie.Need-answer-requires
 answer-requires c κs = search needs
@@ -19,10 +21,12 @@ same-length : tie.Need-same-length
 same-length c = search needs
 
 returns : tie.Need-returns
-returns c = (
-  c .before .before .answer .ensures .says .short,
-  λ o p e. rw (sym (keeps-line (c .before .before .before .before .before .before .before .before .before .before .args .line .now) (c .before .before .before .before .before .before .before .before .before .before .args .state .kept) o (c .before .before .before .before .before .before .before .if1 .taken) p)) (c .before .before .answer .ensures),
-)
+returns c =
+    let at-if1 = c .before .before .before .before .before .before .before in
+    let start = at-if1 .before .before .before in (
+      c .before .before .answer .ensures .says .short,
+      λ o p e. rw (sym (keeps-line (start .args .line .now) (start .args .state .kept) o (at-if1 .if1 .taken) p)) (c .before .before .answer .ensures),
+    )
 
 slice-aggregate-put-count : tie.Need-slice-aggregate-put-count
 slice-aggregate-put-count c = search needs
@@ -35,10 +39,11 @@ same-length-2 c = search needs
 
 returns-2 : tie.Need-returns-2
 unfolding replyTo only ascii
-returns-2 c = (
-  omega arith,
-  λ o p e. rw (keeps-long (c .before .before .before .before .before .before .before .before .args .line .now) (c .before .before .before .before .before .before .before .before .args .state .kept) o (c .before .before .before .before .before .if1 .left) p e) (record { says = says-only _ _ _ _ _ (omega arith) (c .before .before .put-count .ensures .0); next = refl }),
-)
+returns-2 c =
+    let start = c .before .before .before .before .before .before .before .before in (
+      omega arith,
+      λ o p e. rw (keeps-long (start .args .line .now) (start .args .state .kept) o (c .before .before .before .before .before .if1 .left) p e) (record { says = says-only _ _ _ _ _ (omega arith) (c .before .before .put-count .ensures .0); next = refl }),
+    )
 
 pub reply-spec : {M : Type 1} → statement M
 reply-spec =

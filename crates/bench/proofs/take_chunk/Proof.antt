@@ -34,13 +34,15 @@ loop-less c = search needs
 
 loop-again : tie.Need-loop-again Inv-loop μ-loop
 loop-again c =
-    let chunk = c .before .before .before .before .before .before .before .before .before .before .before .before .before .before .before .args .chunk .now in
-    let i = c .before .before .before .before .before .before .before .before .before .before .before .loop .i in
+    let at-loop = c .before .before .before .before .before .before .before .before .before .before .before in
+    let start = at-loop .before .before .before .before in
+    let chunk = start .args .chunk .now in
+    let i = at-loop .loop .i in
     let h : i < length chunk = omega arith in (
       omega arith,
       omega arith,
       omega arith,
-      λ s k. rw (sym (after-next s chunk i h)) (c .before .before .before .before .take-octet .ensures _ (c .before .before .before .before .before .before .before .before .before .before .before .loop .inv .3 s k)),
+      λ s k. rw (sym (after-next s chunk i h)) (c .before .before .before .before .take-octet .ensures _ (at-loop .loop .inv .3 s k)),
     )
 
 same-length : tie.Need-same-length Inv-loop μ-loop

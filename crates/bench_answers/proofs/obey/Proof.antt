@@ -69,7 +69,9 @@ part-on-tree-end : tie.Need-part-on-tree-end
 part-on-tree-end c = lies _ _ _ (c .before .before .before .before .before .before .before .pre .0) (c .before .before .before .order4 .given .1) .1
 
 on-tree-requires : tie.Need-on-tree-requires
-on-tree-requires c κs = (short _ _ _ (lies _ _ _ (c .before .before .before .before .before .before .before .before .before .pre .0) (c .before .before .before .before .before .order4 .given .1)), c .before .before .before .before .before .before .before .before .before .pre .1)
+on-tree-requires c κs =
+    let start = c .before .before .before .before .before .before .before .before .before in
+    (short _ _ _ (lies _ _ _ (start .pre .0) (c .before .before .before .before .before .order4 .given .1)), start .pre .1)
 
 enum-told-3 : tie.Need-enum-told-3
 enum-told-3 c = search needs
@@ -105,10 +107,14 @@ part-on-restore-end : tie.Need-part-on-restore-end
 part-on-restore-end c = lies _ _ _ (c .before .before .before .before .before .before .before .pre .0) (c .before .before .before .order5 .given .1) .1
 
 on-restore-requires : tie.Need-on-restore-requires
-on-restore-requires c κs = (save-short _ _ _ (lies _ _ _ (c .before .before .before .before .before .before .before .before .before .pre .0) (c .before .before .before .before .before .order5 .given .1)), c .before .before .before .before .before .before .before .before .before .pre .1)
+on-restore-requires c κs =
+    let start = c .before .before .before .before .before .before .before .before .before in
+    (save-short _ _ _ (lies _ _ _ (start .pre .0) (c .before .before .before .before .before .order5 .given .1)), start .pre .1)
 
 on-event-requires : tie.Need-on-event-requires
-on-event-requires c κs = (c .before .before .before .before .before .before .pre .0, written (c .before .before .before .before .before .before .args .order) (c .before .before .before .match .keys10), c .before .before .before .before .before .before .pre .1)
+on-event-requires c κs =
+    let start = c .before .before .before .before .before .before in
+    (start .pre .0, written (start .args .order) (c .before .before .before .match .keys10), start .pre .1)
 
 returns : tie.Need-returns
 unfolding meant replyTo only counted ascii
@@ -126,7 +132,9 @@ same-length-2 c = search needs
 
 returns-3 : tie.Need-returns-3
 unfolding meant replyTo only counted ascii
-returns-3 c = rw (c .before .before .before .before .before .before .before .before .order .given .1) (says-counted (start _) _ _ _ _ (c .before .before .before .start .ensures .0) (c .before .before .before .start .ensures .1 _) (omega arith) (c .before .before .put-count2 .ensures .0))
+returns-3 c =
+    let at-order = c .before .before .before .before .before .before .before .before in
+    rw (at-order .order .given .1) (says-counted (start _) _ _ _ _ (c .before .before .before .start .ensures .0) (c .before .before .before .start .ensures .1 _) (omega arith) (c .before .before .put-count2 .ensures .0))
 
 same-length-3 : tie.Need-same-length-3
 same-length-3 c = search needs
@@ -154,7 +162,10 @@ same-length-6 c = search needs
 
 returns-7 : tie.Need-returns-7
 unfolding meant replyTo only counted ascii
-returns-7 c = rw (c .before .before .before .before .before .before .before .enum-told3 .given .1) (says-only _ _ _ _ _ (omega arith) (c .before .before .put-count4 .ensures .0 ∙ ap (countLine (ascii "free")) (c .before .before .before .free-labels .ensures (c .before .before .before .before .before .before .before .before .before .before .before .args .names .now))))
+returns-7 c =
+    let at-enum-told3 = c .before .before .before .before .before .before .before in
+    let start = at-enum-told3 .before .before .before .before in
+    rw (at-enum-told3 .enum-told3 .given .1) (says-only _ _ _ _ _ (omega arith) (c .before .before .put-count4 .ensures .0 ∙ ap (countLine (ascii "free")) (c .before .before .before .free-labels .ensures (start .args .names .now))))
 
 same-length-7 : tie.Need-same-length-7
 same-length-7 c = search needs

@@ -21,8 +21,10 @@ same-length c = search needs
 returns : tie.Need-returns
 unfolding replyTo ascii
 returns c =
-    let a = c .before .before .before .before .before .before .before .before .before .args in
-    λ number room os. says-fed _ _ (cardOf (a .numbers .now) os) room _ (c .before .before .before .before .before .before .lookup-label-core .ensures os) (c .before .before .put-feed .ensures .1) (c .before .before .put-feed .ensures .0)
+    let at-lookup-label-core = c .before .before .before .before .before .before in
+    let start = at-lookup-label-core .before .before .before in
+    let a = start .args in
+    λ number room os. says-fed _ _ (cardOf (a .numbers .now) os) room _ (at-lookup-label-core .lookup-label-core .ensures os) (c .before .before .put-feed .ensures .1) (c .before .before .put-feed .ensures .0)
 
 pub on-label-spec : {M : Type 1} → statement M
 on-label-spec =

@@ -45,9 +45,11 @@ same-length c = search needs
 returns : tie.Need-returns
 unfolding replyTo ascii
 returns c =
-    let a = c .before .before .before .before .before .before .before .before .before .before .before .before .before .before .before .args in
+    let at-decode-hex = c .before .before .before .before .before .before .before .before .before .before in
+    let start = at-decode-hex .before .before .before .before .before in
+    let a = start .args in
     let given : List ℕ → Out = λ s. restore s (cardOf (a .numbers .now) (a .names .now)) in
-    let octets = decoded (c .before .before .before .before .before .before .before .before .before .before .decode-hex .ensures .0) in
+    let octets = decoded (at-decode-hex .decode-hex .ensures .0) in
     λ number room. says-counted (given _) _ _ room _ (c .before .before .before .before .before .restore .ensures .0 ∙ ap (λ s. given s .answer) octets) (c .before .before .before .before .before .restore .ensures .1 ∙ ap (λ s. given s .card) octets) (omega arith) (c .before .before .put-count .ensures .0)
 
 pub on-restore-spec : {M : Type 1} → statement M

@@ -38,8 +38,11 @@ same-length c = search needs
 returns : tie.Need-returns
 unfolding replyTo ascii
 returns c =
-    let a = c .before .before .before .before .before .before .before .before .before .before .before .before .before .before .before .args in
-    λ number room. says-fed _ _ (cardOf (a .numbers .now) (a .names .now)) room _ (c .before .before .before .before .before .before .lookup-name-core .ensures ∙ ap (λ s. lookupName s (cardOf (a .numbers .now) (a .names .now))) (decoded (c .before .before .before .before .before .before .before .before .before .before .decode-hex .ensures .0))) (c .before .before .put-feed .ensures .1) (c .before .before .put-feed .ensures .0)
+    let at-lookup-name-core = c .before .before .before .before .before .before in
+    let at-decode-hex = at-lookup-name-core .before .before .before .before in
+    let start = at-decode-hex .before .before .before .before .before in
+    let a = start .args in
+    λ number room. says-fed _ _ (cardOf (a .numbers .now) (a .names .now)) room _ (at-lookup-name-core .lookup-name-core .ensures ∙ ap (λ s. lookupName s (cardOf (a .numbers .now) (a .names .now))) (decoded (at-decode-hex .decode-hex .ensures .0))) (c .before .before .put-feed .ensures .1) (c .before .before .put-feed .ensures .0)
 
 pub on-tree-spec : {M : Type 1} → statement M
 on-tree-spec =

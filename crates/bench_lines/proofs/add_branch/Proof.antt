@@ -29,10 +29,14 @@ same-length : tie.Need-same-length
 same-length c = search needs
 
 returns-2 : tie.Need-returns-2
-returns-2 c = (
-  rw (branch-one _ _ (c .before .before .before .before .before .before .before .before .before .before .before .before .before .before .before .before .before .before .if1 .left)) (adds-then (c .before .before .before .before .before .before .before .before .before .before .before .before .before .before .before .add .ensures) (adds-then (c .before .before .before .before .before .before .before .before .before .before .before .add-number .ensures .0) (adds-then (c .before .before .before .before .before .before .add2 .ensures) (c .before .before .add-number2 .ensures .0)))),
-  omega arith,
-)
+returns-2 c =
+    let at-add2 = c .before .before .before .before .before .before in
+    let at-add-number = at-add2 .before .before .before .before .before in
+    let at-add = at-add-number .before .before .before .before in
+    let at-if1 = at-add .before .before .before in (
+      rw (branch-one _ _ (at-if1 .if1 .left)) (adds-then (at-add .add .ensures) (adds-then (at-add-number .add-number .ensures .0) (adds-then (at-add2 .add2 .ensures) (c .before .before .add-number2 .ensures .0)))),
+      omega arith,
+    )
 
 pub add-branch-spec : {M : Type 1} → statement M
 add-branch-spec =

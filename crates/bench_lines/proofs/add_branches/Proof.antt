@@ -36,11 +36,13 @@ loop-less c = search needs
 
 loop-again : tie.Need-loop-again Inv-loop μ-loop
 loop-again c =
-    let h : c .before .before .before .before .before .before .loop .i < length (c .before .before .before .before .before .before .before .before .before .args .branches .now) = omega arith in (
+    let at-loop = c .before .before .before .before .before .before in
+    let start = at-loop .before .before .before in
+    let h : at-loop .loop .i < length (start .args .branches .now) = omega arith in (
       omega arith,
       omega arith,
       omega arith,
-      rw (sym (branches-more (c .before .before .before .before .before .before .before .before .before .args .branches .now) (c .before .before .before .before .before .before .loop .i) h)) (adds-then (c .before .before .before .before .before .before .loop .inv .3) (c .before .before .add-branch .ensures .0)),
+      rw (sym (branches-more (start .args .branches .now) (at-loop .loop .i) h)) (adds-then (at-loop .loop .inv .3) (c .before .before .add-branch .ensures .0)),
     )
 
 same-length : tie.Need-same-length Inv-loop μ-loop

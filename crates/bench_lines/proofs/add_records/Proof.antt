@@ -20,7 +20,11 @@ same-length : tie.Need-same-length
 same-length c = search needs
 
 returns-2 : tie.Need-returns-2
-returns-2 c = (rw (records-some (c .before .before .before .before .before .before .before .before .before .before .before .before .args .records .now) (c .before .before .before .before .before .before .before .before .before .if1 .left)) (adds-then (c .before .before .before .before .before .before .add .ensures) (c .before .before .add-hex .ensures .0)), omega arith)
+returns-2 c =
+    let at-add = c .before .before .before .before .before .before in
+    let at-if1 = at-add .before .before .before in
+    let start = at-if1 .before .before .before in
+    (rw (records-some (start .args .records .now) (at-if1 .if1 .left)) (adds-then (at-add .add .ensures) (c .before .before .add-hex .ensures .0)), omega arith)
 
 pub add-records-spec : {M : Type 1} → statement M
 add-records-spec =

@@ -28,10 +28,13 @@ same-length c = search needs
 
 returns : tie.Need-returns
 unfolding countLine
-returns c = (
-  adds-then (c .before .before .before .before .before .before .before .before .before .before .before .before .before .before .before .before .add .ensures) (adds-then (c .before .before .before .before .before .before .before .before .before .before .before .add2 .ensures) (adds-then (c .before .before .before .before .before .before .before .add-number .ensures .0) (c .before .before .add3 .ensures))) .text,
-  omega (arith, c .before .before .before .before .before .before .before .before .before .before .before .before .before .before .before .before .add .ensures .count),
-)
+returns c =
+    let at-add-number = c .before .before .before .before .before .before .before in
+    let at-add2 = at-add-number .before .before .before .before in
+    let at-add = at-add2 .before .before .before .before .before in (
+      adds-then (at-add .add .ensures) (adds-then (at-add2 .add2 .ensures) (adds-then (at-add-number .add-number .ensures .0) (c .before .before .add3 .ensures))) .text,
+      omega (arith, at-add .add .ensures .count),
+    )
 
 pub put-count-spec : {M : Type 1} → statement M
 put-count-spec =

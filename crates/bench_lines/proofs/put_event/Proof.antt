@@ -31,10 +31,15 @@ same-length c = search needs
 
 returns : tie.Need-returns
 unfolding eventLine
-returns c = (
-  adds-then (c .before .before .before .before .before .before .before .before .before .before .before .before .before .before .before .before .before .before .before .before .add .ensures) (adds-then (c .before .before .before .before .before .before .before .before .before .before .before .before .before .before .before .add2 .ensures) (adds-then (c .before .before .before .before .before .before .before .before .before .before .before .add-number .ensures .0) (adds-then (c .before .before .before .before .before .before .before .add-records .ensures .0) (c .before .before .add3 .ensures)))) .text,
-  omega (arith, c .before .before .before .before .before .before .before .before .before .before .before .before .before .before .before .before .before .before .before .before .add .ensures .count, c .before .before .before .before .before .before .before .before .before .before .before .before .before .before .before .before .before .before .before .before .before .before .before .before .before .pre),
-)
+returns c =
+    let at-add-records = c .before .before .before .before .before .before .before in
+    let at-add-number = at-add-records .before .before .before .before in
+    let at-add2 = at-add-number .before .before .before .before in
+    let at-add = at-add2 .before .before .before .before .before in
+    let start = at-add .before .before .before .before .before in (
+      adds-then (at-add .add .ensures) (adds-then (at-add2 .add2 .ensures) (adds-then (at-add-number .add-number .ensures .0) (adds-then (at-add-records .add-records .ensures .0) (c .before .before .add3 .ensures)))) .text,
+      omega (arith, at-add .add .ensures .count, start .pre),
+    )
 
 pub put-event-spec : {M : Type 1} → statement M
 put-event-spec =

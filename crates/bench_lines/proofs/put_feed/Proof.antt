@@ -32,10 +32,16 @@ same-length c = search needs
 
 returns : tie.Need-returns
 unfolding feedLine ascii
-returns c = (
-  feed-nothing (c .before .before .before .before .before .before .before .before .before .before .before .before .before .before .before .before .before .before .before .before .before .add .ensures) (c .before .before .before .before .before .before .before .before .before .before .before .before .before .before .before .before .before .add-leaf .ensures .0) (c .before .before .before .before .before .before .before .before .before .before .before .before .before .add-sixteen .ensures .0) (c .before .before .before .before .before .before .before .before .before .before .if1 .taken) (c .before .before .before .before .before .before .before .add2 .ensures) (c .before .before .add3 .ensures) .text,
-  omega (arith, c .before .before .add3 .ensures .count, c .before .before .before .before .before .before .before .add2 .ensures .count, c .before .before .before .before .before .before .before .before .before .before .before .before .before .add-sixteen .ensures .1, c .before .before .before .before .before .before .before .before .before .before .before .before .before .before .before .before .before .add-leaf .ensures .1, c .before .before .before .before .before .before .before .before .before .before .before .before .before .before .before .before .before .before .before .before .before .add .ensures .count, c .before .before .before .before .before .before .before .before .before .before .before .before .before .before .before .before .before .before .before .before .before .before .before .before .before .pre),
-)
+returns c =
+    let at-add2 = c .before .before .before .before .before .before .before in
+    let at-if1 = at-add2 .before .before .before in
+    let at-add-sixteen = at-if1 .before .before .before in
+    let at-add-leaf = at-add-sixteen .before .before .before .before in
+    let at-add = at-add-leaf .before .before .before .before in
+    let start = at-add .before .before .before .before in (
+      feed-nothing (at-add .add .ensures) (at-add-leaf .add-leaf .ensures .0) (at-add-sixteen .add-sixteen .ensures .0) (at-if1 .if1 .taken) (at-add2 .add2 .ensures) (c .before .before .add3 .ensures) .text,
+      omega (arith, c .before .before .add3 .ensures .count, at-add2 .add2 .ensures .count, at-add-sixteen .add-sixteen .ensures .1, at-add-leaf .add-leaf .ensures .1, at-add .add .ensures .count, start .pre),
+    )
 
 slice-aggregate-add-3 : tie.Need-slice-aggregate-add-3
 slice-aggregate-add-3 c = search needs
@@ -48,10 +54,14 @@ same-length-2 c = search needs
 
 returns-2 : tie.Need-returns-2
 unfolding feedLine ascii
-returns-2 c = (
-  feed-listed (c .before .before .before .before .before .before .before .before .before .before .before .before .before .before .before .before .add .ensures) (c .before .before .before .before .before .before .before .before .before .before .before .before .add-leaf .ensures .0) (c .before .before .before .before .before .before .before .before .add-sixteen .ensures .0) (c .before .before .before .before .before .if1 .left) (c .before .before .add4 .ensures) .text,
-  omega (arith, c .before .before .add4 .ensures .count, c .before .before .before .before .before .before .before .before .add-sixteen .ensures .1, c .before .before .before .before .before .before .before .before .before .before .before .before .add-leaf .ensures .1, c .before .before .before .before .before .before .before .before .before .before .before .before .before .before .before .before .add .ensures .count, c .before .before .before .before .before .before .before .before .before .before .before .before .before .before .before .before .before .before .before .before .pre),
-)
+returns-2 c =
+    let at-add-sixteen = c .before .before .before .before .before .before .before .before in
+    let at-add-leaf = at-add-sixteen .before .before .before .before in
+    let at-add = at-add-leaf .before .before .before .before in
+    let start = at-add .before .before .before .before in (
+      feed-listed (at-add .add .ensures) (at-add-leaf .add-leaf .ensures .0) (at-add-sixteen .add-sixteen .ensures .0) (c .before .before .before .before .before .if1 .left) (c .before .before .add4 .ensures) .text,
+      omega (arith, c .before .before .add4 .ensures .count, at-add-sixteen .add-sixteen .ensures .1, at-add-leaf .add-leaf .ensures .1, at-add .add .ensures .count, start .pre),
+    )
 
 pub put-feed-spec : {M : Type 1} → statement M
 put-feed-spec =

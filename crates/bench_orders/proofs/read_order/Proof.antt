@@ -36,7 +36,9 @@ with-words-requires c κs = search needs
 
 returns-3 : tie.Need-returns-3
 unfolding orderOf saidBy meant
-returns-3 c = rw (le-leb (length (c .before .before .before .before .before .before .before .args .line .now)) 65536 (omega arith), word-some (c .before .before .before .before .next-word .ensures) (c .before .before .before .if2 .left), ← c .before .verb-of .ensures) (c .with-words .ensures)
+returns-3 c =
+    let start = c .before .before .before .before .before .before .before in
+    rw (le-leb (length (start .args .line .now)) 65536 (omega arith), word-some (c .before .before .before .before .next-word .ensures) (c .before .before .before .if2 .left), ← c .before .verb-of .ensures) (c .with-words .ensures)
 
 pub read-order-spec : {M : Type 1} → statement M
 read-order-spec =

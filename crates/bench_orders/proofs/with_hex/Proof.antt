@@ -30,25 +30,28 @@ enum-told-3 c = search needs
 returns : tie.Need-returns
 unfolding withOctets meant
 returns c =
+    let start = c .before .before .before .before .before .before in
     record {
       means = rw (c .enum-told .given .1) (as-hex _ _ _ (c .before .before .before .is-hex .ensures) (c .before .before .if1 .taken));
-      lies = lies _ _ _ _ (c .before .before .before .before .before .before .pre .0) (c .before .before .before .before .before .before .pre .1) (c .before .before .before .is-hex .ensures) (c .before .before .if1 .taken);
+      lies = lies _ _ _ _ (start .pre .0) (start .pre .1) (c .before .before .before .is-hex .ensures) (c .before .before .if1 .taken);
     }
 
 returns-2 : tie.Need-returns-2
 unfolding withOctets meant
 returns-2 c =
+    let start = c .before .before .before .before .before .before in
     record {
       means = rw (c .enum-told2 .given .1) (as-hex _ _ _ (c .before .before .before .is-hex .ensures) (c .before .before .if1 .taken));
-      lies = lies _ _ _ _ (c .before .before .before .before .before .before .pre .0) (c .before .before .before .before .before .before .pre .1) (c .before .before .before .is-hex .ensures) (c .before .before .if1 .taken);
+      lies = lies _ _ _ _ (start .pre .0) (start .pre .1) (c .before .before .before .is-hex .ensures) (c .before .before .if1 .taken);
     }
 
 returns-3 : tie.Need-returns-3
 unfolding withOctets meant
 returns-3 c =
+    let start = c .before .before .before .before .before .before in
     record {
       means = rw (c .enum-told3 .given .1) (as-hex _ _ _ (c .before .before .before .is-hex .ensures) (c .before .before .if1 .taken));
-      lies = lies _ _ _ _ (c .before .before .before .before .before .before .pre .0) (c .before .before .before .before .before .before .pre .1) (c .before .before .before .is-hex .ensures) (c .before .before .if1 .taken);
+      lies = lies _ _ _ _ (start .pre .0) (start .pre .1) (c .before .before .before .is-hex .ensures) (c .before .before .if1 .taken);
     }
 
 returns-4 : tie.Need-returns-4

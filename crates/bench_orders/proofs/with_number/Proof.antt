@@ -49,7 +49,9 @@ unfolding numbered meant
 returns-4 c = record { means = rw (c .enum-told4 .given .1) (as-number _ _ _ _ (c .before .before .before .before .before .read-number .ensures) (c .before .before .before .n .given .1)); lies = tt }
 
 returns-5 : tie.Need-returns-5
-returns-5 c = tells-bad _ _ (sym (as-number _ _ _ _ (c .before .before .before .before .read-number .ensures) (c .before .before .n .given .1)) ∙ numbered-other (c .before .before .before .before .before .before .before .args .verb) _ (c .match2 .keys4))
+returns-5 c =
+    let start = c .before .before .before .before .before .before .before in
+    tells-bad _ _ (sym (as-number _ _ _ _ (c .before .before .before .before .read-number .ensures) (c .before .before .n .given .1)) ∙ numbered-other (start .args .verb) _ (c .match2 .keys4))
 
 pub with-number-spec : {M : Type 1} → statement M
 with-number-spec =

@@ -51,9 +51,12 @@ is-hex-requires c κs = search needs
 returns-2 : tie.Need-returns-2
 unfolding does meant
 returns-2 c =
+    let at-read-number = c .before .before .before .before .before .before in
+    let at-enum-told = at-read-number .before .before in
+    let start = at-enum-told .before .before .before in
     record {
-      means = rw (c .before .before .before .before .before .before .before .before .enum-told .given .1) (one-hex _ _ _ (c .before .is-hex .ensures) (c .if1 .taken) ∙ first-number Said.take _ _ _ _ (c .before .before .before .before .before .before .read-number .ensures) (c .before .before .before .before .neighbour .given .1));
-      lies = lies _ _ _ _ (c .before .before .before .before .before .before .before .before .before .before .before .pre .2) (c .before .before .before .before .before .before .before .before .before .before .before .pre .3) (c .before .is-hex .ensures) (c .if1 .taken);
+      means = rw (at-enum-told .enum-told .given .1) (one-hex _ _ _ (c .before .is-hex .ensures) (c .if1 .taken) ∙ first-number Said.take _ _ _ _ (at-read-number .read-number .ensures) (c .before .before .before .before .neighbour .given .1));
+      lies = lies _ _ _ _ (start .pre .2) (start .pre .3) (c .before .is-hex .ensures) (c .if1 .taken);
     }
 
 enum-told-3 : tie.Need-enum-told-3
@@ -92,24 +95,30 @@ enum-told-4 c = search needs
 returns-3 : tie.Need-returns-3
 unfolding does meant
 returns-3 c =
+    let at-enum-told3 = c .before .before .before .before .before .before .before in
     record {
-      means = rw (c .before .before .before .before .before .before .before .enum-told3 .given .1) (no-number _ _ _ (c .before .before .read-number2 .ensures) (c .enum-told4 .given .1) ∙ first-hex Said.route _ _ _ (c .before .before .before .before .before .is-hex2 .ensures) (c .before .before .before .before .if2 .taken));
+      means = rw (at-enum-told3 .enum-told3 .given .1) (no-number _ _ _ (c .before .before .read-number2 .ensures) (c .enum-told4 .given .1) ∙ first-hex Said.route _ _ _ (c .before .before .before .before .before .is-hex2 .ensures) (c .before .before .before .before .if2 .taken));
       lies = tt;
     }
 
 returns-4 : tie.Need-returns-4
 unfolding does meant
 returns-4 c =
+    let at-is-hex2 = c .before .before .before .before .before .before in
+    let at-enum-told3 = at-is-hex2 .before .before in
+    let start = at-enum-told3 .before .before .before in
     record {
-      means = rw (c .before .before .before .before .before .before .before .before .enum-told3 .given .1) (one-number _ _ _ _ (c .before .before .before .read-number2 .ensures) (c .before .route .given .1) ∙ first-hex Said.route _ _ _ (c .before .before .before .before .before .before .is-hex2 .ensures) (c .before .before .before .before .before .if2 .taken));
-      lies = lies _ _ _ _ (c .before .before .before .before .before .before .before .before .before .before .before .pre .0) (c .before .before .before .before .before .before .before .before .before .before .before .pre .1) (c .before .before .before .before .before .before .is-hex2 .ensures) (c .before .before .before .before .before .if2 .taken);
+      means = rw (at-enum-told3 .enum-told3 .given .1) (one-number _ _ _ _ (c .before .before .before .read-number2 .ensures) (c .before .route .given .1) ∙ first-hex Said.route _ _ _ (at-is-hex2 .is-hex2 .ensures) (c .before .before .before .before .before .if2 .taken));
+      lies = lies _ _ _ _ (start .pre .0) (start .pre .1) (at-is-hex2 .is-hex2 .ensures) (c .before .before .before .before .before .if2 .taken);
     }
 
 returns-5 : tie.Need-returns-5
 unfolding does meant
 returns-5 c =
+    let at-read-number = c .before .before .before .before .before .before in
+    let at-enum-told = at-read-number .before .before in
     record {
-      means = rw (c .before .before .before .before .before .before .before .before .enum-told .given .1) (no-hex _ _ _ (c .before .is-hex .ensures) (c .if1 .left) ∙ first-number Said.take _ _ _ _ (c .before .before .before .before .before .before .read-number .ensures) (c .before .before .before .before .neighbour .given .1));
+      means = rw (at-enum-told .enum-told .given .1) (no-hex _ _ _ (c .before .is-hex .ensures) (c .if1 .left) ∙ first-number Said.take _ _ _ _ (at-read-number .read-number .ensures) (c .before .before .before .before .neighbour .given .1));
       lies = tt;
     }
 

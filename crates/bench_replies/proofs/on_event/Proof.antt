@@ -17,7 +17,9 @@ part-on-take-end : tie.Need-part-on-take-end
 part-on-take-end c = lies _ _ _ (c .before .before .before .before .before .before .before .pre .0) (c .before .before .before .order .given .1) .1
 
 on-take-requires : tie.Need-on-take-requires
-on-take-requires c κs = (short _ _ _ (lies _ _ _ (c .before .before .before .before .before .before .before .before .before .pre .0) (c .before .before .before .before .before .order .given .1)), c .before .before .before .before .before .before .before .before .before .pre .2)
+on-take-requires c κs =
+    let start = c .before .before .before .before .before .before .before .before .before in
+    (short _ _ _ (lies _ _ _ (start .pre .0) (c .before .before .before .before .before .order .given .1)), start .pre .2)
 
 enum-known-order-2 : tie.Need-enum-known-order-2
 enum-known-order-2 c = search needs
@@ -32,7 +34,9 @@ part-on-join-end : tie.Need-part-on-join-end
 part-on-join-end c = lies _ _ _ (c .before .before .before .before .before .before .before .pre .0) (c .before .before .before .order2 .given .1) .1
 
 on-join-requires : tie.Need-on-join-requires
-on-join-requires c κs = (short _ _ _ (lies _ _ _ (c .before .before .before .before .before .before .before .before .before .pre .0) (c .before .before .before .before .before .order2 .given .1)), c .before .before .before .before .before .before .before .before .before .pre .2)
+on-join-requires c κs =
+    let start = c .before .before .before .before .before .before .before .before .before in
+    (short _ _ _ (lies _ _ _ (start .pre .0) (c .before .before .before .before .before .order2 .given .1)), start .pre .2)
 
 enum-known-order-3 : tie.Need-enum-known-order-3
 enum-known-order-3 c = search needs
@@ -47,7 +51,9 @@ part-on-leave-end : tie.Need-part-on-leave-end
 part-on-leave-end c = lies _ _ _ (c .before .before .before .before .before .before .before .pre .0) (c .before .before .before .order3 .given .1) .1
 
 on-leave-requires : tie.Need-on-leave-requires
-on-leave-requires c κs = (short _ _ _ (lies _ _ _ (c .before .before .before .before .before .before .before .before .before .pre .0) (c .before .before .before .before .before .order3 .given .1)), c .before .before .before .before .before .before .before .before .before .pre .2)
+on-leave-requires c κs =
+    let start = c .before .before .before .before .before .before .before .before .before in
+    (short _ _ _ (lies _ _ _ (start .pre .0) (c .before .before .before .before .before .order3 .given .1)), start .pre .2)
 
 enum-known-order-4 : tie.Need-enum-known-order-4
 enum-known-order-4 c = search needs
@@ -62,7 +68,9 @@ part-on-route-end : tie.Need-part-on-route-end
 part-on-route-end c = lies _ _ _ (c .before .before .before .before .before .before .before .pre .0) (c .before .before .before .order4 .given .1) .1
 
 on-route-requires : tie.Need-on-route-requires
-on-route-requires c κs = (short _ _ _ (lies _ _ _ (c .before .before .before .before .before .before .before .before .before .pre .0) (c .before .before .before .before .before .order4 .given .1)), c .before .before .before .before .before .before .before .before .before .pre .2)
+on-route-requires c κs =
+    let start = c .before .before .before .before .before .before .before .before .before in
+    (short _ _ _ (lies _ _ _ (start .pre .0) (c .before .before .before .before .before .order4 .given .1)), start .pre .2)
 
 enum-known-order-5 : tie.Need-enum-known-order-5
 enum-known-order-5 c = search needs
@@ -77,7 +85,9 @@ part-on-notice-end : tie.Need-part-on-notice-end
 part-on-notice-end c = lies _ _ _ (c .before .before .before .before .before .before .pre .0) (c .before .before .order5 .given .1) .1
 
 on-notice-requires : tie.Need-on-notice-requires
-on-notice-requires c κs = (short _ _ _ (lies _ _ _ (c .before .before .before .before .before .before .before .before .pre .0) (c .before .before .before .before .order5 .given .1)), c .before .before .before .before .before .before .before .before .pre .2)
+on-notice-requires c κs =
+    let start = c .before .before .before .before .before .before .before .before in
+    (short _ _ _ (lies _ _ _ (start .pre .0) (c .before .before .before .before .order5 .given .1)), start .pre .2)
 
 same-length : tie.Need-same-length
 same-length c = search needs

@@ -34,11 +34,17 @@ equal-requires-3 c κs = search needs
 
 returns-3 : tie.Need-returns-3
 unfolding requestedVerb ascii
-returns-3 c = passed _ (c .before .before .before .before .before .before .before .equal .ensures) (c .before .before .before .before .before .before .if1 .left) (passed _ (c .before .before .before .before .equal2 .ensures) (c .before .before .before .if2 .left) (found _ _ (c .before .equal3 .ensures) (c .if3 .taken)))
+returns-3 c =
+    let at-if1 = c .before .before .before .before .before .before in
+    let at-equal = at-if1 .before in
+    passed _ (at-equal .equal .ensures) (at-if1 .if1 .left) (passed _ (c .before .before .before .before .equal2 .ensures) (c .before .before .before .if2 .left) (found _ _ (c .before .equal3 .ensures) (c .if3 .taken)))
 
 returns-4 : tie.Need-returns-4
 unfolding requestedVerb ascii
-returns-4 c = passed _ (c .before .before .before .before .before .before .before .equal .ensures) (c .before .before .before .before .before .before .if1 .left) (passed _ (c .before .before .before .before .equal2 .ensures) (c .before .before .before .if2 .left) (passed _ (c .before .equal3 .ensures) (c .if3 .left) refl))
+returns-4 c =
+    let at-if1 = c .before .before .before .before .before .before in
+    let at-equal = at-if1 .before in
+    passed _ (at-equal .equal .ensures) (at-if1 .if1 .left) (passed _ (c .before .before .before .before .equal2 .ensures) (c .before .before .before .if2 .left) (passed _ (c .before .equal3 .ensures) (c .if3 .left) refl))
 
 pub requested-verb-spec : {M : Type 1} → statement M
 requested-verb-spec =

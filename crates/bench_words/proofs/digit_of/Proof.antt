@@ -47,18 +47,20 @@ sub-result-3 c =
 returns-3 : tie.Need-returns-3
 unfolding digit
 returns-3 c =
-    let d : isDigit (c .before .before .before .before .before .before .args .c) ≡ false = sym (c .before .before .before .before .before .is-digit .ensures) ∙ c .before .before .before .before .if1 .left in
-    let u : isUpper (c .before .before .before .before .before .before .args .c) ≡ false = sym (c .before .before .before .is-upper .ensures) ∙ c .before .before .if2 .left in
-    let l : isLower (c .before .before .before .before .before .before .args .c) ≡ true = sym (c .before .is-lower .ensures) ∙ c .if3 .taken in
-    let b = between 97 (c .before .before .before .before .before .before .args .c) 102 l in
+    let start = c .before .before .before .before .before .before in
+    let d : isDigit (start .args .c) ≡ false = sym (c .before .before .before .before .before .is-digit .ensures) ∙ c .before .before .before .before .if1 .left in
+    let u : isUpper (start .args .c) ≡ false = sym (c .before .before .before .is-upper .ensures) ∙ c .before .before .if2 .left in
+    let l : isLower (start .args .c) ≡ true = sym (c .before .is-lower .ensures) ∙ c .if3 .taken in
+    let b = between 97 (start .args .c) 102 l in
     (rw (d, u, l) refl, omega arith)
 
 returns-4 : tie.Need-returns-4
 unfolding digit
 returns-4 c =
-    let d : isDigit (c .before .before .before .before .before .before .args .c) ≡ false = sym (c .before .before .before .before .before .is-digit .ensures) ∙ c .before .before .before .before .if1 .left in
-    let u : isUpper (c .before .before .before .before .before .before .args .c) ≡ false = sym (c .before .before .before .is-upper .ensures) ∙ c .before .before .if2 .left in
-    let l : isLower (c .before .before .before .before .before .before .args .c) ≡ false = sym (c .before .is-lower .ensures) ∙ c .if3 .left in
+    let start = c .before .before .before .before .before .before in
+    let d : isDigit (start .args .c) ≡ false = sym (c .before .before .before .before .before .is-digit .ensures) ∙ c .before .before .before .before .if1 .left in
+    let u : isUpper (start .args .c) ≡ false = sym (c .before .before .before .is-upper .ensures) ∙ c .before .before .if2 .left in
+    let l : isLower (start .args .c) ≡ false = sym (c .before .is-lower .ensures) ∙ c .if3 .left in
     (rw (d, u, l) refl, omega arith)
 
 pub digit-of-spec : {M : Type 1} → statement M

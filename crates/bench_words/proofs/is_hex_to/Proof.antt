@@ -23,7 +23,9 @@ returns-2 c = rw (so (c .before .before .equal .ensures) (c .before .if1 .left),
 
 returns-3 : tie.Need-returns-3
 unfolding isHexTo ascii
-returns-3 c = rw (so (c .before .before .before .equal .ensures) (c .before .before .if1 .left), le-leb (length (c .before .before .before .before .before .before .args .word .now)) (c .before .before .before .before .before .before .args .most) (omega arith), ne-eqb _ _ (c .if3 .taken))
+returns-3 c =
+    let start = c .before .before .before .before .before .before in
+    rw (so (c .before .before .before .equal .ensures) (c .before .before .if1 .left), le-leb (length (start .args .word .now)) (start .args .most) (omega arith), ne-eqb _ _ (c .if3 .taken))
 
 all-hex-digits-requires : tie.Need-all-hex-digits-requires
 all-hex-digits-requires c κs = search needs
@@ -31,7 +33,8 @@ all-hex-digits-requires c κs = search needs
 returns-4 : tie.Need-returns-4
 unfolding isHexTo ascii
 returns-4 c =
-    rw (so (c .before .before .before .before .equal .ensures) (c .before .before .before .if1 .left), le-leb (length (c .before .before .before .before .before .before .before .args .word .now)) (c .before .before .before .before .before .before .before .args .most) (omega arith), eq-eqb _ _ (c .before .if3 .left)) (c .all-hex-digits .ensures)
+    let start = c .before .before .before .before .before .before .before in
+    rw (so (c .before .before .before .before .equal .ensures) (c .before .before .before .if1 .left), le-leb (length (start .args .word .now)) (start .args .most) (omega arith), eq-eqb _ _ (c .before .if3 .left)) (c .all-hex-digits .ensures)
 
 pub is-hex-to-spec : {M : Type 1} → statement M
 is-hex-to-spec =

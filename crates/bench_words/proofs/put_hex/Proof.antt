@@ -53,13 +53,14 @@ loop-less c = search needs
 
 loop-again : tie.Need-loop-again Inv-loop μ-loop
 loop-again c =
-    let os = c .before .before .before .before .before .before .before .before .args .octets .now in
+    let start = c .before .before .before .before .before .before .before .before in
+    let os = start .args .octets .now in
     let i = c .before .before .before .before .before .loop .i in
     let h : i < length os = omega arith in
     let n = hex-length os in (
       omega arith,
       simp length-set (c .before .before .before .before .before .loop .inv .1),
-      front-two (hexOf os) (c .before .before .before .before .before .before .before .before .args .out .now) (c .before .before .before .before .before .loop .out) _ _ i (omega arith) (omega arith) (c .before .before .before .before .before .loop .inv .2)
+      front-two (hexOf os) (start .args .out .now) (c .before .before .before .before .before .loop .out) _ _ i (omega arith) (omega arith) (c .before .before .before .before .before .loop .inv .2)
           (c .before .before .glyph .ensures ∙ sym (hex-high os i h)) (c .glyph2 .ensures ∙ sym (hex-low os i h)),
     )
 

@@ -21,10 +21,11 @@ same-length c = search needs
 
 returns : tie.Need-returns
 returns c =
-    let a = c .before .before .before .before .before .before .args in
+    let start = c .before .before .before .before .before .before in
+    let a = start .args in
     record {
       count = refl;
-      within = c .before .before .before .before .before .before .pre;
+      within = start .pre;
       whole = ap (λ (l : List ℕ). l ++ drop (length (a .text .now)) (a .out .now)) (c .before .before .copy .ensures);
     }
 

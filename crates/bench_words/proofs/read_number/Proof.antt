@@ -36,7 +36,8 @@ at-requires c κs = search needs
 
 sub-value : tie.Need-sub-value Inv-loop μ-loop
 sub-value c =
-    let w = c .before .before .before .before .before .before .before .args .word .now in
+    let start = c .before .before .before .before .before .before .before in
+    let w = start .args .word .now in
     let b = between 48 (getD w (c .before .before .before .before .before .loop .i) 0) 57 (sym (c .before .before .is-digit .ensures) ∙ not-false _ (c .before .if1 .left)) in
     omega arith
 
@@ -45,11 +46,13 @@ add-value c = search needs
 
 returns-2 : tie.Need-returns-2 Inv-loop μ-loop
 returns-2 c =
-    let w = c .before .before .before .before .before .before .before .before .args .word .now in
-    let i = c .before .before .before .before .before .before .loop .i in
-    let v = c .before .before .before .before .before .before .loop .value in
+    let at-loop = c .before .before .before .before .before .before in
+    let start = at-loop .before .before in
+    let w = start .args .word .now in
+    let i = at-loop .loop .i in
+    let v = at-loop .loop .value in
     let a = c .before .at .ensures .0 in
-    let q = c .before .before .before .before .before .before .loop .inv .3 ∙ value-more w i v (c .before .before .before .before .before .loop-test .taken) in
+    let q = at-loop .loop .inv .3 ∙ value-more w i v (c .before .before .before .before .before .loop-test .taken) in
     let g = value-grows (drop (i + 1) w) (v * 10 + (getD w i 0 - 48)) in
     sym (number-large w (omega arith))
 
@@ -61,11 +64,13 @@ loop-less c = search needs
 
 loop-again : tie.Need-loop-again Inv-loop μ-loop
 loop-again c =
-    let w = c .before .before .before .before .before .before .before .before .args .word .now in
-    let i = c .before .before .before .before .before .before .loop .i in
+    let at-loop = c .before .before .before .before .before .before in
+    let start = at-loop .before .before in
+    let w = start .args .word .now in
+    let i = at-loop .loop .i in
     let h = c .before .before .before .before .before .loop-test .taken in
     let a : c .before .at .result ≡ getD w i 0 = c .before .at .ensures .0 in
-    (omega arith, omega arith, c .before .before .before .before .before .before .loop .inv .2 ∙ all-more isDigit w i h (sym (c .before .before .before .is-digit .ensures) ∙ not-false _ (c .before .before .if1 .left)), c .before .before .before .before .before .before .loop .inv .3 ∙ value-more w i (c .before .before .before .before .before .before .loop .value) h ∙ rw a refl)
+    (omega arith, omega arith, at-loop .loop .inv .2 ∙ all-more isDigit w i h (sym (c .before .before .before .is-digit .ensures) ∙ not-false _ (c .before .before .if1 .left)), at-loop .loop .inv .3 ∙ value-more w i (at-loop .loop .value) h ∙ rw a refl)
 
 cast-t12 : tie.Need-cast-t12 Inv-loop μ-loop
 cast-t12 c = search needs

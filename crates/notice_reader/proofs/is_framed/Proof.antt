@@ -42,12 +42,18 @@ two-at-requires-6 c κs = search needs
 
 returns-7 : tie.Need-returns-7
 returns-7 c =
-    let the-if1 = c .before .before .before .before .before .before .before .before .before .before .before .if1 in
-    let the-two-at = c .before .before .before .before .before .before .before .before .before .before .two-at in
-    let the-if2 = c .before .before .before .before .before .before .before .before .before .if2 in
-    let the-two-at2 = c .before .before .before .before .before .before .before .before .two-at2 in
-    let the-if3 = c .before .before .before .before .before .before .before .if3 in
-    let the-two-at3 = c .before .before .before .before .before .before .two-at3 in
+    let at-two-at3 = c .before .before .before .before .before .before in
+    let at-if3 = at-two-at3 .before in
+    let at-two-at2 = at-if3 .before in
+    let at-if2 = at-two-at2 .before in
+    let at-two-at = at-if2 .before in
+    let at-if1 = at-two-at .before in
+    let the-if1 = at-if1 .if1 in
+    let the-two-at = at-two-at .two-at in
+    let the-if2 = at-if2 .if2 in
+    let the-two-at2 = at-two-at2 .two-at2 in
+    let the-if3 = at-if3 .if3 in
+    let the-two-at3 = at-two-at3 .two-at3 in
     let the-if4 = c .before .before .before .before .before .if4 in
     let the-two-at4 = c .before .before .before .before .two-at4 in
     let the-if5 = c .before .before .before .if5 in

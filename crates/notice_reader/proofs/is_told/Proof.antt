@@ -29,7 +29,8 @@ two-at-requires c κs = search needs
 
 returns-2 : tie.Need-returns-2
 returns-2 c =
-    let the-four-at = c .before .before .before .before .before .before .four-at in
+    let at-four-at = c .before .before .before .before .before .before in
+    let the-four-at = at-four-at .four-at in
     let the-is-status = c .before .before .before .before .before .is-status in
     let the-if1 = c .before .before .before .before .if1 in
     let the-status-code = c .before .before .before .status-code in

@@ -43,9 +43,12 @@ cast-t14 c = search needs
 
 returns : tie.Need-returns
 returns c =
-    let the-is-framed = c .before .before .before .before .before .before .before .before .is-framed in
-    let the-if1 = c .before .before .before .before .before .before .before .if1 in
-    let the-is-told = c .before .before .before .before .before .before .is-told in
+    let at-is-told = c .before .before .before .before .before .before in
+    let at-if1 = at-is-told .before in
+    let at-is-framed = at-if1 .before in
+    let the-is-framed = at-is-framed .is-framed in
+    let the-if1 = at-if1 .if1 in
+    let the-is-told = at-is-told .is-told in
     let the-if2 = c .before .before .before .before .before .if2 in
     let the-two-at = c .before .before .before .before .two-at in
     let the-four-at = c .before .before .before .four-at in

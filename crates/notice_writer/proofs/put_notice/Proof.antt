@@ -45,12 +45,17 @@ same-length c = search needs
 
 returns : tie.Need-returns
 returns c =
-    let start = c .before .before .before .before .before .before .before .before .before .before .before .before .before .before in
-    let the-status-of = c .before .before .before .before .before .before .before .before .before .before .before .status-of in
-    let the-status-code = c .before .before .before .before .before .before .before .before .before .before .status-code in
-    let the-copied-id = c .before .before .before .before .before .before .before .before .before .copied-id in
-    let the-copied-type = c .before .before .before .before .before .before .before .before .copied-type in
-    let the-put-notice-head = c .before .before .before .before .before .before .put-notice-head in
+    let at-put-notice-head = c .before .before .before .before .before .before in
+    let at-copied-type = at-put-notice-head .before .before in
+    let at-copied-id = at-copied-type .before in
+    let at-status-code = at-copied-id .before in
+    let at-status-of = at-status-code .before in
+    let start = at-status-of .before .before .before in
+    let the-status-of = at-status-of .status-of in
+    let the-status-code = at-status-code .status-code in
+    let the-copied-id = at-copied-id .copied-id in
+    let the-copied-type = at-copied-type .copied-type in
+    let the-put-notice-head = at-put-notice-head .put-notice-head in
     let the-put-status = c .before .before .put-status in
     put-two (start .args .id) (start .args .neighbour) (start .args .number) _ _ _ _ (start .args .octets .now) (start .args .out .now) _ _ (start .pre) (the-status-of .ensures .0) (the-status-code .ensures) (the-copied-id .ensures) (the-copied-type .ensures .0) (the-put-notice-head .ensures) (the-put-status .ensures)
 

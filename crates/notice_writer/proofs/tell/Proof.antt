@@ -35,13 +35,18 @@ same-length-2 c = search needs
 
 returns-2 : tie.Need-returns-2
 returns-2 c =
-    let start = c .before .before .before .before .before .before .before .before .before .before .before .before .before .before .before .before .before in
-    let the-is-due = c .before .before .before .before .before .before .before .before .before .before .before .before .before .is-due in
-    let the-if1 = c .before .before .before .before .before .before .before .before .before .before .before .before .if1 in
-    let the-if2 = c .before .before .before .before .before .before .before .before .before .before .before .if2 in
-    let the-next-id = c .before .before .before .before .before .before .before .before .before .next-id in
+    let at-put-notice = c .before .before .before .before .before .before .before in
+    let at-next-id = at-put-notice .before .before in
+    let at-if2 = at-next-id .before .before in
+    let at-if1 = at-if2 .before in
+    let at-is-due = at-if1 .before in
+    let start = at-is-due .before .before .before .before in
+    let the-is-due = at-is-due .is-due in
+    let the-if1 = at-if1 .if1 in
+    let the-if2 = at-if2 .if2 in
+    let the-next-id = at-next-id .next-id in
     let the-next-of = c .before .before .before .next-of in
-    let the-put-notice = c .before .before .before .before .before .before .before .put-notice in
+    let the-put-notice = at-put-notice .put-notice in
     let the-set-next-id = c .before .before .set-next-id in
     λ os. does-tell (cardOf (start .args .numbers .now) os) _ _ _ _ (start .pre .1) (sym (the-is-due .ensures) ∙ the-if1 .taken) (the-if2 .left) _ _ _ _ (the-next-id .ensures os) (the-next-of .ensures) (the-put-notice .ensures) (the-set-next-id .ensures os)
 

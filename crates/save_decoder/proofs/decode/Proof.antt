@@ -32,9 +32,14 @@ returns-2 c = ((λ t. absurd (never t)), (λ _. names-not _ _ (c .before .before
 
 read-labels-requires : tie.Need-read-labels-requires
 read-labels-requires c κs =
-    let s = c .before .before .before .before .before .before .before .before .before .before .before .before .before .before .before .before .before .before in
-    let h = c .before .before .before .before .before .before .before .before .before .before .before .before .before .before .is-head .ensures .0 (not-false _ (c .before .before .before .before .before .before .before .before .before .before .before .before .before .if1 .left)) in
-    (c .before .before .before .before .before .before .before .before .before .numbers .given ∙ s .pre .0, c .before .before .before .before .before .before .before .names .given ∙ s .pre .1, h .2, h .3, c .before .before .before .before .before .before .before .before .before .before .read-rows .ensures, sym (c .before .before .before .names-once .ensures) ∙ not-false _ (c .before .before .if2 .left))
+    let at-names = c .before .before .before .before .before .before .before in
+    let at-numbers = at-names .before .before in
+    let at-read-rows = at-numbers .before in
+    let at-if1 = at-read-rows .before .before .before in
+    let at-is-head = at-if1 .before in
+    let s = at-is-head .before .before .before .before in
+    let h = at-is-head .is-head .ensures .0 (not-false _ (at-if1 .if1 .left)) in
+    (at-numbers .numbers .given ∙ s .pre .0, at-names .names .given ∙ s .pre .1, h .2, h .3, at-read-rows .read-rows .ensures, sym (c .before .before .before .names-once .ensures) ∙ not-false _ (c .before .before .if2 .left))
 
 same-length-3 : tie.Need-same-length-3
 same-length-3 c = search needs

@@ -76,10 +76,15 @@ same-length c = search needs
 
 returns : tie.Need-returns
 returns c =
-    let s = c .before .before .before .before .before .before .before .before .before .before .before .before .before .before .before .before .before .before .before .before in
-    let root = c .before .before .before .before .before .before .before .before .before .before .before .before .before .before .before .before .before .spaced .ensures in
-    let opaque = c .before .before .before .before .before .before .before .before .before .before .before .before .before .before .before .before .spaced2 .ensures in (
-      name-put (s .args .out .now) _ _ _ _ _ _ _ _ _ (s .pre .0) (root .1) (opaque .1) refl refl refl (c .before .before .before .before .before .before .before .before .before .before .before .before .before .before .put-element-head .ensures) (c .before .before .before .before .before .before .before .before .before .before .copy .ensures) (c .before .before .before .before .before .before .put-two .ensures) (c .before .before .copy2 .ensures)
+    let at-put-two = c .before .before .before .before .before .before in
+    let at-copy = at-put-two .before .before .before .before in
+    let at-put-element-head = at-copy .before .before .before .before in
+    let at-spaced2 = at-put-element-head .before .before in
+    let at-spaced = at-spaced2 .before in
+    let s = at-spaced .before .before .before in
+    let root = at-spaced .spaced .ensures in
+    let opaque = at-spaced2 .spaced2 .ensures in (
+      name-put (s .args .out .now) _ _ _ _ _ _ _ _ _ (s .pre .0) (root .1) (opaque .1) refl refl refl (at-put-element-head .put-element-head .ensures) (at-copy .copy .ensures) (at-put-two .put-two .ensures) (c .before .before .copy2 .ensures)
           ∙ name-in (s .args .octets .now) _ _ (s .args .at) (root .0) (opaque .0),
       omega arith,
     )

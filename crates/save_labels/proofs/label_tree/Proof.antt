@@ -29,8 +29,9 @@ same-length-2 c = search needs
 
 returns-2 : tie.Need-returns-2
 returns-2 c =
-    let s = c .before .before .before .before .before .before .before .before .before .before in
-    label-in (s .args .numbers .now) (s .args .names .now) (s .args .i) _ _ (c .before .before .before .before .before .before .tree-name .ensures .0 _ (s .pre .2)) (c .before .before .before .before .before .mapped-place .ensures .0) _ (c .before .before .before .before .if1 .left) (c .before .before .attach .ensures _)
+    let at-tree-name = c .before .before .before .before .before .before in
+    let s = at-tree-name .before .before .before .before in
+    label-in (s .args .numbers .now) (s .args .names .now) (s .args .i) _ _ (at-tree-name .tree-name .ensures .0 _ (s .pre .2)) (c .before .before .before .before .before .mapped-place .ensures .0) _ (c .before .before .before .before .if1 .left) (c .before .before .attach .ensures _)
 
 pub label-tree-spec : {M : Type 1} → statement M
 label-tree-spec =

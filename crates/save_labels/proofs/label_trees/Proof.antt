@@ -36,9 +36,10 @@ loop-less c = search needs
 
 loop-again : tie.Need-loop-again Inv-loop μ-loop
 loop-again c =
-    let s = c .before .before .before .before .before .before .before .before .before .before in
+    let at-tree-count = c .before .before .before .before .before .before in
+    let s = at-tree-count .before .before .before .before in
     let v = c .before .before .before .before .before .loop .inv in
-    (omega arith, c .before .numbers .given ∙ v .1, labelled-more (s .args .numbers .now) (s .args .names .now) _ _ _ (omega (arith, c .before .before .before .before .before .before .tree-count .ensures .0)) (v .2) (c .before .before .label-tree .ensures))
+    (omega arith, c .before .numbers .given ∙ v .1, labelled-more (s .args .numbers .now) (s .args .names .now) _ _ _ (omega (arith, at-tree-count .tree-count .ensures .0)) (v .2) (c .before .before .label-tree .ensures))
 
 same-length : tie.Need-same-length Inv-loop μ-loop
 same-length c = c .before .loop .inv .1

@@ -37,9 +37,10 @@ read-uses-requires c κs =
 
 label-trees-requires : tie.Need-label-trees-requires
 label-trees-requires c κs =
-    let s = c .before .before .before .before .before .before .before .before .before .before .before .before .before .before .before in
+    let at-read-uses = c .before .before .before .before .before .before in
+    let s = at-read-uses .before .before .before .before .before .before .before .before .before in
     let card : Card = cardOf (s .args .numbers .now) (s .args .names .now) in
-    (c .before .before .before .before .before .numbers .given ∙ s .pre .0, c .before .before .before .names .given ∙ s .pre .1, unlabelled-kept card _ _ (rows-unlabelled (s .args .octets .now) card (s .pre .4)) (c .before .before .before .before .before .before .read-uses .ensures), once-kept card _ _ (s .pre .5) (c .before .before .before .before .before .before .read-uses .ensures))
+    (c .before .before .before .before .before .numbers .given ∙ s .pre .0, c .before .before .before .names .given ∙ s .pre .1, unlabelled-kept card _ _ (rows-unlabelled (s .args .octets .now) card (s .pre .4)) (at-read-uses .read-uses .ensures), once-kept card _ _ (s .pre .5) (at-read-uses .read-uses .ensures))
 
 same-length : tie.Need-same-length
 same-length c = search needs
@@ -49,8 +50,12 @@ same-length-2 c = search needs
 
 returns : tie.Need-returns
 returns c =
-    let s = c .before .before .before .before .before .before .before .before .before .before .before .before .before .before .before .before .before .before in
-    table-whole (s .args .octets .now) _ _ _ _ _ _ (s .pre .4) (c .before .before .before .before .before .before .before .before .before .read-uses .ensures) (c .before .before .label-trees .ensures) (c .before .before .before .before .before .before .before .before .before .before .before .before .two-at .ensures .0) (c .before .before .before .before .before .before .before .before .before .before .before .before .before .before .at .ensures .0) (c .before .before .before .before .before .before .before .before .before .before .before .before .before .at2 .ensures .0)
+    let at-read-uses = c .before .before .before .before .before .before .before .before .before in
+    let at-two-at = at-read-uses .before .before .before in
+    let at-at2 = at-two-at .before in
+    let at-at = at-at2 .before in
+    let s = at-at .before .before .before .before in
+    table-whole (s .args .octets .now) _ _ _ _ _ _ (s .pre .4) (at-read-uses .read-uses .ensures) (c .before .before .label-trees .ensures) (at-two-at .two-at .ensures .0) (at-at .at .ensures .0) (at-at2 .at2 .ensures .0)
 
 pub read-labels-spec : {M : Type 1} → statement M
 read-labels-spec =

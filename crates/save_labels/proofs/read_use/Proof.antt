@@ -59,8 +59,9 @@ part-enter-use-end c = search needs
 
 enter-use-requires : tie.Need-enter-use-requires
 enter-use-requires c κs =
-    let s = c .before .before .before .before .before .before .before .before .before .before .before .before .before .before .before .before .before in
-    (s .pre .0, s .pre .1, omega arith, omega arith, omega (arith, c .before .before .before .before .before .before .before .read-name .ensures .1), none-carries _ _ _ (s .pre .3))
+    let at-read-name = c .before .before .before .before .before .before .before in
+    let s = at-read-name .before .before .before .before .before .before .before .before .before .before in
+    (s .pre .0, s .pre .1, omega arith, omega arith, omega (arith, at-read-name .read-name .ensures .1), none-carries _ _ _ (s .pre .3))
 
 same-length-2 : tie.Need-same-length-2
 same-length-2 c = search needs
@@ -70,9 +71,15 @@ same-length-3 c = search needs
 
 returns-2 : tie.Need-returns-2
 returns-2 c =
-    let s = c .before .before .before .before .before .before .before .before .before .before .before .before .before .before .before .before .before .before .before .before .before .before in
-    let z : c .before .before .before .before .before .before .before .before .before .before .before .before .read-name .result - 0 ≡ c .before .before .before .before .before .before .before .before .before .before .before .before .read-name .result = omega arith in
-    use-put (s .args .numbers .now) (s .args .names .now) (s .args .octets .now) (s .args .at) _ _ _ (c .before .before .before .before .before .before .before .before .before .before .before .before .before .before .before .place-of .ensures) (c .before .before .before .before .before .before .before .before .before .before .before .before .before .before .before .before .before .before .four-at .ensures .0) (c .before .before .before .before .before .before .before .before .before .before .before .before .before .before .before .before .base .ensures .0) _ _ _ _ (c .before .before .before .before .enter-use .ensures) (ap (λ x. eqb x 1) (c .before .before .before .before .before .before .before .before .before .before .at .ensures .0)) (ap (λ x. x % 16) (c .before .before .before .before .before .before .before .before .before .at2 .ensures .0)) (rw z (c .before .before .before .before .before .before .before .before .before .before .before .before .read-name .ensures .0))
+    let at-at2 = c .before .before .before .before .before .before .before .before .before in
+    let at-at = at-at2 .before in
+    let at-read-name = at-at .before .before in
+    let at-place-of = at-read-name .before .before .before in
+    let at-base = at-place-of .before in
+    let at-four-at = at-base .before .before in
+    let s = at-four-at .before .before .before .before in
+    let z : at-read-name .read-name .result - 0 ≡ at-read-name .read-name .result = omega arith in
+    use-put (s .args .numbers .now) (s .args .names .now) (s .args .octets .now) (s .args .at) _ _ _ (at-place-of .place-of .ensures) (at-four-at .four-at .ensures .0) (at-base .base .ensures .0) _ _ _ _ (c .before .before .before .before .enter-use .ensures) (ap (λ x. eqb x 1) (at-at .at .ensures .0)) (ap (λ x. x % 16) (at-at2 .at2 .ensures .0)) (rw z (at-read-name .read-name .ensures .0))
 
 pub read-use-spec : {M : Type 1} → statement M
 read-use-spec =

@@ -29,7 +29,8 @@ same-length-4 c = search needs
 
 returns-2 : tie.Need-returns-2
 returns-2 c =
-    let d = c .before .before .before .before .before .before .before .before .before .decode .ensures .0 (not-false _ (c .before .before .before .before .if1 .left)) in
+    let at-decode = c .before .before .before .before .before .before .before .before .before in
+    let d = at-decode .decode .ensures .0 (not-false _ (c .before .before .before .before .if1 .left)) in
     (sym (not-taken _ _ d (sym (c .before .keeps-rules .ensures) ∙ not-true _ (c .if2 .taken))), (λ t. absurd (never t)))
 
 is-saved-as-requires : tie.Need-is-saved-as-requires
@@ -43,7 +44,9 @@ same-length-6 c = search needs
 
 returns-3 : tie.Need-returns-3
 returns-3 c =
-    let d = c .before .before .before .before .before .before .before .before .before .before .before .before .decode .ensures .0 (not-false _ (c .before .before .before .before .before .before .before .if1 .left)) in
+    let at-if1 = c .before .before .before .before .before .before .before in
+    let at-decode = at-if1 .before .before .before .before .before in
+    let d = at-decode .decode .ensures .0 (not-false _ (at-if1 .if1 .left)) in
     (taken _ _ _ d (sym (c .before .before .before .before .keeps-rules .ensures) ∙ not-false _ (c .before .before .before .if2 .left)) (c .is-saved-as .ensures), (λ _. d))
 
 pub is-taken-spec : {M : Type 1} → statement M

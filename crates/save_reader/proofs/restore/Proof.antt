@@ -30,8 +30,9 @@ put-over-requires c κs = search needs
 
 returns-2 : tie.Need-returns-2
 returns-2 c =
-    let s = c .before .before .before .before .before .before .before .before .before .before .before .before in
-    let t = c .before .before .before .before .before .before .before .before .is-taken .ensures in
+    let at-is-taken = c .before .before .before .before .before .before .before .before in
+    let s = at-is-taken .before .before .before .before in
+    let t = at-is-taken .is-taken .ensures in
     let e = not-false _ (c .before .before .before .before .before .if1 .left) in
     restored (s .args .octets .now) _ _ (sym (t .0) ∙ e) (rw (c .put-over .ensures .0, c .put-over .ensures .1) (t .1 e))
 

@@ -31,8 +31,9 @@ same-length-2 c = search needs
 
 returns : tie.Need-returns
 returns c =
-    let z : c .before .before .before .before .before .before .before .before .before .before .read-name .result - 0 ≡ c .before .before .before .before .before .before .before .before .before .before .read-name .result = omega arith in
-    rw (← c .before .before .before .before .before .before .before .before .before .before .read-name .ensures .0, ← z) (c .before .before .before .before .enter-tree .ensures)
+    let at-read-name = c .before .before .before .before .before .before .before .before .before .before in
+    let z : at-read-name .read-name .result - 0 ≡ at-read-name .read-name .result = omega arith in
+    rw (← at-read-name .read-name .ensures .0, ← z) (c .before .before .before .before .enter-tree .ensures)
 
 pub enter-name-spec : {M : Type 1} → statement M
 enter-name-spec =

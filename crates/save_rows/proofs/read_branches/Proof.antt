@@ -42,8 +42,9 @@ loop-less c = search needs
 
 loop-again : tie.Need-loop-again Inv-loop μ-loop
 loop-again c =
-    let s = c .before .before .before .before .before .before .before .before .before in
-    let v = c .before .before .before .before .before .before .loop .inv in
+    let at-loop = c .before .before .before .before .before .before in
+    let s = at-loop .before .before .before in
+    let v = at-loop .loop .inv in
     (omega arith, c .before .numbers .given ∙ v .1, (λ os. branched-more (s .args .numbers .now) os (s .args .octets .now) (s .args .at) (s .args .i) (s .pre .1) _ _ _ _ (c .before .before .before .before .before .loop-test .taken) (v .2 os) (c .before .before .before .before .four-at .ensures .0) (c .before .before .set-branch .ensures os)))
 
 same-length : tie.Need-same-length Inv-loop μ-loop

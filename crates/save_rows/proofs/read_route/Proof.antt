@@ -26,8 +26,10 @@ same-length-2 c = search needs
 
 returns : tie.Need-returns
 returns c =
-    let s = c .before .before .before .before .before .before .before .before .before .before .before .before in
-    rw (← route-read (s .args .octets .now) _ (s .args .at) _ (c .before .before .before .before .before .before .before .before .spaced .ensures .0) (c .before .before .before .before .before .before .before .at .ensures .0)) (c .before .before .before .before .append-route .ensures)
+    let at-at = c .before .before .before .before .before .before .before in
+    let at-spaced = at-at .before in
+    let s = at-spaced .before .before .before .before in
+    rw (← route-read (s .args .octets .now) _ (s .args .at) _ (at-spaced .spaced .ensures .0) (at-at .at .ensures .0)) (c .before .before .before .before .append-route .ensures)
 
 pub read-route-spec : {M : Type 1} → statement M
 read-route-spec =

@@ -26,18 +26,23 @@ at-requires c κs = search needs
 
 set-leaf-requires : tie.Need-set-leaf-requires
 set-leaf-requires c κs =
-    let s = c .before .before .before .before .before .before .before .before .before .before .before .before .before .before in
-    let n = c .before .before .before .before .before .before .before .before .before .tree-count .ensures .0 in
-    (c .before .before .before .before .before .numbers .given ∙ s .pre .0, omega (arith, entered (s .args .numbers .now) (s .args .names .now) _ _ _ (c .before .before .before .before .before .before .enter-name .ensures)), omega (arith, s .pre .2))
+    let at-enter-name = c .before .before .before .before .before .before in
+    let at-tree-count = at-enter-name .before .before .before in
+    let s = at-tree-count .before .before .before .before .before in
+    let n = at-tree-count .tree-count .ensures .0 in
+    (c .before .before .before .before .before .numbers .given ∙ s .pre .0, omega (arith, entered (s .args .numbers .now) (s .args .names .now) _ _ _ (at-enter-name .enter-name .ensures)), omega (arith, s .pre .2))
 
 add-read-branches : tie.Need-add-read-branches
 add-read-branches c = search needs
 
 read-branches-requires : tie.Need-read-branches-requires
 read-branches-requires c κs =
-    let s = c .before .before .before .before .before .before .before .before .before .before .before .before .before .before .before .before .before .before in
-    let n = c .before .before .before .before .before .before .before .before .before .before .before .before .before .tree-count .ensures .0 in
-    (c .before .before .numbers2 .given ∙ c .before .before .before .before .before .before .before .before .before .numbers .given ∙ s .pre .0, omega (arith, entered (s .args .numbers .now) (s .args .names .now) _ _ _ (c .before .before .before .before .before .before .before .before .before .before .enter-name .ensures), changed _ _ (s .args .names .now) _ _ (c .before .before .before .set-leaf .ensures (s .args .names .now))), omega (arith, s .pre .2), omega arith)
+    let at-numbers = c .before .before .before .before .before .before .before .before .before in
+    let at-enter-name = at-numbers .before in
+    let at-tree-count = at-enter-name .before .before .before in
+    let s = at-tree-count .before .before .before .before .before in
+    let n = at-tree-count .tree-count .ensures .0 in
+    (c .before .before .numbers2 .given ∙ at-numbers .numbers .given ∙ s .pre .0, omega (arith, entered (s .args .numbers .now) (s .args .names .now) _ _ _ (at-enter-name .enter-name .ensures), changed _ _ (s .args .names .now) _ _ (c .before .before .before .set-leaf .ensures (s .args .names .now))), omega (arith, s .pre .2), omega arith)
 
 same-length : tie.Need-same-length
 same-length c = search needs
@@ -47,8 +52,12 @@ same-length-2 c = search needs
 
 returns : tie.Need-returns
 returns c =
-    let s = c .before .before .before .before .before .before .before .before .before .before .before .before .before .before .before .before .before .before .before .before .before in
-    tree-made (s .args .octets .now) (cardOf (s .args .numbers .now) (s .args .names .now)) _ _ _ (s .args .at) _ _ (c .before .before .before .before .before .before .before .before .before .before .before .before .before .before .before .before .tree-count .ensures .0 ∙ sym (trees-length _ _)) (c .before .before .before .before .before .before .before .before .before .before .before .before .before .enter-name .ensures) (c .before .before .before .before .before .before .set-leaf .ensures _) (ap (λ x. not (eqb x 0)) (c .before .before .before .before .before .before .before .before .at .ensures .0)) (c .before .before .read-branches .ensures _)
+    let at-set-leaf = c .before .before .before .before .before .before in
+    let at-at = at-set-leaf .before .before in
+    let at-enter-name = at-at .before .before .before .before .before in
+    let at-tree-count = at-enter-name .before .before .before in
+    let s = at-tree-count .before .before .before .before .before in
+    tree-made (s .args .octets .now) (cardOf (s .args .numbers .now) (s .args .names .now)) _ _ _ (s .args .at) _ _ (at-tree-count .tree-count .ensures .0 ∙ sym (trees-length _ _)) (at-enter-name .enter-name .ensures) (at-set-leaf .set-leaf .ensures _) (ap (λ x. not (eqb x 0)) (at-at .at .ensures .0)) (c .before .before .read-branches .ensures _)
 
 pub read-tree-spec : {M : Type 1} → statement M
 read-tree-spec =

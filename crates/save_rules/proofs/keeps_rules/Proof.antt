@@ -29,9 +29,11 @@ held-right-requires c κs = search needs
 
 returns : tie.Need-returns
 returns c =
+    let at-roots-once = c .before .before .before .before .before .before in
+    let at-routes-good = at-roots-once .before in
     kept _ _ _ _ _ _ _ _ _ _
-    (c .before .before .before .before .before .before .before .routes-good .ensures)
-    (c .before .before .before .before .before .before .roots-once .ensures)
+    (at-routes-good .routes-good .ensures)
+    (at-roots-once .roots-once .ensures)
     (c .before .before .before .before .before .trees-good .ensures)
     (c .before .before .before .before .names-once .ensures)
     (c .before .before .before .uses-good .ensures)
