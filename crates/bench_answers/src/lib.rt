@@ -37,8 +37,8 @@ fn on_tree(
     text: &mut [u8],
 ) -> usize
     requires { ⌜ (length (now hex) ≤ 8192) × (textSpace ≤ length (now text)) ⌝ }
-    ensures { λ r. ⌜ ((number room : ℕ) → Says (replyTo number room (cardOf (now (numbers .entry)) (now (names .entry))) (Said.tree (octetsOf (now (hex .entry)))))
-        r (now (text .exit)) (cardOf (now (numbers .entry)) (now (names .entry)))) ⌝ }
+    ensures { λ r. ⌜ (let c = cardOf (now (numbers .entry)) (now (names .entry)) in
+        ((number room : ℕ) → Says (replyTo number room c (Said.tree (octetsOf (now (hex .entry))))) r (now (text .exit)) c)) ⌝ }
 {
     let mut element = bench_replies::input();
     let n = bench_words::decode_hex(hex, &mut element);
@@ -64,8 +64,8 @@ fn on_save(
     text: &mut [u8],
 ) -> usize
     requires { ⌜ textSpace ≤ length (now text) ⌝ }
-    ensures { λ r. ⌜ ((number : ℕ) → Says (replyTo number room (cardOf (now (numbers .entry)) (now (names .entry))) Said.save)
-        r (now (text .exit)) (cardOf (now (numbers .entry)) (now (names .entry)))) ⌝ }
+    ensures { λ r. ⌜ (let c = cardOf (now (numbers .entry)) (now (names .entry)) in
+        ((number : ℕ) → Says (replyTo number room c Said.save) r (now (text .exit)) c)) ⌝ }
 {
     let mut out = longest_save();
     let mut answer: u32 = 0;

@@ -29,8 +29,8 @@ fn place_of(label: u64, base: u64) -> u64
 
 fn read_use(octets: &[u8], at: usize, numbers: &mut [u64], names: &mut [u8])
     requires { ⌜ Numbers (now numbers) × Names (now names) × (at < 1000000000) × Unlabelled (cardOf (now numbers) (now names)) ⌝ }
-    ensures { λ _. ⌜ cardOf (now (numbers .exit)) (now (names .exit))
-        ≡ withLabels (set (cardOf (now (numbers .entry)) (now (names .entry)) .labels) (fourAt (drop at (now (octets .entry))) 3 - cardOf (now (numbers .entry)) (now (names .entry)) .base) (useRead (drop at (now (octets .entry))))) (cardOf (now (numbers .entry)) (now (names .entry))) ⌝ }
+    ensures { λ _. ⌜ (let c = cardOf (now (numbers .entry)) (now (names .entry)) in
+        cardOf (now (numbers .exit)) (now (names .exit)) ≡ withLabels (set (c .labels) (fourAt (drop at (now (octets .entry))) 3 - c .base) (useRead (drop at (now (octets .entry))))) c) ⌝ }
 {
     let p = place_of(octets::four_at(octets, at + 3), memory::base(numbers));
     if LABELS <= p {
@@ -45,8 +45,8 @@ fn read_use(octets: &[u8], at: usize, numbers: &mut [u64], names: &mut [u8])
 
 fn read_uses(octets: &[u8], at: usize, n: usize, numbers: &mut [u64], names: &mut [u8])
     requires { ⌜ Numbers (now numbers) × Names (now names) × (n < 65536) × (at < 65536) × Unlabelled (cardOf (now numbers) (now names)) ⌝ }
-    ensures { λ _. ⌜ cardOf (now (numbers .exit)) (now (names .exit))
-        ≡ withLabels (usesRead (cardOf (now (numbers .entry)) (now (names .entry)) .base) n (drop at (now (octets .entry))) (cardOf (now (numbers .entry)) (now (names .entry)) .labels)) (cardOf (now (numbers .entry)) (now (names .entry))) ⌝ }
+    ensures { λ _. ⌜ (let c = cardOf (now (numbers .entry)) (now (names .entry)) in
+        cardOf (now (numbers .exit)) (now (names .exit)) ≡ withLabels (usesRead (c .base) n (drop at (now (octets .entry))) (c .labels)) c) ⌝ }
 {
     let mut i = 0;
     while i < n {
@@ -74,8 +74,8 @@ fn mapped_place(numbers: &[u64], names: &[u8], name: &[u8]) -> usize
 
 fn label_tree(numbers: &mut [u64], names: &[u8], i: usize)
     requires { ⌜ Numbers (now numbers) × Names (now names) × (i < treeCount (now numbers)) × (i < treeLimit) × Ready i (cardOf (now numbers) (now names)) ⌝ }
-    ensures { λ _. ⌜ cardOf (now (numbers .exit)) (now (names .entry))
-        ≡ withTrees (set (cardOf (now (numbers .entry)) (now (names .entry)) .trees) i (labelled (cardOf (now (numbers .entry)) (now (names .entry)) .base) (cardOf (now (numbers .entry)) (now (names .entry)) .labels) (treeAt i (cardOf (now (numbers .entry)) (now (names .entry)))))) (cardOf (now (numbers .entry)) (now (names .entry))) ⌝ }
+    ensures { λ _. ⌜ (let c = cardOf (now (numbers .entry)) (now (names .entry)) in
+        cardOf (now (numbers .exit)) (now (names .entry)) ≡ withTrees (set (c .trees) i (labelled (c .base) (c .labels) (treeAt i c))) c) ⌝ }
 {
     let p = mapped_place(numbers, names, memory_trees::tree_name(names, i));
     if LABEL_COUNT <= p {
@@ -86,8 +86,8 @@ fn label_tree(numbers: &mut [u64], names: &[u8], i: usize)
 
 fn label_trees(numbers: &mut [u64], names: &[u8])
     requires { ⌜ Numbers (now numbers) × Names (now names) × Unlabelled (cardOf (now numbers) (now names)) × (onceEach sameName (cardOf (now numbers) (now names) .trees) ≡ true) ⌝ }
-    ensures { λ _. ⌜ cardOf (now (numbers .exit)) (now (names .entry))
-        ≡ withTrees (allLabelled (cardOf (now (numbers .entry)) (now (names .entry)) .base) (cardOf (now (numbers .entry)) (now (names .entry)) .labels) (cardOf (now (numbers .entry)) (now (names .entry)) .trees)) (cardOf (now (numbers .entry)) (now (names .entry))) ⌝ }
+    ensures { λ _. ⌜ (let c = cardOf (now (numbers .entry)) (now (names .entry)) in
+        cardOf (now (numbers .exit)) (now (names .entry)) ≡ withTrees (allLabelled (c .base) (c .labels) (c .trees)) c) ⌝ }
 {
     let n = memory::tree_count(numbers);
     let mut i = 0;

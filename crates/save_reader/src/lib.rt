@@ -52,8 +52,9 @@ pub fn restore(
     names: &mut [u8; OCTET_COUNT],
     octets: &[u8],
 ) -> u32
-    ensures { λ r. ⌜ (r ≡ restore (now (octets .entry)) (cardOf (now (numbers .entry)) (now (names .entry))) .answer)
-        × (cardOf (now (numbers .exit)) (now (names .exit)) ≡ restore (now (octets .entry)) (cardOf (now (numbers .entry)) (now (names .entry))) .card) ⌝ }
+    ensures { λ r. ⌜ (let c = cardOf (now (numbers .entry)) (now (names .entry)) in
+        (r ≡ restore (now (octets .entry)) c .answer)
+        × (cardOf (now (numbers .exit)) (now (names .exit)) ≡ restore (now (octets .entry)) c .card)) ⌝ }
 {
     let mut read = [0u64; NUMBER_COUNT];
     let mut held = [0u8; OCTET_COUNT];

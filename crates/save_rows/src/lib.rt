@@ -20,8 +20,8 @@ use meaning::TREE_SIZE;
 
 fn read_route(octets: &[u8], at: usize, numbers: &mut [u64], names: &mut [u8])
     requires { ⌜ Numbers (now numbers) × Names (now names) × (routeCount (now numbers) < routeLimit) × (at < 1000000000) ⌝ }
-    ensures { λ _. ⌜ cardOf (now (numbers .exit)) (now (names .exit))
-        ≡ withRoutes (cardOf (now (numbers .entry)) (now (names .entry)) .routes ++ (routeRead (drop at (now (octets .entry))) ∷ [])) (cardOf (now (numbers .entry)) (now (names .entry))) ⌝ }
+    ensures { λ _. ⌜ (let c = cardOf (now (numbers .entry)) (now (names .entry)) in
+        cardOf (now (numbers .exit)) (now (names .exit)) ≡ withRoutes (c .routes ++ (routeRead (drop at (now (octets .entry))) ∷ [])) c) ⌝ }
 {
     let root = save_fields::spaced(octets, at + 4, 16);
     let via = octets::at(octets, at + 3);
@@ -43,8 +43,8 @@ fn read_routes(octets: &[u8], n: usize, numbers: &mut [u64], names: &mut [u8])
 
 fn read_branches(octets: &[u8], at: usize, numbers: &mut [u64], i: usize)
     requires { ⌜ Numbers (now numbers) × (i < treeCount (now numbers)) × (i < treeLimit) × (at < 1073741824) ⌝ }
-    ensures { λ _. ⌜ ((os : List ℕ) → cardOf (now (numbers .exit)) os
-        ≡ withTrees (set (cardOf (now (numbers .entry)) os .trees) i (withBranches (foursIn 16 (drop at (now (octets .entry)))) (treeAt i (cardOf (now (numbers .entry)) os)))) (cardOf (now (numbers .entry)) os)) ⌝ }
+    ensures { λ _. ⌜ ((os : List ℕ) → (let c = cardOf (now (numbers .entry)) os in
+        cardOf (now (numbers .exit)) os ≡ withTrees (set (c .trees) i (withBranches (foursIn 16 (drop at (now (octets .entry)))) (treeAt i c))) c)) ⌝ }
 {
     let mut n = 0;
     while n < 16 {
@@ -56,8 +56,8 @@ fn read_branches(octets: &[u8], at: usize, numbers: &mut [u64], i: usize)
 
 fn enter_name(octets: &[u8], at: usize, numbers: &mut [u64], names: &mut [u8])
     requires { ⌜ Numbers (now numbers) × Names (now names) × (treeCount (now numbers) < treeLimit) × (at < 1073741824) ⌝ }
-    ensures { λ _. ⌜ cardOf (now (numbers .exit)) (now (names .exit))
-        ≡ withTrees (cardOf (now (numbers .entry)) (now (names .entry)) .trees ++ (bare (nameIn (drop at (now (octets .entry)))) ∷ [])) (cardOf (now (numbers .entry)) (now (names .entry))) ⌝ }
+    ensures { λ _. ⌜ (let c = cardOf (now (numbers .entry)) (now (names .entry)) in
+        cardOf (now (numbers .exit)) (now (names .exit)) ≡ withTrees (c .trees ++ (bare (nameIn (drop at (now (octets .entry)))) ∷ [])) c) ⌝ }
 {
     let mut name = [0u8; NAME_LIMIT];
     let n = save_fields::read_name(octets, at, &mut name);
@@ -66,8 +66,8 @@ fn enter_name(octets: &[u8], at: usize, numbers: &mut [u64], names: &mut [u8])
 
 fn read_tree(octets: &[u8], at: usize, numbers: &mut [u64], names: &mut [u8])
     requires { ⌜ Numbers (now numbers) × Names (now names) × (treeCount (now numbers) < treeLimit) × (at < 1000000000) ⌝ }
-    ensures { λ _. ⌜ cardOf (now (numbers .exit)) (now (names .exit))
-        ≡ withTrees (cardOf (now (numbers .entry)) (now (names .entry)) .trees ++ (treeRead (drop at (now (octets .entry))) ∷ [])) (cardOf (now (numbers .entry)) (now (names .entry))) ⌝ }
+    ensures { λ _. ⌜ (let c = cardOf (now (numbers .entry)) (now (names .entry)) in
+        cardOf (now (numbers .exit)) (now (names .exit)) ≡ withTrees (c .trees ++ (treeRead (drop at (now (octets .entry))) ∷ [])) c) ⌝ }
 {
     let i = memory::tree_count(numbers);
     enter_name(octets, at + 3, numbers, names);

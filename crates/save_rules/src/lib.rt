@@ -70,7 +70,7 @@ fn is_carried(numbers: &[u64], names: &[u8], p: usize) -> bool
 
 fn all_carried(numbers: &[u64], names: &[u8]) -> bool
     requires { ⌜ Numbers (now numbers) × Names (now names) ⌝ }
-    ensures { λ r. ⌜ r ≡ allCarried (cardOf (now (numbers .entry)) (now (names .entry))) (cardOf (now (numbers .entry)) (now (names .entry)) .base) (cardOf (now (numbers .entry)) (now (names .entry)) .labels) ⌝ }
+    ensures { λ r. ⌜ (let c = cardOf (now (numbers .entry)) (now (names .entry)) in r ≡ allCarried c (c .base) (c .labels)) ⌝ }
 {
     let mut p = 0;
     while p < LABEL_COUNT {
@@ -96,7 +96,7 @@ pub fn is_mapped_for(numbers: &[u64], names: &[u8], p: usize, name: &[u8]) -> bo
 // Whether the label of the tree at place i, if it has one, is mapped for the tree's name.
 fn carries_own(numbers: &[u64], names: &[u8], i: usize) -> bool
     requires { ⌜ Numbers (now numbers) × Names (now names) × (i < treeCount (now numbers)) × (i < treeLimit) ⌝ }
-    ensures { λ r. ⌜ r ≡ carriesOwn (cardOf (now (numbers .entry)) (now (names .entry))) (treeAt i (cardOf (now (numbers .entry)) (now (names .entry)))) ⌝ }
+    ensures { λ r. ⌜ (let c = cardOf (now (numbers .entry)) (now (names .entry)) in r ≡ carriesOwn c (treeAt i c)) ⌝ }
 {
     let label = memory_trees::tree_label(numbers, i);
     if label == 0 {
@@ -111,7 +111,7 @@ fn carries_own(numbers: &[u64], names: &[u8], i: usize) -> bool
 
 fn own_labels(numbers: &[u64], names: &[u8]) -> bool
     requires { ⌜ Numbers (now numbers) × Names (now names) ⌝ }
-    ensures { λ r. ⌜ r ≡ all (carriesOwn (cardOf (now (numbers .entry)) (now (names .entry)))) (cardOf (now (numbers .entry)) (now (names .entry)) .trees) ⌝ }
+    ensures { λ r. ⌜ (let c = cardOf (now (numbers .entry)) (now (names .entry)) in r ≡ all (carriesOwn c) (c .trees)) ⌝ }
 {
     let n = memory::tree_count(numbers);
     let mut i = 0;
@@ -126,7 +126,7 @@ fn own_labels(numbers: &[u64], names: &[u8]) -> bool
 
 fn holds_right(numbers: &[u64], names: &[u8], i: usize) -> bool
     requires { ⌜ Numbers (now numbers) × Names (now names) × (i < treeCount (now numbers)) × (i < treeLimit) ⌝ }
-    ensures { λ r. ⌜ r ≡ holdsRight (cardOf (now (numbers .entry)) (now (names .entry))) (treeAt i (cardOf (now (numbers .entry)) (now (names .entry)))) ⌝ }
+    ensures { λ r. ⌜ (let c = cardOf (now (numbers .entry)) (now (names .entry)) in r ≡ holdsRight c (treeAt i c)) ⌝ }
 {
     let u = event_holder::upstream_of(numbers, names, memory_trees::tree_name(names, i));
     memory_trees::held_for(numbers, i) == event_holder::holder(numbers, i, u)
@@ -134,7 +134,7 @@ fn holds_right(numbers: &[u64], names: &[u8], i: usize) -> bool
 
 fn held_right(numbers: &[u64], names: &[u8]) -> bool
     requires { ⌜ Numbers (now numbers) × Names (now names) ⌝ }
-    ensures { λ r. ⌜ r ≡ all (holdsRight (cardOf (now (numbers .entry)) (now (names .entry)))) (cardOf (now (numbers .entry)) (now (names .entry)) .trees) ⌝ }
+    ensures { λ r. ⌜ (let c = cardOf (now (numbers .entry)) (now (names .entry)) in r ≡ all (holdsRight c) (c .trees)) ⌝ }
 {
     let n = memory::tree_count(numbers);
     let mut i = 0;

@@ -25,8 +25,9 @@ use memory::OCTET_COUNT;
 fn put_routes(numbers: &[u64], names: &[u8], out: &mut [u8], from: usize) -> usize
     requires { ⌜ Numbers (now numbers) × Names (now names)
         × (from + length (routesSaved (cardOf (now numbers) (now names) .routes)) ≤ length (now out)) ⌝ }
-    ensures { λ r. ⌜ (now (out .exit) ≡ laid from (routesSaved (cardOf (now (numbers .entry)) (now (names .entry)) .routes)) (now (out .entry)))
-        × (r ≡ from + length (routesSaved (cardOf (now (numbers .entry)) (now (names .entry)) .routes))) ⌝ }
+    ensures { λ r. ⌜ (let c = cardOf (now (numbers .entry)) (now (names .entry)) in
+        (now (out .exit) ≡ laid from (routesSaved (c .routes)) (now (out .entry)))
+        × (r ≡ from + length (routesSaved (c .routes)))) ⌝ }
 {
     let n = memory::route_count(numbers);
     let mut at = from;
@@ -44,8 +45,9 @@ fn put_routes(numbers: &[u64], names: &[u8], out: &mut [u8], from: usize) -> usi
 fn put_trees(numbers: &[u64], names: &[u8], out: &mut [u8], from: usize) -> usize
     requires { ⌜ Numbers (now numbers) × Names (now names)
         × (from + length (treesSaved (cardOf (now numbers) (now names) .trees)) ≤ length (now out)) ⌝ }
-    ensures { λ r. ⌜ (now (out .exit) ≡ laid from (treesSaved (cardOf (now (numbers .entry)) (now (names .entry)) .trees)) (now (out .entry)))
-        × (r ≡ from + length (treesSaved (cardOf (now (numbers .entry)) (now (names .entry)) .trees))) ⌝ }
+    ensures { λ r. ⌜ (let c = cardOf (now (numbers .entry)) (now (names .entry)) in
+        (now (out .exit) ≡ laid from (treesSaved (c .trees)) (now (out .entry)))
+        × (r ≡ from + length (treesSaved (c .trees)))) ⌝ }
 {
     let n = memory::tree_count(numbers);
     let mut at = from;
@@ -78,8 +80,9 @@ fn put_label(numbers: &[u64], names: &[u8], p: usize, out: &mut [u8], at: usize)
 fn put_labels(numbers: &[u64], names: &[u8], out: &mut [u8], from: usize) -> usize
     requires { ⌜ Numbers (now numbers) × Names (now names)
         × (from + length (usesSaved (baseIn (now numbers)) (cardOf (now numbers) (now names) .labels)) ≤ length (now out)) ⌝ }
-    ensures { λ r. ⌜ (now (out .exit) ≡ laid from (usesSaved (baseIn (now (numbers .entry))) (cardOf (now (numbers .entry)) (now (names .entry)) .labels)) (now (out .entry)))
-        × (r ≡ from + length (usesSaved (baseIn (now (numbers .entry))) (cardOf (now (numbers .entry)) (now (names .entry)) .labels))) ⌝ }
+    ensures { λ r. ⌜ (let c = cardOf (now (numbers .entry)) (now (names .entry)) in
+        (now (out .exit) ≡ laid from (usesSaved (baseIn (now (numbers .entry))) (c .labels)) (now (out .entry)))
+        × (r ≡ from + length (usesSaved (baseIn (now (numbers .entry))) (c .labels)))) ⌝ }
 {
     let mut at = from;
     let mut p = 0;
@@ -106,8 +109,8 @@ pub fn saved_size(numbers: &[u64]) -> usize
 // The save at the front of the output, the rest of which stays; how many octets it has.
 pub fn write_save(numbers: &[u64], names: &[u8], out: &mut [u8]) -> usize
     requires { ⌜ Numbers (now numbers) × Names (now names) × (length (saved (cardOf (now numbers) (now names))) ≤ length (now out)) ⌝ }
-    ensures { λ r. ⌜ (now (out .exit) ≡ over (saved (cardOf (now (numbers .entry)) (now (names .entry)))) (now (out .entry)))
-        × (r ≡ length (saved (cardOf (now (numbers .entry)) (now (names .entry))))) ⌝ }
+    ensures { λ r. ⌜ (let c = cardOf (now (numbers .entry)) (now (names .entry)) in
+        (now (out .exit) ≡ over (saved c) (now (out .entry))) × (r ≡ length (saved c))) ⌝ }
 {
     save_records::put_save_head(numbers, &mut out[0..HEAD_SIZE]);
     let a = put_routes(numbers, names, out, HEAD_SIZE);
@@ -123,8 +126,8 @@ pub fn save_core(
     out: &mut [u8],
     answer: &mut u32,
 ) -> usize
-    ensures { λ r. ⌜ Does (save (length (now (out .entry))) (cardOf (now (numbers .entry)) (now (names .entry))))
-        (now (answer .exit)) r (now (out .entry)) (now (out .exit)) (cardOf (now (numbers .entry)) (now (names .entry))) ⌝ }
+    ensures { λ r. ⌜ (let c = cardOf (now (numbers .entry)) (now (names .entry)) in
+        Does (save (length (now (out .entry))) c) (now (answer .exit)) r (now (out .entry)) (now (out .exit)) c) ⌝ }
 {
     if out.len() < saved_size(numbers) {
         *answer = 16;
@@ -140,8 +143,8 @@ pub fn save<'a>(
     out: &'a mut [u8],
     answer: &mut u32,
 ) -> &'a mut [u8]
-    ensures { λ r. ⌜ Hands (save (length (now (out .entry))) (cardOf (now (numbers .entry)) (now (names .entry))))
-        (now (answer .exit)) (now r) (cardOf (now (numbers .entry)) (now (names .entry))) × (ptr r ≡ ptr (out .entry)) ⌝ }
+    ensures { λ r. ⌜ (let c = cardOf (now (numbers .entry)) (now (names .entry)) in
+        Hands (save (length (now (out .entry))) c) (now (answer .exit)) (now r) c × (ptr r ≡ ptr (out .entry))) ⌝ }
 {
     let n = save_core(numbers, names, &mut *out, answer);
     &mut out[..n]
