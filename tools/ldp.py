@@ -5,6 +5,7 @@ one or more elements (RFC 6388) is written element by element, 'type:value' or '
 any other is plain hex.
 """
 
+import functools
 import ipaddress
 import re
 import struct
@@ -146,20 +147,22 @@ def message_octets(message):
 
 
 def read_message(octets):
-    """The label message in these octets, or None where they have anything less or more than one."""
-    if len(octets) < 24:
+    """The label message in these octets, or None where they are none. Further TLVs are passed over."""
+    if len(octets) < MESSAGE_HEAD + 8:
         return None
-    number, _, identifier = struct.unpack(">HHI", octets[:8])
-    name = read_element(octets[12:-8])
-    if number not in KIND_NAMES or name is None:
+    number, length, identifier, _, size = struct.unpack(">HHIHH", octets[: MESSAGE_HEAD + 8])
+    name = read_element(octets[MESSAGE_HEAD + 8 :][:size])
+    if number not in KIND_NAMES or name is None or length != len(octets) - MESSAGE_HEAD:
         return None
-    message = Message(KIND_NAMES[number].lower(), name, int.from_bytes(octets[-4:], "big"), identifier)
-    return message if message_octets(message) == octets else None
+    label = int.from_bytes(octets[MESSAGE_HEAD + 8 + size :][4:8], "big")
+    message = Message(KIND_NAMES[number].lower(), name, label, identifier)
+    return message if octets[MESSAGE_HEAD:].startswith(message_octets(message)[MESSAGE_HEAD:]) else None
 
 
 # Names in words
 
 
+@functools.cache
 def address_in_words(root):
     return str(ipaddress.ip_address(root)) if len(root) in FAMILIES else hex_word(root)
 
@@ -189,6 +192,7 @@ def cut_elements(opaque):
     return elements
 
 
+@functools.cache
 def opaque_in_words(opaque):
     return ",".join(cut_elements(opaque) or [hex_word(opaque)])
 
@@ -306,10 +310,11 @@ def refusal_in_words(number):
     return f"refused {number}: {REFUSALS.get(int(number), 'a number that is not known')}"
 
 
-def record_in_words(neighbour, message):
+def record_in_words(neighbour, message, named=str):
+    """A record as a sentence; 'named' writes a tree's name."""
     told = read_message(message)
     if told:
-        what = f"{told.kind.capitalize()} {told.label} for {told.name}"
+        what = f"{told.kind.capitalize()} {told.label} for {named(told.name)}"
         return f"{what} to neighbour {neighbour}, identifier {told.identifier}"
     if message[:2] == struct.pack(">H", NOTIFICATION) and len(message) == MESSAGE_HEAD + struct.calcsize(STATUS_BODY):
         identifier, _, _, status, copied, kind = struct.unpack(STATUS_BODY, message[MESSAGE_HEAD:])
@@ -336,21 +341,32 @@ def layers_in_words(rest):
     return " > ".join(roots) + " " + opaque_in_words(read_hex(opaque))
 
 
-def accepted_in_words(verb, rest):
+def accepted_in_words(verb, rest, named=str):
     """What an accepted order wrote, a line for each part."""
     if verb in RECORD_ANSWERS and rest:
-        return [record_in_words(*record) for record in cut_records(read_hex(rest[0]))]
+        return [record_in_words(*record, named) for record in cut_records(read_hex(rest[0]))]
     if verb in SAVE_ANSWERS and rest:
         return [f"{len(read_hex(rest[0]))} octets"]
     if verb == "layers":
         return [layers_in_words(rest)]
     if verb in ("wrap", "unwrap"):
         outer = [f"within {address_in_words(read_hex(rest[1]))} {rest[2]}"] if verb == "unwrap" else []
-        return [" ".join([str(read_element(read_hex(rest[0]))), *outer])]
+        return [" ".join([named(read_element(read_hex(rest[0]))), *outer])]
     if verb == "plan":
         pairs = (entry.partition(":") for entry in rest)
         return [f"{address_in_words(read_hex(root))} over neighbour {n}" for root, _, n in pairs] or ["nothing to move"]
     return ["accepted" + (", nothing is sent" if verb in RECORD_ANSWERS else "")]
+
+
+def said_in_words(verb, rest, named=str):
+    """What the bench wrote behind an order's word, a line for each part."""
+    if verb in ("label", "tree"):
+        return [feed_in_words(rest)]
+    if verb in ("free", "room"):
+        return [f"{rest[0]} {'labels' if verb == 'free' else 'octets'}"]
+    if rest[0] == "0":
+        return accepted_in_words(verb, rest[1:], named)
+    return [refusal_in_words(rest[0]) if rest[0].isdecimal() else rest[0]]
 
 
 def answer_in_words(line):
@@ -358,15 +374,6 @@ def answer_in_words(line):
     verb, *rest = line.split(" ")
     if verb == "?":
         return [f"line {rest[0]} is no order"]
-    if verb in ("label", "tree"):
-        said = [feed_in_words(rest)]
-    elif verb == "free":
-        said = [f"{rest[0]} labels"]
-    elif verb == "room":
-        said = [f"{rest[0]} octets"]
-    elif rest[0] == "0":
-        said = accepted_in_words(verb, rest[1:])
-    else:
-        said = [refusal_in_words(rest[0]) if rest[0].isdecimal() else rest[0]]
+    first, *others = said_in_words(verb, rest)
     margin = " " * len(f"{verb}: ")
-    return [f"{verb}: {said[0]}", *(margin + part for part in said[1:])]
+    return [f"{verb}: {first}", *(margin + other for other in others)]
