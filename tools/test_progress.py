@@ -40,7 +40,7 @@ echo '7 passed, 0 failed'
 exit ${STATUS:-0}
 """
 PATIENCE = 20
-PAUSE = "0.5"  # long enough for a look
+PAUSE = "0.4"  # long enough for a look
 
 
 def gone(process):

@@ -1,5 +1,6 @@
 """The picture of a day, and the tables that it is made of."""
 
+import functools
 import html.parser
 import json
 import pathlib
@@ -42,8 +43,14 @@ document.body.append(Object.assign(document.createElement('pre'), {id: 'seen', t
 </script>"""
 
 
-def made_day(kind, lines=LINES):
-    return made.second("day", kind, 1, lines).decode("latin-1").split("\n")
+@functools.cache
+def made_day(kind):
+    return made.second("day", kind, 1, LINES).decode("latin-1").split("\n")
+
+
+@functools.cache
+def made_steps(kind):
+    return replay.replay(made.BENCH, made_day(kind))
 
 
 def example(name):
@@ -85,7 +92,7 @@ class Tables(unittest.TestCase):
     def test_without_saves_labels_and_routes_are_as_seen(self):
         for kind in WITHOUT_RESTORE:
             day = made_day(kind)
-            for saved, heard in zip(replay.replay(made.BENCH, day), replay.replay(NO_SAVES, day), strict=True):
+            for saved, heard in zip(made_steps(kind), replay.replay(NO_SAVES, day), strict=True):
                 self.assertFalse(heard.table.saved)
                 self.assertEqual(heard.table.labels, saved.table.labels, (kind, saved.line))
                 self.assertEqual(heard.table.routes, saved.table.routes, (kind, saved.line))
@@ -105,7 +112,7 @@ class Tables(unittest.TestCase):
 class Changes(unittest.TestCase):
     def test_changes_lead_from_table_to_table(self):
         for kind in KINDS:
-            steps = replay.replay(made.BENCH, made_day(kind))
+            steps = made_steps(kind)
             names, roots, before, stands = show.Names(steps), {}, {}, {}
             for step in steps:
                 after = show.table_rows(step.table, names, roots)
@@ -122,7 +129,7 @@ class Changes(unittest.TestCase):
 
     def test_bars_are_the_labels_in_use(self):
         for kind in KINDS:
-            steps = replay.replay(made.BENCH, made_day(kind))
+            steps = made_steps(kind)
             drawn = {(at, bar.label, bar.use) for bar in show.bars_of(steps) for at in range(bar.first, bar.last + 1)}
             used = {(at, *item) for at, step in enumerate(steps, 1) for item in step.table.labels.items()}
             self.assertEqual(drawn, used, kind)
@@ -147,7 +154,7 @@ class Page(unittest.TestCase):
     def test_it_needs_nothing_else(self):
         for kind in KINDS:
             day = made_day(kind)
-            text = show.page("a <day>", day, replay.replay(made.BENCH, day))
+            text = show.page("a <day>", day, made_steps(kind))
             self.assertTrue(all(load.startswith("#") for load in Reader(text).loads), kind)
             self.assertNotRegex(text, r"https?:|@import|url\((?!#)|\[\[")
             self.assertIn("a &lt;day&gt;", text)
@@ -173,8 +180,7 @@ class Page(unittest.TestCase):
 
 @made.needs("chromium", "no page of ./show is loaded in a browser")
 class Browser(unittest.TestCase):
-    def walked(self, day):
-        steps = replay.replay(made.BENCH, day)
+    def walked(self, day, steps):
         with tempfile.TemporaryDirectory() as folder:
             path = pathlib.Path(folder, "day.html")
             path.write_text(show.page("day", day, steps) + WALK)
@@ -182,11 +188,12 @@ class Browser(unittest.TestCase):
             dom = subprocess.run(command, stdout=subprocess.PIPE, stderr=subprocess.DEVNULL, timeout=60, check=True)
         seen = re.search('<pre id="seen">(.*?)</pre>', dom.stdout.decode(), re.DOTALL)
         self.assertTrue(seen, "the page's script did not come to its end")
-        return steps, json.loads(html.unescape(seen[1]))
+        return json.loads(html.unescape(seen[1]))
 
     def test_a_reader_walks_through(self):
-        for day in (made_day("mixed"), example("evening.txt")):
-            steps, seen = self.walked(day)
+        evening = example("evening.txt")
+        for day, steps in ((made_day("mixed"), made_steps("mixed")), (evening, replay.replay(made.BENCH, evening))):
+            seen = self.walked(day, steps)
             names = show.Names(steps)
             self.assertEqual(seen["tables"], [expected_rows(step, names) for step in steps[::EVERY]])
             last = len(steps)

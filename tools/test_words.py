@@ -1,10 +1,13 @@
 """Days and answers in words."""
 
+import io
 import subprocess
 import unittest
 
 import ldp
 import made
+
+words = made.tool("tools/words")
 
 SEEDS = (1, 2)
 LINES = 400
@@ -83,18 +86,21 @@ ANSWERS = (
 
 
 def turned(direction, octets):
-    return subprocess.run([made.ROOT / "tools/words", direction], input=octets, stdout=subprocess.PIPE, check=True).stdout
+    """What tools/words does with a day or with answers."""
+    out = io.StringIO(newline="\n")
+    words.turn(words.DIRECTIONS[direction], io.StringIO(octets.decode("latin-1"), newline="\n"), out)
+    return out.getvalue().encode("latin-1")
 
 
 class Orders(unittest.TestCase):
     def test_words_and_back(self):
-        for words, octets in ORDERS:
-            self.assertEqual(ldp.line_in_octets(words), octets)
-            self.assertEqual(ldp.line_in_words(octets), words)
+        for said, octets in ORDERS:
+            self.assertEqual(ldp.line_in_octets(said), octets)
+            self.assertEqual(ldp.line_in_words(octets), said)
 
     def test_other_ways_to_say_it(self):
-        for words, octets in ALSO:
-            self.assertEqual(ldp.line_in_octets(words), octets)
+        for said, octets in ALSO:
+            self.assertEqual(ldp.line_in_octets(said), octets)
 
     def test_what_is_in_no_words_stays(self):
         for line in NO_WORDS:
@@ -112,27 +118,33 @@ class MadeDays(unittest.TestCase):
         for kind in made.kinds():
             for seed in SEEDS:
                 day = made.second("day", kind, seed, LINES)
-                words = turned("orders", day)
-                self.assertEqual(turned("octets", words), day, (kind, seed))
+                self.assertEqual(turned("octets", turned("orders", day)), day, (kind, seed))
                 self.assertEqual(turned("octets", day), day, (kind, seed))
 
     def test_both_address_lengths_become_words(self):
-        words = turned("orders", made.second("day", "ordinary", 1, LINES)).decode()
+        said = turned("orders", made.second("day", "ordinary", 1, LINES)).decode()
         for start in ("mapping", "withdraw", "release", "join", "leave", "tree", "route"):
-            self.assertRegex(words, rf"(?m)^{start} ([0-9]+ )?[0-9]+\.[0-9.]+ ")
-            self.assertRegex(words, rf"(?m)^{start} ([0-9]+ )?[0-9a-f]+:[0-9a-f:]+ ")
+            self.assertRegex(said, rf"(?m)^{start} ([0-9]+ )?[0-9]+\.[0-9.]+ ")
+            self.assertRegex(said, rf"(?m)^{start} ([0-9]+ )?[0-9a-f]+:[0-9a-f:]+ ")
 
     def test_every_answer_has_words(self):
         for kind in made.kinds():
             output = made.second("run", day=made.second("day", kind, 1, LINES))
-            words = turned("answers", output).decode().splitlines()
-            self.assertEqual(len([line for line in words if line[0] != " "]), output.count(b"\n"), kind)
-            self.assertFalse([line for line in words if "not known" in line], kind)
+            said = turned("answers", output).decode().splitlines()
+            self.assertEqual(len([line for line in said if line[0] != " "]), output.count(b"\n"), kind)
+            self.assertFalse([line for line in said if "not known" in line], kind)
 
 
-class Replay(unittest.TestCase):
-    def replay(self, *words, day):
-        command = [made.ROOT / "tools/words", "replay", *words, "-", made.SECOND, "run"]
+class Program(unittest.TestCase):
+    def test_octet_by_octet(self):
+        day = made.second("day", "lines", 1, LINES)  # an odd seed: no newline at the end
+        for direction in ("orders", "octets"):
+            command = [made.ROOT / "tools/words", direction]
+            ran = subprocess.run(command, input=day, stdout=subprocess.PIPE, check=True)
+            self.assertEqual(ran.stdout, turned(direction, day))
+
+    def replay(self, *options, day):
+        command = [made.ROOT / "tools/words", "replay", *options, "-", made.SECOND, "run"]
         return subprocess.run(command, input=day, stdout=subprocess.PIPE, check=True).stdout
 
     def test_a_day_in_words_is_the_day_in_octets(self):
@@ -151,14 +163,14 @@ class Replay(unittest.TestCase):
 
 class Answers(unittest.TestCase):
     def test_answers(self):
-        for line, words in ANSWERS:
-            self.assertEqual("\n".join(ldp.answer_in_words(line)), words)
+        for line, said in ANSWERS:
+            self.assertEqual("\n".join(ldp.answer_in_words(line)), said)
 
     def test_notification(self):
         output = made.second("run", made.ROOT / "examples/notices.txt").decode().splitlines()
-        words = [ldp.answer_in_words(line)[0] for line in output]
+        said = [ldp.answer_in_words(line)[0] for line in output]
         self.assertIn(
-            "notice: Notification 0x05, Bad Message Length, fatal, of Mapping 2, to neighbour 1, identifier 2", words
+            "notice: Notification 0x05, Bad Message Length, fatal, of Mapping 2, to neighbour 1, identifier 2", said
         )
 
     def test_every_refusal_to_come_has_a_meaning(self):
