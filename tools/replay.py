@@ -21,6 +21,7 @@ HEAD = ">2sBIIBBH"
 ROUTE = f">2sBB{1 + ROOT_SPACE}s"
 TREE = f">2sB{NAME_SIZE}sB{NEIGHBOURS}I"
 LABEL = f">2sBIBB{NAME_SIZE}s"
+UNREFUSED = ("label", "tree", "free", "room", "?")  # what begins answers that no refusal stands in
 CHANGING = ("start", "take", "join", "leave", "route", "lost", "restore", "restore2")
 
 
@@ -59,8 +60,7 @@ class Step(NamedTuple):
     def refused(self):
         """The refusal's number, or 0."""
         verb, *rest = self.answer.split(" ")
-        events = (*ldp.RECORD_ANSWERS, *ldp.SAVE_ANSWERS, *CHANGING)
-        return int(rest[0]) if verb in events and rest[0].isdecimal() else 0
+        return int(rest[0]) if verb not in UNREFUSED and rest[0].isdecimal() else 0
 
 
 # A save's octets
@@ -142,9 +142,10 @@ def ask_saves(bench, answers):
     for at, said in enumerate(bench.run(asked), -1):
         if at >= 0 and not same_answer(said[0], answers[at]):
             raise ValueError("the bench answers otherwise when it is asked between")
-        saves = [answer.split(" ") for answer in said[at >= 0 :] if answer.startswith("save ")]
-        table = [read_save(bytes.fromhex(save[2])) if len(save) == 3 else None for save in saves]
-        tables.append(table[0] if table else tables[-1])
+        asked = said[at >= 0 :]
+        saves = [answer.split(" ")[2] for answer in asked if answer.startswith("save 0 ")]
+        stays = tables[-1] if tables and not asked else None
+        tables.append(read_save(bytes.fromhex(saves[0])) if saves else stays)
     return tables
 
 
@@ -156,8 +157,8 @@ def same_answer(one, other):
 # What was seen, where a table is not saved
 
 
-def is_accepted(answer):
-    return answer.split(" ")[1:2] == ["0"]
+def is_accepted(verb, answer):
+    return answer.split(" ")[:2] == [verb, "0"]
 
 
 def accepted_records(answer):
@@ -170,16 +171,17 @@ def seen(table, order, answer):
     """The table after an order, as far as its answer shows it; trees are as they were."""
     routes, labels = dict(table.routes), dict(table.labels)
     verb, *rest = order
-    if verb in ("start", "restore", "restore2") and (is_accepted(answer) or verb == "start"):
+    accepted = is_accepted(verb, answer)
+    if accepted and verb in ("start", "restore", "restore2") or answer.startswith("start "):
         return Table({}, {}, {}, False)
-    if verb == "lost" and is_accepted(answer):
+    if accepted and verb == "lost":
         gone = int(rest[0])
         routes = {root: route for root, route in routes.items() if route != gone}
         labels = {label: use for label, use in labels.items() if use.neighbour != gone}
-    if verb == "route" and is_accepted(answer):
+    if accepted and verb == "route":
         routes[ldp.read_hex(rest[0])] = int(rest[1])
         routes = {root: route for root, route in routes.items() if route != ldp.NO_ROUTE}
-    message = ldp.read_message(ldp.read_hex(rest[1])) if verb == "take" and is_accepted(answer) else None
+    message = ldp.read_message(ldp.read_hex(rest[1])) if accepted and verb == "take" else None
     if message and message.kind == "release":
         labels.pop(message.label, None)
     states = {"mapping": MAPPED, "withdraw": AWAITING}

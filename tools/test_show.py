@@ -16,7 +16,7 @@ import replay
 show = made.tool("show")
 
 KINDS = ("ordinary", "full", "held", "saves", "mixed", "lines", "room")
-WITHOUT_RESTORE = ("ordinary", "full", "held", "exhaust", "room")
+WITHOUT_RESTORE = ("ordinary", "full", "held", "exhaust", "room", "damaged", "random")
 LINES = 200
 LARGEST_PAGE = 1_000_000
 NO_SAVES = f"sh -c \"{made.BENCH} | sed 's/^save 0.*/save 19/'\""
