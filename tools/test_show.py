@@ -161,9 +161,10 @@ class Page(unittest.TestCase):
             self.assertLess(len(text.encode()), LARGEST_PAGE)
 
     def test_no_event_and_bad_lines(self):
-        for day in ([""], ["# nothing"], ["<b>", "free <", "join -", "route - 3", "take 1", "\x00\xff"]):
+        odd = ["<u>", "free <u>", "take <u> 00", "take 1 2 00", "notice <u> <u> 00", "route <u> 3 # <u>", "# <u>"]
+        for day in ([""], ["# nothing"], [*odd, "join -", "route - 3", "take 1", "restore 00", "\x00\xff", "lost 3"]):
             text = show.page("day", day, replay.replay(made.BENCH, day))
-            self.assertNotIn("<b>", text)
+            self.assertNotIn("<u>", text)
 
     def test_every_text_has_contrast(self):
         for rule in show.colour_rules().splitlines():
