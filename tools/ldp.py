@@ -320,7 +320,7 @@ def record_in_words(neighbour, message, named=str):
         identifier, _, _, status, copied, kind = struct.unpack(STATUS_BODY, message[MESSAGE_HEAD:])
         code = status & ~FATAL
         what = f"Notification 0x{code:02x}, {STATUSES.get(code, 'not known')}{', fatal' if status & FATAL else ''}"
-        of = f"of {KIND_NAMES.get(kind, f'type 0x{kind:04x}')} {copied}"
+        of = f"for the {KIND_NAMES.get(kind, f'message of type 0x{kind:04x}')} with identifier {copied}"
         return f"{what}, {of}, to neighbour {neighbour}, identifier {identifier}"
     return f"message {message.hex()} to neighbour {neighbour}"
 

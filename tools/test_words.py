@@ -170,7 +170,8 @@ class Answers(unittest.TestCase):
         output = made.second("run", made.ROOT / "examples/notices.txt").decode().splitlines()
         said = [ldp.answer_in_words(line)[0] for line in output]
         self.assertIn(
-            "notice: Notification 0x05, Bad Message Length, fatal, of Mapping 2, to neighbour 1, identifier 2", said
+            "notice: Notification 0x05, Bad Message Length, fatal, for the Mapping with identifier 2, to neighbour 1, identifier 2",
+            said,
         )
 
     def test_every_refusal_to_come_has_a_meaning(self):
