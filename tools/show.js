@@ -25,7 +25,11 @@
   function showTable(at) {
     for (const [kind, rows] of Object.entries(rowsAfter(at))) {
       const table = document.querySelector(`#table [data-kind=${kind}]`);
-      table.querySelector("tbody").replaceChildren(...[...rows.values()].map((row) => row.cloneNode(true)));
+      table.querySelector("tbody").replaceChildren(...[...rows.values()].map((row) => {
+        const copy = row.cloneNode(true);
+        copy.classList.toggle("fresh", events[at].contains(row));
+        return copy;
+      }));
       table.querySelector("caption span").textContent = rows.size;
     }
     document.getElementById("at").textContent = at + 1;
@@ -90,6 +94,11 @@
   document.getElementById("before").addEventListener("click", () => pick(chosen - 1));
   document.getElementById("after").addEventListener("click", () => pick(chosen + 1));
   window.addEventListener("hashchange", fromHash);
+  // The browser has brought an event of the address into sight; beside a picture the list does that alone.
+  window.addEventListener("load", () => {
+    const beside = matchMedia("(min-width: 1000px)").matches && location.hash === `#e${chosen + 1}`;
+    if (beside) requestAnimationFrame(() => window.scrollTo(0, 0));
+  });
   for (const part of document.querySelectorAll(".walk")) part.hidden = false;
   fromHash();
   if (chosen < 0) choose(0);

@@ -21,7 +21,8 @@ LINES = 200
 LARGEST_PAGE = 1_000_000
 NO_SAVES = f"sh -c \"{made.BENCH} | sed 's/^save 0.*/save 19/'\""
 TREE = ldp.Name(bytes([192, 0, 2, 1]), bytes([1, 0, 4, 0, 0, 0, 7]))
-BROWSER = ("chromium", "--headless", "--no-sandbox", "--disable-gpu", "--window-size=1600,1000")
+BROWSER = ("chromium", "--headless", "--no-sandbox", "--disable-gpu")
+NARROW, WIDE = "--window-size=500,900", "--window-size=1600,1000"  # chromium's windows are no narrower
 EVERY = 15  # of so many events one is chosen
 # Walks through the page as a reader does, and leaves what it saw in the page.
 WALK = f"<script>const EVERY = {EVERY};" + """
@@ -181,11 +182,11 @@ class Page(unittest.TestCase):
 
 @made.needs("chromium", "no page of ./show is loaded in a browser")
 class Browser(unittest.TestCase):
-    def walked(self, day, steps):
+    def walked(self, day, steps, size):
         with tempfile.TemporaryDirectory() as folder:
             path = pathlib.Path(folder, "day.html")
             path.write_text(show.page("day", day, steps) + WALK)
-            command = [*BROWSER, f"--user-data-dir={folder}/profile", "--dump-dom", path.as_uri()]
+            command = [*BROWSER, size, f"--user-data-dir={folder}/profile", "--dump-dom", path.as_uri()]
             dom = subprocess.run(command, stdout=subprocess.PIPE, stderr=subprocess.DEVNULL, timeout=60, check=True)
         seen = re.search('<pre id="seen">(.*?)</pre>', dom.stdout.decode(), re.DOTALL)
         self.assertTrue(seen, "the page's script did not come to its end")
@@ -193,8 +194,9 @@ class Browser(unittest.TestCase):
 
     def test_a_reader_walks_through(self):
         evening = example("evening.txt")
-        for day, steps in ((made_day("mixed"), made_steps("mixed")), (evening, replay.replay(made.BENCH, evening))):
-            seen = self.walked(day, steps)
+        busy = replay.replay(made.BENCH, evening)
+        for day, steps, size in ((made_day("mixed"), made_steps("mixed"), NARROW), (evening, busy, WIDE)):
+            seen = self.walked(day, steps, size)
             names = show.Names(steps)
             self.assertEqual(seen["tables"], [expected_rows(step, names) for step in steps[::EVERY]])
             last = len(steps)
