@@ -11,7 +11,7 @@ use borrow.Author.Tests.{eqb-true, eqb-false, eq-eqb, ne-eqb, ltb-true, ltb-fals
 use Rattle.meaning.specs.Octets.{pick, place, same, put}
 use Rattle.meaning.specs.Wire.{isKind, mapping, withdraw, release, Message, messageIn, elementRefusal, Sent}
 use Rattle.meaning.specs.Card.{Tree, Use, free, mapped, awaiting, Card, noRoute, withRoutes, withTrees, withLabels, withBranch, withLeaf, treeLimit, named, bare, treePlace, treeOf, treeAt, stands, isEmpty, isFree, isAwaiting, mappedTo, useOf, heldFor, freeLabels, routeOf}
-use Rattle.meaning.specs.Events.{Outcome, refused, taken, unless, Moved, tell, setUse, relabel, need, labelsShort, upstream, upstreamOf, entered, swept, treesFull, treeRefusal, enter, become, branch, onMapping, lessBranch, onWithdraw, notAwaited, onRelease, onMessage, noNeighbour, onOctets, onJoin, onLeave, moveAll, needAll, routesWith, routeRefusal, reRoute, onRoute, Event, receive, join, leave, route, outcome}
+use Rattle.meaning.specs.Events.{Outcome, refused, taken, unless, Moved, tell, setUse, relabel, need, labelsShort, upstream, upstreamOf, entered, swept, treesFull, treeRefusal, enter, become, branch, otherLabel, onMapping, lessBranch, onWithdraw, notAwaited, onRelease, onMessage, noNeighbour, onOctets, onJoin, onLeave, moveAll, needAll, routesWith, routeRefusal, reRoute, onRoute, Event, receive, join, leave, route, outcome}
 use Rattle.promise.specs.Promise.{Given, remove, noteSent, noteAll, noteTaken, NoneLive}
 use Rattle.meaning.specs.Lists.{by-test, picked, same-eq, count-new, no-when}
 use Rattle.meaning.specs.RoundTrip.{Heard, heard, AllSendable, sendable-append}
@@ -455,3 +455,44 @@ release-awaited c n m e =
 pub heard-awaited : (c : Card) (n : ℕ) (s : List ℕ) → messageIn s .kind ≡ release → Awaited c n (messageIn s) (outcome c (receive n s))
 unfolding outcome onOctets
 heard-awaited c n s e = unless-awaited c n _ _ _ (λ _. unless-awaited c n _ _ _ (λ _. release-awaited c n (messageIn s) e))
+
+-- ---- a message that is taken
+
+-- It is from a neighbour, its label is one, and where it is a Mapping its branch stood with no other.
+unfoldable pub Admits : Card → Event → Type 0
+Admits c (receive n s) = (n < 16) × (16 ≤ messageIn s .label) × (messageIn s .kind ≡ mapping → otherLabel (treeOf (messageIn s .name) c) n (messageIn s .label) ≡ false)
+Admits c (join e) = Unit {0}
+Admits c (leave e) = Unit {0}
+Admits c (route r via) = Unit {0}
+
+unfoldable pub Meets : Card → Event → Outcome → Type 0
+Meets c e (refused k) = Unit {0}
+Meets c e (taken ms after) = Admits c e
+
+unless-meets : (c : Card) (e : Event) (k : ℕ) (o : Outcome) → (k ≡ 0 → Meets c e o) → Meets c e (unless k o)
+unfolding unless Meets
+unless-meets c e zero o h = h refl
+unless-meets c e (suc k) o h = tt
+
+admitted : (c : Card) (e : Event) → Admits c e → (o : Outcome) → Meets c e o
+unfolding Meets
+admitted c e a (refused k) = tt
+admitted c e a (taken ms after) = a
+
+heard-admits : (c : Card) (n : ℕ) (s : List ℕ) → Heard n (messageIn s .name) (messageIn s .label) → (messageIn s .kind ≡ mapping → otherLabel (treeOf (messageIn s .name) c) n (messageIn s .label) ≡ false) → Admits c (receive n s)
+unfolding Admits
+heard-admits c n s g none = (g .near, g .low, none)
+
+heard-meets : (c : Card) (n : ℕ) (s : List ℕ) → Heard n (messageIn s .name) (messageIn s .label) → Meets c (receive n s) (onMessage c n (messageIn s))
+unfolding onMessage onMapping
+heard-meets c n s g =
+    picked (Meets c (receive n s)) (eqb (messageIn s .kind) mapping)
+    (λ _. unless-meets c (receive n s) _ _ (λ z. admitted c (receive n s) (heard-admits c n s g (λ _. no-when 9 _ 0 z .0)) _))
+    (λ e. admitted c (receive n s) (heard-admits c n s g (λ k. absurd (eqb-false _ _ e k))) _)
+
+pub event-meets : (c : Card) (e : Event) → Meets c e (outcome c e)
+unfolding outcome onOctets noNeighbour
+event-meets c (receive n s) = unless-meets c _ _ _ (λ z. unless-meets c _ _ _ (λ e. heard-meets c n s (heard n s (suc-le-suc (ltb-false 15 n (no-when 0 _ 0 z .0))) e)))
+event-meets c (join e) = admitted c (join e) (unfold Admits in tt) _
+event-meets c (leave e) = admitted c (leave e) (unfold Admits in tt) _
+event-meets c (route r via) = admitted c (route r via) (unfold Admits in tt) _

@@ -3,12 +3,12 @@
 use Prim.Native.Nat.{ℕ, zero, suc, _+_, _≤_}
 use mathlib.Core.Path.{_≡_}
 use mathlib.Core.Bool.{Bool, true, false, _&&_}
-use mathlib.Core.List.{List, [], _∷_}
-use lib.ListN.{length, set}
+use mathlib.Core.List.{List, [], _∷_, _++_}
+use lib.ListN.{length}
 use lib.Dec.{eqb}
 use Rattle.meaning.specs.Octets.{pick, count, same}
 use Rattle.meaning.specs.Wire.{rootIn, mapping, withdraw, release, Message, messageIn, Sent, records, recordsIn}
-use Rattle.meaning.specs.Card.{noRoute, Card, treeOf, freeLabels, Feed, nothing, branchesFrom, lookupLabel}
+use Rattle.meaning.specs.Card.{noRoute, Card, treeOf, freeLabels, Branch, Feed, nothing, lookupLabel}
 use Rattle.meaning.specs.Events.{Event, receive, join, leave, route, Out, event, start}
 
 -- ---- live labels, from the messages alone
@@ -54,22 +54,27 @@ noteTaken (route r via) gs = gs
 
 -- ---- branches and leaf of a tree, from the accepted events alone, the latest first
 
--- the branch of neighbour n: its latest Mapping that no Withdraw under its label has since ended; 0 where there is none
-unfoldable pub branchSaid : ℕ → Message → ℕ → ℕ → ℕ
-branchSaid from m n before =
-    pick (eqb from n)
-    (pick (eqb (m .kind) mapping) (m .label)
-    (pick (eqb (m .kind) withdraw && eqb before (m .label)) 0 before))
-    before
+-- labels, without those that are l
+unfoldable pub without : ℕ → List ℕ → List ℕ
+without l [] = []
+without l (k ∷ ks) = let others = without l ks in pick (eqb k l) others (k ∷ others)
 
-unfoldable pub branchBy : List ℕ → ℕ → List Event → ℕ
-branchBy a n [] = 0
-branchBy a n (receive from s ∷ es) =
-    let before = branchBy a n es in
-    pick (same (messageIn s .name) a) (branchSaid from (messageIn s) n before) before
-branchBy a n (join e ∷ es) = branchBy a n es
-branchBy a n (leave e ∷ es) = branchBy a n es
-branchBy a n (route r via ∷ es) = branchBy a n es
+-- What a neighbour's message makes of the labels of its branches: a Mapping adds its label (the same label is the same branch), a Withdraw ends the one under its label.
+unfoldable pub saidBy : Message → List ℕ → List ℕ
+saidBy m ls =
+    pick (eqb (m .kind) mapping) (m .label ∷ without (m .label) ls)
+    (pick (eqb (m .kind) withdraw) (without (m .label) ls) ls)
+
+-- THE BRANCHES of the tree a to neighbour n: the labels of n's accepted Mappings for a that no accepted Withdraw under that label has since ended
+unfoldable pub branchesSaid : List ℕ → ℕ → List Event → List ℕ
+branchesSaid a n [] = []
+branchesSaid a n (receive from s ∷ es) =
+    let before = branchesSaid a n es in
+    let now = saidBy (messageIn s) before in
+    pick (eqb from n && same (messageIn s .name) a) now before
+branchesSaid a n (join e ∷ es) = branchesSaid a n es
+branchesSaid a n (leave e ∷ es) = branchesSaid a n es
+branchesSaid a n (route r via ∷ es) = branchesSaid a n es
 
 unfoldable pub leafBy : List ℕ → List Event → Bool
 leafBy a [] = false
@@ -77,11 +82,6 @@ leafBy a (receive from s ∷ es) = leafBy a es
 leafBy a (join e ∷ es) = let before = leafBy a es in pick (same e a) true before
 leafBy a (leave e ∷ es) = let before = leafBy a es in pick (same e a) false before
 leafBy a (route r via ∷ es) = leafBy a es
-
--- of the k neighbours from n on
-unfoldable pub branchesBy : List ℕ → ℕ → ℕ → List Event → List ℕ
-branchesBy a n zero es = []
-branchesBy a n (suc k) es = branchBy a n es ∷ branchesBy a (suc n) k es
 
 -- the route of a root: that of its latest order; no route where there is none
 unfoldable pub routeBy : List ℕ → List Event → ℕ
@@ -91,9 +91,19 @@ routeBy r (join e ∷ es) = routeBy r es
 routeBy r (leave e ∷ es) = routeBy r es
 routeBy r (route q via ∷ es) = let before = routeBy r es in pick (same q r) via before
 
--- by rising neighbour number; a branch of the neighbour that is now the upstream, by the route in force, is held and left out
+-- a branch to n for each of the labels
+unfoldable pub branchesTo : ℕ → List ℕ → List Branch
+branchesTo n [] = []
+branchesTo n (l ∷ ls) = record { neighbour = n; label = l } ∷ branchesTo n ls
+
+-- those to the k neighbours from n on, by rising number; to the upstream u they are held, and left out
+unfoldable pub branchesBy : List ℕ → ℕ → ℕ → ℕ → List Event → List Branch
+branchesBy a u n zero es = []
+branchesBy a u n (suc k) es = pick (eqb n u) [] (branchesTo n (branchesSaid a n es)) ++ branchesBy a u (suc n) k es
+
+-- where the tree a leads; its upstream is the neighbour that the route in force names
 unfoldable pub feedBy : List ℕ → List Event → Feed
-feedBy a es = record { branches = branchesFrom 0 (set (branchesBy a 0 16 es) (routeBy (rootIn a) es) 0); leaf = leafBy a es }
+feedBy a es = record { branches = branchesBy a (routeBy (rootIn a) es) 0 16 es; leaf = leafBy a es }
 
 -- ---- histories
 
@@ -115,13 +125,20 @@ answerTo c s = event (s .room) c (s .does)
 unfoldable pub sends : Card → Step → List Sent
 sends c s = recordsIn (answerTo c s .octets)
 
--- a refused step is no event
+-- only a step that is answered 0 is an event
+unfoldable pub isTaken : Card → Step → Bool
+isTaken c s = eqb (answerTo c s .answer) 0
+
+-- the live labels when the messages of a step go out: the Release that it takes has ended a life
+unfoldable pub liveAt : Past → Step → List Given
+liveAt p s = pick (isTaken (p .card) s) (noteTaken (s .does) (p .live)) (p .live)
+
+unfoldable pub acceptedAt : Past → Step → List Event
+acceptedAt p s = pick (isTaken (p .card) s) (s .does ∷ p .accepted) (p .accepted)
+
+-- What a step sends is noted whether it is taken or refused (that a refused one sends nothing is a law, `refused-silent`).
 unfoldable pub thenStep : Past → Step → Past
-thenStep p s =
-    let o = answerTo (p .card) s in
-    let on : Past = record { card = o .card; live = noteAll (sends (p .card) s) (noteTaken (s .does) (p .live)); accepted = s .does ∷ p .accepted } in
-    let stays : Past = record { card = o .card; live = p .live; accepted = p .accepted } in
-    pick (eqb (o .answer) 0) on stays
+thenStep p s = record { card = answerTo (p .card) s .card; live = noteAll (sends (p .card) s) (liveAt p s); accepted = acceptedAt p s }
 
 unfoldable pub thenSteps : Past → List Step → Past
 thenSteps p [] = p
@@ -160,7 +177,9 @@ pub record Promise (p : Past) : Type 0 where
   -- Every live label is live at one neighbour, for one tree.
   pub one : (l : ℕ) → count (ofLabel l) (p .live) ≤ 1
   -- No live label is given out again.
-  pub anew : (s : Step) → NoneLive (sends (p .card) s) (noteTaken (s .does) (p .live))
+  pub anew : (s : Step) → NoneLive (sends (p .card) s) (liveAt p s)
+  -- A tree has at most one branch to a neighbour.
+  pub single : (a : List ℕ) (n : ℕ) → length (branchesSaid a n (p .accepted)) ≤ 1
   -- While mapped it leads exactly to the leaf, if joined, and the branches, those held left out, whose accepted Mapping no accepted Withdraw has since ended under its label; once withdrawn, to nobody.
   pub leads : Each (Leads p) (p .live)
   -- (any other number leads to nobody)

@@ -4,69 +4,50 @@ use Prim.Native.Nat.{ℕ, zero, suc, _+_, _-_, _≤_, _<_, zero-le}
 use native.Mathlib.Nat.{le-of-suc-le-suc, not-suc-le-zero, le-refl}
 use native.Mathlib.Omega.{arith}
 use mathlib.Core.Path.{_≡_, refl, sym, ap, ap₂, _∙_, subst}
-use mathlib.Core.Bool.{true, false, _&&_}
-use mathlib.Core.List.{List, [], _∷_}
-use lib.ListN.{getD, length, set, length-set}
+use mathlib.Core.Bool.{true, false, _&&_, _||_}
+use mathlib.Core.List.{List, [], _∷_, _++_}
+use lib.ListN.{getD, length, set, length-set, replicate}
 use lib.Seq.{ext-getD, set-getD, getD-set-same, getD-set-other}
 use lib.Dec.{eqb, leb, ltb}
-use borrow.Author.Tests.{eqb-true, eqb-false, eq-eqb, ne-eqb, ltb-true, ltb-false, leb-true}
+use borrow.Author.Tests.{eqb-true, eqb-false, eq-eqb, ne-eqb, ltb-true, ltb-false, lt-ltb, leb-true, not-false}
 use Rattle.meaning.specs.Octets.{pick, place, count, same}
 use Rattle.meaning.specs.Wire.{rootIn, mapping, withdraw, Message, messageIn, Sent, records, recordsF, recordsIn}
-use Rattle.meaning.specs.Card.{Tree, Use, free, mapped, awaiting, Card, fresh, withNext, withBranch, withLeaf, withLabel, bare, treePlace, treeOf, treeAt, isFree, isAwaiting, mappedTo, notHeld, leadsOn, useOf, freeLabels, heldFor, routeOf, routePlace, branchesFrom, feedOf, carries, carrier, feedOfUse, lookupLabel}
-use Rattle.meaning.specs.Events.{Out, Outcome, refused, taken, refuse, accept, roomShort, finish, upstream, holder, upstreamOf, branch, lessBranch, Event, receive, join, leave, route, outcome, event, baseOutside, start}
-use Rattle.promise.specs.Promise.{Given, ofLabel, isAbout, isWithdrawn, Demand3, noteAll, noteTaken, branchSaid, branchBy, leafBy, branchesBy, routeBy, feedBy, Step, Past, answerTo, sends, thenStep, thenSteps, history, Each, NoneLive, Leads, Promise}
+use Rattle.meaning.specs.Card.{Tree, Use, free, mapped, awaiting, Card, fresh, withNext, withBranch, withLeaf, withLabel, bare, treePlace, treeOf, treeAt, isFree, isAwaiting, mappedTo, notHeld, leadsOn, useOf, freeLabels, heldFor, routeOf, routePlace, branchesFrom, feedOf, carries, carrier, feedOfUse, lookupLabel, isBranch}
+use Rattle.meaning.specs.Events.{Out, Outcome, refused, taken, refuse, accept, roomShort, finish, upstream, holder, upstreamOf, branch, lessBranch, Event, receive, join, leave, route, outcome, event, baseOutside, start, otherLabel}
+use Rattle.promise.specs.Promise.{Given, ofLabel, isAbout, isWithdrawn, Demand3, noteAll, noteTaken, leafBy, branchesBy, routeBy, feedBy, Step, Past, answerTo, sends, thenStep, thenSteps, history, Each, NoneLive, Leads, Promise, without, saidBy, branchesSaid, branchesTo, isTaken, liveAt, acceptedAt}
 use Rattle.meaning.specs.Lists.{getD-same, by-test, picked, place-finds, place-count, same-eq, same-refl, getD-out, getD-all, count-some}
 use Rattle.meaning.specs.RoundTrip.{both, AllSendable, records-back}
+use Rattle.meaning.specs.Refusals.{refusal-keeps}
 use Rattle.promise.specs.LiveLaws.{isMapped, mapped-near, stray, Linked, mapped-one, mapped-not-free, Books, only, givens, count-only, books-one, books-none, each-only}
-use Rattle.promise.specs.CardLaws.{shape, tree-name, Tidy, AllProper, at-named}
+use Rattle.promise.specs.CardLaws.{shape, tree-name, tree-sized, Tidy, AllProper, at-named}
 use Rattle.promise.specs.LabelLaws.{Sound}
 use Rattle.promise.specs.RuleLaws.{Ruled, held-named}
 use Rattle.promise.specs.RouteLaws.{routeNow, Routed, event-routed}
-use Rattle.promise.specs.EventLaws.{Awaited, heard-awaited, awaiting-eq, byMessage, became, names, Keeps, event-keeps}
+use Rattle.promise.specs.EventLaws.{Awaited, heard-awaited, awaiting-eq, byMessage, became, names, Keeps, event-keeps, Admits, Meets, event-meets}
 
 -- ---- the tree that the accepted events make
 
-branches-length : (a : List ℕ) (n k : ℕ) (es : List Event) → length (branchesBy a n k es) ≡ k
-unfolding branchesBy
-branches-length a n zero es = refl
-branches-length a n (suc k) es = ap suc (branches-length a (suc n) k es)
+-- the labels that one of a tree's sixteen places stands for: none where it is 0
+unfoldable pub listed : ℕ → List ℕ
+listed l = pick (isBranch l) (l ∷ []) []
 
-branches-at : (a : List ℕ) (n k : ℕ) (es : List Event) (i : ℕ) → i < k → getD (branchesBy a n k es) i 0 ≡ branchBy a (n + i) es
-unfolding branchesBy
-branches-at a n zero es i h = absurd (not-suc-le-zero h)
-branches-at a n (suc k) es zero h = ap (λ (x : ℕ). branchBy a x es) (omega arith)
-branches-at a n (suc k) es (suc i) h = branches-at a (suc n) k es i (le-of-suc-le-suc h) ∙ ap (λ (x : ℕ). branchBy a x es) (omega arith)
+listed-some : (l : ℕ) → 16 ≤ l → listed l ≡ l ∷ []
+unfolding listed isBranch
+listed-some l h = rw (lt-ltb 0 l (omega arith)) refl
 
-branches-at0 : (a : List ℕ) (es : List Event) (i : ℕ) → i < 16 → getD (branchesBy a 0 16 es) i 0 ≡ branchBy a i es
-branches-at0 a es i h = branches-at a 0 16 es i h ∙ ap (λ (x : ℕ). branchBy a x es) (omega arith)
-
--- a store at the place n
-branches-set : (a : List ℕ) (es fs : List Event) (n l : ℕ) → (n < 16 → branchBy a n fs ≡ l) → ((i : ℕ) → (i ≡ n → ⊥) → branchBy a i fs ≡ branchBy a i es) → set (branchesBy a 0 16 es) n l ≡ branchesBy a 0 16 fs
-branches-set a es fs n l here there =
-    let size : length (set (branchesBy a 0 16 es) n l) ≡ 16 = length-set (branchesBy a 0 16 es) n l ∙ branches-length a 0 16 es in
-    ext-getD 0 _ _ (size ∙ sym (branches-length a 0 16 fs))
-    (λ i h. let h′ : i < 16 = subst (λ (k : ℕ). i < k) size h in
-    by-test (eqb i n)
-    (λ e. let e′ : i ≡ n = eqb-true i n e in
-    subst (λ (x : ℕ). getD (set (branchesBy a 0 16 es) x l) i 0 ≡ getD (branchesBy a 0 16 fs) i 0) e′
-    (getD-set-same (branchesBy a 0 16 es) i l 0 (rw (branches-length a 0 16 es) h′)
-    ∙ sym (branches-at0 a fs i h′ ∙ ap (λ (x : ℕ). branchBy a x fs) e′ ∙ here (subst (λ (x : ℕ). x < 16) e′ h′))))
-    (λ e. getD-set-other (branchesBy a 0 16 es) n i l 0 (eqb-false i n e) ∙ branches-at0 a es i h′ ∙ sym (there i (eqb-false i n e)) ∙ sym (branches-at0 a fs i h′)))
-
-branches-eq : (a : List ℕ) (n k : ℕ) (es fs : List Event) → ((i : ℕ) → branchBy a i es ≡ branchBy a i fs) → branchesBy a n k es ≡ branchesBy a n k fs
-unfolding branchesBy
-branches-eq a n zero es fs h = refl
-branches-eq a n (suc k) es fs h = ap₂ _∷_ (h n) (branches-eq a (suc n) k es fs h)
+listed-one : (l : ℕ) → length (listed l) ≤ 1
+unfolding listed
+listed-one l = picked (λ (x : List ℕ). length x ≤ 1) (isBranch l) (λ _. le-refl 1) (λ _. zero-le)
 
 -- a tree is as the accepted events say
 pub record Reads (a : List ℕ) (es : List Event) (t : Tree) : Type 0 where
   pub name : t .name ≡ a
-  pub branches : t .branches ≡ branchesBy a 0 16 es
+  pub said : (n : ℕ) → branchesSaid a n es ≡ listed (getD (t .branches) n 0)
   pub leaf : t .leaf ≡ leafBy a es
 
 reads-shape : (a : List ℕ) (es : List Event) (t s : Tree) → shape t ≡ shape s → Reads a es s → Reads a es t
 unfolding shape withLabel
-reads-shape a es t s e r = record { name = ap (λ (x : Tree). x .name) e ∙ r .name; branches = ap (λ (x : Tree). x .branches) e ∙ r .branches; leaf = ap (λ (x : Tree). x .leaf) e ∙ r .leaf }
+reads-shape a es t s e r = record { name = ap (λ (x : Tree). x .name) e ∙ r .name; said = λ n. r .said n ∙ ap (λ (x : Tree). listed (getD (x .branches) n 0)) (sym e); leaf = ap (λ (x : Tree). x .leaf) e ∙ r .leaf }
 
 -- what a message makes of the branch of its neighbour
 unfoldable newBranch : Message → ℕ → ℕ
@@ -91,34 +72,60 @@ message-rest n m t =
     (λ _. picked (λ (x : Tree). (x .name ≡ t .name) × (x .leaf ≡ t .leaf)) (eqb (branch t n) (m .label)) (λ _. (refl, refl)) (λ _. (refl, refl)))
     (λ _. (refl, refl)))
 
+-- a label ends: the one that stands, or none
+without-same : (l : ℕ) → without l (listed l) ≡ []
+unfolding without listed
+without-same l = picked (λ (x : List ℕ). without l x ≡ []) (isBranch l) (λ _. unfold without in rw (eq-eqb l l refl) refl) (λ _. unfold without in refl)
+
+without-other : (l b : ℕ) → eqb b l ≡ false → without l (listed b) ≡ listed b
+unfolding without listed
+without-other l b e = picked (λ (x : List ℕ). without l x ≡ x) (isBranch b) (λ _. unfold without in rw e refl) (λ _. unfold without in refl)
+
+-- where no other label stands, what a message says is what it makes of the place
+new-said : (m : Message) (b : ℕ) → 16 ≤ m .label → (m .kind ≡ mapping → (eqb b 0 || eqb b (m .label)) ≡ true) → saidBy m (listed b) ≡ listed (newBranch m b)
+unfolding saidBy newBranch
+new-said m b low none =
+    by-test (eqb (m .kind) mapping)
+    (λ e. rw e (rw (listed-some (m .label) low) (ap (λ (x : List ℕ). m .label ∷ x) (by-test (eqb b 0)
+    (λ z. ap (λ (x : ℕ). without (m .label) (listed x)) (eqb-true b 0 z) ∙ unfold listed isBranch without in refl)
+    (λ z. ap (λ (x : ℕ). without (m .label) (listed x)) (eqb-true b (m .label) (rw z at (none (eqb-true _ _ e)))) ∙ without-same (m .label))))))
+    (λ e. by-test (eqb (m .kind) withdraw)
+    (λ k. by-test (eqb b (m .label))
+    (λ q. rw (e, k, q) (ap (λ (x : ℕ). without (m .label) (listed x)) (eqb-true b (m .label) q) ∙ without-same (m .label) ∙ unfold listed isBranch in refl))
+    (λ q. rw (e, k, q) (without-other (m .label) b q)))
+    (λ k. rw (e, k) refl))
+
 module _ (a : List ℕ) (es : List Event) (t : Tree) (r : Reads a es t) where
-  message-reads : (n : ℕ) (s : List ℕ) → same (messageIn s .name) a ≡ true → Reads a (receive n s ∷ es) (byMessage n (messageIn s) t)
-  unfolding branchBy branchSaid leafBy newBranch
-  message-reads n s k = record {
+  message-reads : (n : ℕ) (s : List ℕ) → n < length (t .branches) → 16 ≤ messageIn s .label → (messageIn s .kind ≡ mapping → otherLabel t n (messageIn s .label) ≡ false)
+      → same (messageIn s .name) a ≡ true → Reads a (receive n s ∷ es) (byMessage n (messageIn s) t)
+  unfolding branchesSaid leafBy branch
+  message-reads n s within low none k = record {
     name = message-rest n (messageIn s) t .0 ∙ r .name;
-    branches = message-branches n (messageIn s) t
-        ∙ ap (λ (bs : List ℕ). set bs n (newBranch (messageIn s) (branch t n))) (r .branches)
-        ∙ branches-set a es (receive n s ∷ es) n _
-        (λ h. let b : branch t n ≡ branchBy a n es = unfold branch in ap (λ (bs : List ℕ). getD bs n 0) (r .branches) ∙ branches-at0 a es n h in rw (k, eq-eqb n n refl, b) refl)
-        (λ i d. rw (k, ne-eqb n i (λ z. d (sym z))) refl);
+    said = λ i. ap (λ (x : List ℕ). pick (eqb n i && same (messageIn s .name) a) (saidBy (messageIn s) x) x) (r .said i) ∙ by-test (eqb n i)
+        (λ e. rw (e, k, ← eqb-true n i e) (new-said (messageIn s) (branch t n) low none′ ∙ ap listed (sym (ap (λ (bs : List ℕ). getD bs n 0) (message-branches n (messageIn s) t) ∙ getD-set-same (t .branches) n _ 0 within))))
+        (λ e. rw e (ap listed (sym (ap (λ (bs : List ℕ). getD bs i 0) (message-branches n (messageIn s) t) ∙ getD-set-other (t .branches) n i _ 0 (λ z. eqb-false n i e (sym z))))));
     leaf = message-rest n (messageIn s) t .1 ∙ r .leaf;
   }
+    where
+      none′ : messageIn s .kind ≡ mapping → (eqb (branch t n) 0 || eqb (branch t n) (messageIn s .label)) ≡ true
+      none′ z = not-false _ (unfold otherLabel in none z)
 
-  became-reads : (e : Event) → Reads a (e ∷ es) (became e a t)
-  unfolding became withLeaf
-  became-reads (receive n s) =
+module _ (c : Card) (d : Tidy (c .trees)) (a : List ℕ) (es : List Event) (r : Reads a es (treeOf a c)) where
+  became-reads : (e : Event) → Admits c e → Reads a (e ∷ es) (became e a (treeOf a c))
+  unfolding became withLeaf Admits
+  became-reads (receive n s) g =
       by-test (same (messageIn s .name) a)
-      (λ k. rw k (message-reads n s k))
-      (λ k. rw k (unfold leafBy in record { name = r .name; branches = r .branches ∙ branches-eq a 0 16 es (receive n s ∷ es) (λ i. unfold branchBy in rw k refl); leaf = r .leaf }))
-  became-reads (join e) =
+      (λ k. rw k (message-reads a es (treeOf a c) r n s (rw (tree-sized a c d) (g .0)) (g .1) (λ z. subst (λ (x : List ℕ). otherLabel (treeOf x c) n (messageIn s .label) ≡ false) (same-eq _ a k) (g .2 z)) k))
+      (λ k. rw k (unfold leafBy in record { name = r .name; said = λ i. unfold branchesSaid in rw k (by-test (eqb n i) (λ e. rw e (r .said i)) (λ e. rw e (r .said i))); leaf = r .leaf }))
+  became-reads (join e) g =
       by-test (same e a)
-      (λ k. rw k (record { name = r .name; branches = r .branches ∙ branches-eq a 0 16 es (join e ∷ es) (λ i. unfold branchBy in refl); leaf = unfold leafBy in rw k refl }))
-      (λ k. rw k (record { name = r .name; branches = r .branches ∙ branches-eq a 0 16 es (join e ∷ es) (λ i. unfold branchBy in refl); leaf = unfold leafBy in rw k (r .leaf) }))
-  became-reads (leave e) =
+      (λ k. rw k (record { name = r .name; said = λ i. unfold branchesSaid in r .said i; leaf = unfold leafBy in rw k refl }))
+      (λ k. rw k (record { name = r .name; said = λ i. unfold branchesSaid in r .said i; leaf = unfold leafBy in rw k (r .leaf) }))
+  became-reads (leave e) g =
       by-test (same e a)
-      (λ k. rw k (record { name = r .name; branches = r .branches ∙ branches-eq a 0 16 es (leave e ∷ es) (λ i. unfold branchBy in refl); leaf = unfold leafBy in rw k refl }))
-      (λ k. rw k (record { name = r .name; branches = r .branches ∙ branches-eq a 0 16 es (leave e ∷ es) (λ i. unfold branchBy in refl); leaf = unfold leafBy in rw k (r .leaf) }))
-  became-reads (route q via) = record { name = r .name; branches = r .branches ∙ branches-eq a 0 16 es (route q via ∷ es) (λ i. unfold branchBy in refl); leaf = unfold leafBy in r .leaf }
+      (λ k. rw k (record { name = r .name; said = λ i. unfold branchesSaid in r .said i; leaf = unfold leafBy in rw k refl }))
+      (λ k. rw k (record { name = r .name; said = λ i. unfold branchesSaid in r .said i; leaf = unfold leafBy in rw k (r .leaf) }))
+  became-reads (route q via) g = record { name = r .name; said = λ i. unfold branchesSaid in r .said i; leaf = unfold leafBy in r .leaf }
 
 -- ---- the table against the past
 
@@ -141,30 +148,37 @@ route-by (leave e) q es = refl
 route-by (route r via) q es = refl
 
 module _ (c : Card) (gs : List Given) (es : List Event) (e : Event) where
-  -- what a step makes of the past, by its outcome
-  abbrev pastWith : Out → Outcome → Past
-  pastWith out o =
-      pick (eqb (out .answer) 0)
-      (record { card = out .card; live = noteAll (pick (eqb (out .answer) 0) (messagesOf o) []) (noteTaken e gs); accepted = e ∷ es })
-      (record { card = out .card; live = gs; accepted = es })
+  -- what a step sends, and the live labels when it does, by its outcome
+  abbrev sentWith : Out → Outcome → List Sent
+  sentWith out o = pick (eqb (out .answer) 0) (messagesOf o) []
 
-  step-upheld : (room : ℕ) (o : Outcome) → Keeps c (noteTaken e gs) (became e) (names e) o → Routed c e o → Upheld (record { card = c; live = gs; accepted = es }) → Upheld (pastWith (finish room c o) o)
-  unfolding finish refuse accept messagesOf Keeps Routed
-  step-upheld room (refused n) k w u = rw (ne-eqb n 0 k) u
-  step-upheld room (taken ms after) k w u =
+  abbrev liveWith : Out → List Given
+  liveWith out = pick (eqb (out .answer) 0) (noteTaken e gs) gs
+
+  -- what it makes of the past
+  abbrev pastWith : Out → Outcome → Past
+  pastWith out o = record { card = out .card; live = noteAll (sentWith out o) (liveWith out); accepted = pick (eqb (out .answer) 0) (e ∷ es) es }
+
+  step-upheld : (room : ℕ) (o : Outcome) → Keeps c (noteTaken e gs) (became e) (names e) o → Routed c e o → Meets c e o → Upheld (record { card = c; live = gs; accepted = es }) → Upheld (pastWith (finish room c o) o)
+  unfolding finish refuse accept messagesOf Keeps Routed Meets noteAll
+  step-upheld room (refused n) k w g u = rw (ne-eqb n 0 k) u
+  step-upheld room (taken ms after) k w g u =
       by-test (roomShort room (records (c .next) ms))
       (λ t. rw t u)
       (λ t. rw t (unfold withNext treeOf treePlace useOf freeLabels in record {
         sound = record { tidy = k .sound .tidy; low = k .sound .low; high = k .sound .high; many = k .sound .many; linked = k .sound .linked; books = k .sound .books; sum = k .sound .sum };
-        reads = λ a. reads-shape a (e ∷ es) _ _ (k .shapes a) (became-reads a es (treeOf a c) (u .reads a) e);
+        reads = λ a. reads-shape a (e ∷ es) _ _ (k .shapes a) (became-reads c (u .sound .tidy) a es (u .reads a) e g);
         ruled = unfold treeAt heldFor upstreamOf routeOf routePlace in record { roots = k .ruled (u .ruled) .roots; full = k .ruled (u .ruled) .full; held = k .ruled (u .ruled) .held; trees = k .ruled (u .ruled) .trees; routes = k .ruled (u .ruled) .routes };
         routed = λ q. unfold routeOf routePlace in w q ∙ ap (routeNow e q) (u .routed q) ∙ sym (route-by e q es);
       }))
 
-  step-fair : (room : ℕ) (o : Outcome) → Keeps c (noteTaken e gs) (became e) (names e) o → NoneLive (pick (eqb (finish room c o .answer) 0) (messagesOf o) []) (noteTaken e gs)
-  unfolding messagesOf Keeps
-  step-fair room (refused n) k = picked (λ (ms : List Sent). NoneLive ms (noteTaken e gs)) (eqb (finish room c (refused n) .answer) 0) (λ _. unfold NoneLive in tt) (λ _. unfold NoneLive in tt)
-  step-fair room (taken ms after) k = picked (λ (ms : List Sent). NoneLive ms (noteTaken e gs)) (eqb (finish room c (taken ms after) .answer) 0) (λ _. k .fair) (λ _. unfold NoneLive in tt)
+  step-fair : (room : ℕ) (o : Outcome) → Keeps c (noteTaken e gs) (became e) (names e) o → NoneLive (sentWith (finish room c o) o) (liveWith (finish room c o))
+  unfolding messagesOf Keeps finish refuse accept NoneLive
+  step-fair room (refused n) k = rw (ne-eqb n 0 k) tt
+  step-fair room (taken ms after) k =
+      by-test (roomShort room (records (c .next) ms))
+      (λ t. rw t tt)
+      (λ t. rw t (k .fair))
 
   -- the octets read back
   step-wire : (room : ℕ) (o : Outcome) → Keeps c (noteTaken e gs) (became e) (names e) o → recordsIn (finish room c o .octets) ≡ pick (eqb (finish room c o .answer) 0) (messagesOf o) []
@@ -205,13 +219,24 @@ sends-said p s u =
     said (taken ms after) k = unfold messagesOf Keeps in k .said
 
 pub then-upheld : (p : Past) (s : Step) → Upheld p → Upheld (thenStep p s)
-unfolding thenStep
-then-upheld p s u = rw (sends-is p s u) (unfold answerTo event in step-upheld (p .card) (p .live) (p .accepted) (s .does) (s .room) (outcome (p .card) (s .does)) (event-keeps (p .card) (p .live) (u .sound) (s .does)) (event-routed (p .card) (p .live) (u .sound) (u .ruled) (s .does)) u)
+unfolding thenStep liveAt acceptedAt isTaken
+then-upheld p s u = rw (sends-is p s u) (unfold answerTo event in step-upheld (p .card) (p .live) (p .accepted) (s .does) (s .room) (outcome (p .card) (s .does)) (event-keeps (p .card) (p .live) (u .sound) (s .does)) (event-routed (p .card) (p .live) (u .sound) (u .ruled) (s .does)) (event-meets (p .card) (s .does)) u)
 
 pub steps-upheld : (p : Past) (ss : List Step) → Upheld p → Upheld (thenSteps p ss)
 unfolding thenSteps
 steps-upheld p [] u = u
 steps-upheld p (s ∷ ss) u = steps-upheld (thenStep p s) ss (then-upheld p s u)
+
+-- ---- a refused step
+
+-- On any card it sends nothing, so that its messages, which count as any step's, change nothing: the past stays as it was.
+pub refused-silent : (p : Past) (s : Step) → (answerTo (p .card) s .answer ≡ 0 → ⊥) → (sends (p .card) s ≡ []) × (thenStep p s ≡ p)
+unfolding thenStep liveAt acceptedAt isTaken sends recordsIn recordsF noteAll
+refused-silent p s some =
+    let r : (answerTo (p .card) s .card ≡ p .card) × (answerTo (p .card) s .octets ≡ []) = unfold answerTo in refusal-keeps (s .room) (p .card) (s .does) (unfold answerTo in some) in (
+      rw (r .1) refl,
+      rw (r .0, r .1, ne-eqb (answerTo (p .card) s .answer) 0 some) refl,
+    )
 
 -- ---- a fresh card
 
@@ -235,7 +260,7 @@ fresh-upheld b low high = record {
     books = unfold Books only givens in λ l. rw (fresh-use b l) refl;
     sum = unfold freeLabels fresh count isFree in refl;
   };
-  reads = λ a. unfold treeOf treePlace place fresh bare branchesBy branchBy leafBy in record { name = refl; branches = refl; leaf = refl };
+  reads = λ a. unfold treeOf treePlace place fresh bare branchesSaid leafBy in record { name = refl; said = λ n. sym (ap listed (getD-all 16 n 0) ∙ unfold listed isBranch in refl); leaf = refl };
   ruled = unfold fresh count in record { roots = λ r. zero-le; full = λ j h. absurd (not-suc-le-zero h); held = λ j h. absurd (not-suc-le-zero h); trees = zero-le; routes = zero-le };
   routed = λ q. unfold routeOf routePlace place fresh routeBy in refl;
 }
@@ -298,6 +323,23 @@ held-route c t n near =
     (λ _. picked (λ (x : ℕ). x ≡ n → n ≡ routeOf (rootIn (t .name)) c) (ltb (routeOf (rootIn (t .name)) c) 16) (λ _ e. sym e) (λ _ e. absurd (omega arith)))
     (λ _ e. absurd (omega arith))
 
+branches-cons : (n l : ℕ) (ls : List ℕ) → branchesFrom n (l ∷ ls) ≡ branchesTo n (listed l) ++ branchesFrom (suc n) ls
+unfolding branchesFrom listed
+branches-cons n l ls = by-test (isBranch l) (λ e. rw e (unfold branchesTo in refl)) (λ e. rw e (unfold branchesTo in refl))
+
+feed-from : (a : List ℕ) (u : ℕ) (es : List Event) (bs : List ℕ) (n k : ℕ) → length bs ≡ k → ((i : ℕ) → i < k → listed (getD bs i 0) ≡ pick (eqb (n + i) u) [] (branchesSaid a (n + i) es))
+    → branchesFrom n bs ≡ branchesBy a u n k es
+unfolding branchesBy
+feed-from a u es [] n zero e h = unfold branchesFrom in refl
+feed-from a u es [] n (suc k) e h = absurd (omega arith)
+feed-from a u es (l ∷ ls) n zero e h = absurd (omega arith)
+feed-from a u es (l ∷ ls) n (suc k) e h =
+    let first : listed l ≡ pick (eqb n u) [] (branchesSaid a n es) = h 0 (omega arith) ∙ ap (λ (x : ℕ). pick (eqb x u) [] (branchesSaid a x es)) (omega arith) in
+    let later : branchesFrom (suc n) ls ≡ branchesBy a u (suc n) k es =
+    feed-from a u es ls (suc n) k (omega arith) (λ i z. h (suc i) (omega arith) ∙ ap (λ (x : ℕ). pick (eqb x u) [] (branchesSaid a x es)) (omega arith)) in
+    let here : branchesTo n (listed l) ≡ pick (eqb n u) [] (branchesTo n (branchesSaid a n es)) = ap (branchesTo n) first ∙ by-test (eqb n u) (λ z. rw z (unfold branchesTo in refl)) (λ z. rw z refl) in
+    branches-cons n l ls ∙ ap₂ _++_ here later
+
 module _ (p : Past) (u : Upheld p) where
   carrier-is : (l n : ℕ) (a : List ℕ) → useOf l (p .card) ≡ mapped n a → carrier l (p .card) ≡ treeOf a (p .card)
   carrier-is l n a us =
@@ -321,9 +363,19 @@ module _ (p : Past) (u : Upheld p) where
       ∙ ap (λ (b : List ℕ). routeOf (rootIn b) (p .card)) (tree-name a (p .card))
       ∙ u .routed (rootIn a)
 
+  -- the branch places with that of the upstream cleared, read by rising neighbour number, are the branches that were said
   feed-is : (n : ℕ) (a : List ℕ) → n ≡ routeBy (rootIn a) (p .accepted) → feedOf n (treeOf a (p .card)) ≡ feedBy a (p .accepted)
   unfolding feedOf feedBy notHeld
-  feed-is n a e = λ i. record { branches = branchesFrom 0 (set (u .reads a .branches i) (e i) 0); leaf = u .reads a .leaf i }
+  feed-is n a e =
+      let bs : List ℕ = treeOf a (p .card) .branches in
+      let size : length bs ≡ 16 = tree-sized a (p .card) (u .sound .tidy) in
+      let at : (i : ℕ) → i < 16 → listed (getD (set bs n 0) i 0) ≡ pick (eqb i n) [] (branchesSaid a i (p .accepted)) =
+      λ i h. by-test (eqb i n)
+      (λ k. rw (k, ← eqb-true i n k) (ap listed (getD-set-same bs i 0 0 (rw size h)) ∙ unfold listed isBranch in refl))
+      (λ k. rw k (ap listed (getD-set-other bs n i 0 0 (eqb-false i n k)) ∙ sym (u .reads a .said i))) in
+      let branches : branchesFrom 0 (set bs n 0) ≡ branchesBy a n 0 16 (p .accepted) =
+      feed-from a n (p .accepted) (set bs n 0) 0 16 (length-set bs n 0 ∙ size) (λ i h. at i h ∙ ap (λ (x : ℕ). pick (eqb x n) [] (branchesSaid a x (p .accepted))) (omega arith)) in
+      λ i. record { branches = (branches ∙ ap (λ (x : ℕ). branchesBy a x 0 16 (p .accepted)) e) i; leaf = u .reads a .leaf i }
 
   use-leads : (l : ℕ) (x : Use) → useOf l (p .card) ≡ x → Each (Leads p) (givens l x)
   unfolding Each Leads givens lookupLabel feedOfUse
@@ -349,9 +401,10 @@ module _ (p : Past) (u : Upheld p) where
   pub kept : Promise p
   kept = record {
     one = books-one _ (p .live) (u .sound .books);
-    anew = λ s. rw (sends-is p s u) (unfold answerTo event in step-fair (p .card) (p .live) (p .accepted) (s .does) (s .room) (outcome (p .card) (s .does)) (event-keeps (p .card) (p .live) (u .sound) (s .does)));
+    anew = λ s. rw (sends-is p s u) (unfold liveAt isTaken answerTo event in step-fair (p .card) (p .live) (p .accepted) (s .does) (s .room) (outcome (p .card) (s .does)) (event-keeps (p .card) (p .live) (u .sound) (s .does)));
     wire = λ s. rw (sends-is p s u) (unfold answerTo event in step-octets (p .card) (p .live) (p .accepted) (s .does) (s .room) (outcome (p .card) (s .does)) (event-keeps (p .card) (p .live) (u .sound) (s .does)));
     answers = λ room n s z e. released n (messageIn s) (awaited-use room n s (outcome (p .card) (receive n s)) (unfold event in z) (heard-awaited (p .card) n s e));
+    single = λ a n. rw (u .reads a .said n) (listed-one _);
     leads = each-only (Leads p) (p .live) (λ l. rw (by-label l) (use-leads l (useOf l (p .card)) refl));
     others = λ l e. unfold lookupLabel feedOfUse in rw (books-none l (useOf l (p .card)) (sym (ap length (by-label l)) ∙ sym (count-only l (p .live)) ∙ e)) refl;
     sum = u .sound .sum;

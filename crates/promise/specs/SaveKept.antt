@@ -4,23 +4,24 @@ use Prim.Native.Nat.{ℕ, zero, suc, _+_, _-_, _≤_, _<_}
 use native.Mathlib.Nat.{add-sub-cancel-left}
 use native.Mathlib.Omega.{arith}
 use mathlib.Core.Path.{_≡_, refl, sym, ap, _∙_, subst}
-use mathlib.Core.Bool.{true, false, _&&_}
+use mathlib.Core.Bool.{Bool, true, false, _&&_}
 use mathlib.Core.List.{List, [], _∷_}
 use lib.ListN.{getD, length}
-use lib.Dec.{eqb}
-use borrow.Author.Tests.{eqb-false, eq-eqb, le-leb, lt-ltb}
+use lib.Dec.{eqb, ltb}
+use borrow.Author.Tests.{eqb-false, eq-eqb, le-leb, lt-ltb, ltb-false}
 use Rattle.meaning.specs.Octets.{same, all}
 use Rattle.meaning.specs.Wire.{mapping, withdraw, messageIn, elementRefusal}
-use Rattle.meaning.specs.Card.{Tree, Use, free, mapped, awaiting, Card, fresh, withNext, bare, treeOf, treeAt, isEmpty, useOf}
+use Rattle.meaning.specs.Card.{Tree, Use, free, mapped, awaiting, Card, fresh, withNext, bare, treeOf, treeAt, isBranch, isEmpty, useOf}
 use Rattle.meaning.specs.Events.{refuse, accept, Event, receive, join, leave, route, baseOutside, start}
 use Rattle.meaning.specs.Lists.{by-test, picked, same-refl}
 use Rattle.meaning.specs.Save.{isName, isBranchLabel, isTree, isUse, isCarried, isMappedFor, carriesOwn, keepsRules, saved, restore}
+use Rattle.meaning.specs.SaveFields.{all-cons}
 use Rattle.meaning.specs.SaveRules.{all-of, Rules, rules-kept}
 use Rattle.meaning.specs.SaveLaws.{restored}
-use Rattle.promise.specs.Promise.{Given, ofLabel, branchSaid, branchBy, branchesBy, Step, Past, thenSteps, history, Each, Promise}
+use Rattle.promise.specs.Promise.{Given, ofLabel, without, saidBy, branchesSaid, Step, Past, thenSteps, history, Each, Promise}
 use Rattle.promise.specs.LiveLaws.{isMapped, only, givens, Books}
 use Rattle.promise.specs.CardLaws.{Proper, at-proper, at-named}
-use Rattle.promise.specs.PromiseProof.{Upheld, steps-upheld, started, history-upheld, kept}
+use Rattle.promise.specs.PromiseProof.{listed, Upheld, steps-upheld, started, history-upheld, kept}
 use Rattle.promise.specs.SaveSteps.{Passed, AllPassed, Told, Writable, steps-writable}
 
 -- ---- branches: each is the label of an accepted Mapping
@@ -29,26 +30,39 @@ label-good : (l : ℕ) → 16 ≤ l → l ≤ 1048575 → isBranchLabel l ≡ tr
 unfolding isBranchLabel
 label-good l low high = by-test (eqb l 0) (λ e. rw e refl) (λ e. rw (e, le-leb 16 l low, le-leb l 1048575 high) refl)
 
-branch-good : (a : List ℕ) (n : ℕ) (es : List Event) → AllPassed es → isBranchLabel (branchBy a n es) ≡ true
-unfolding branchBy AllPassed Passed branchSaid
-branch-good a n [] h = unfold isBranchLabel in refl
-branch-good a n (receive from s ∷ es) h =
-    let before = branch-good a n es (h .1) in
-    picked (λ (l : ℕ). isBranchLabel l ≡ true) (same (messageIn s .name) a)
-    (λ _. picked (λ (l : ℕ). isBranchLabel l ≡ true) (eqb from n)
-    (λ _. picked (λ (l : ℕ). isBranchLabel l ≡ true) (eqb (messageIn s .kind) mapping)
-    (λ _. label-good (messageIn s .label) (h .0 .low) (h .0 .high))
-    (λ _. picked (λ (l : ℕ). isBranchLabel l ≡ true) (eqb (messageIn s .kind) withdraw && eqb (branchBy a n es) (messageIn s .label)) (λ _. unfold isBranchLabel in refl) (λ _. before)))
-    (λ _. before))
-    (λ _. before)
-branch-good a n (join e ∷ es) h = branch-good a n es (h .1)
-branch-good a n (leave e ∷ es) h = branch-good a n es (h .1)
-branch-good a n (route r via ∷ es) h = branch-good a n es (h .1)
+all-without : (t : ℕ → Bool) (l : ℕ) (ls : List ℕ) → all t ls ≡ true → all t (without l ls) ≡ true
+unfolding all without
+all-without t l [] h = refl
+all-without t l (k ∷ ks) h =
+    let r = all-cons t k ks h in
+    picked (λ (x : List ℕ). all t x ≡ true) (eqb k l) (λ _. all-without t l ks (r .1)) (λ _. unfold all in rw (r .0) (all-without t l ks (r .1)))
 
-branches-good : (a : List ℕ) (n k : ℕ) (es : List Event) → AllPassed es → all isBranchLabel (branchesBy a n k es) ≡ true
-unfolding all branchesBy
-branches-good a n zero es h = refl
-branches-good a n (suc k) es h = rw (branch-good a n es h) (branches-good a (suc n) k es h)
+said-good : (a : List ℕ) (n : ℕ) (es : List Event) → AllPassed es → all isBranchLabel (branchesSaid a n es) ≡ true
+unfolding branchesSaid AllPassed Passed saidBy all
+said-good a n [] h = refl
+said-good a n (receive from s ∷ es) h =
+    let before = said-good a n es (h .1) in
+    let good : List ℕ → Type 0 = λ ls. all isBranchLabel ls ≡ true in
+    let ended : good (without (messageIn s .label) (branchesSaid a n es)) = all-without isBranchLabel (messageIn s .label) (branchesSaid a n es) before in
+    picked good (eqb from n && same (messageIn s .name) a)
+    (λ _. picked good (eqb (messageIn s .kind) mapping)
+    (λ _. rw (label-good (messageIn s .label) (h .0 .low) (h .0 .high)) ended)
+    (λ _. picked good (eqb (messageIn s .kind) withdraw) (λ _. ended) (λ _. before)))
+    (λ _. before)
+said-good a n (join e ∷ es) h = said-good a n es (h .1)
+said-good a n (leave e ∷ es) h = said-good a n es (h .1)
+said-good a n (route r via ∷ es) h = said-good a n es (h .1)
+
+-- and so is what stands in a tree's place
+place-good : (l : ℕ) → all isBranchLabel (listed l) ≡ true → isBranchLabel l ≡ true
+unfolding listed isBranch
+place-good l h =
+    by-test (ltb 0 l)
+    (λ e. all-cons isBranchLabel l [] (rw e at h) .0)
+    (λ e. rw (le-zero l (ltb-false 0 l e)) (unfold isBranchLabel in refl))
+  where
+    le-zero : (k : ℕ) → k ≤ 0 → k ≡ 0
+    le-zero k z = omega arith
 
 is-tree : (t : Tree) → elementRefusal (t .name) ≡ 0 → length (t .branches) ≡ 16 → all isBranchLabel (t .branches) ≡ true → isEmpty t ≡ false → isTree t ≡ true
 unfolding isTree isName
@@ -90,8 +104,8 @@ module _ (p : Past) (u : Upheld p) (w : Writable p) where
   tree-good i h =
       let t : Tree = treeAt i (p .card) in
       let proper : (length (t .branches) ≡ 16) × (elementRefusal (t .name) ≡ 0) = unfold Proper in at-proper (p .card) i (u .sound .tidy) h in
-      let its : t .branches ≡ branchesBy (t .name) 0 16 (p .accepted) = ap (λ (x : Tree). x .branches) (sym (at-named (p .card) (u .sound .tidy) i h)) ∙ u .reads (t .name) .branches in
-      is-tree t (proper .1) (proper .0) (rw its (branches-good (t .name) 0 16 (p .accepted) (w .passed))) (u .ruled .full i h)
+      let its : (n : ℕ) → branchesSaid (t .name) n (p .accepted) ≡ listed (getD (t .branches) n 0) = λ n. u .reads (t .name) .said n ∙ ap (λ (x : Tree). listed (getD (x .branches) n 0)) (at-named (p .card) (u .sound .tidy) i h) in
+      is-tree t (proper .1) (proper .0) (all-of isBranchLabel (t .branches) 0 (λ n _. place-good _ (rw (its n) at (said-good (t .name) n (p .accepted) (w .passed))))) (u .ruled .full i h)
 
   use-good : (i : ℕ) → isUse (getD (p .card .labels) i free) ≡ true
   unfolding Books

@@ -16,7 +16,7 @@ use Rattle.meaning.specs.RoundTrip.{Heard, heard, Sendable, AllSendable}
 use Rattle.meaning.specs.RoutesStay.{relabel-routes}
 use Rattle.meaning.specs.Save.{isRoute}
 use Rattle.meaning.specs.SaveFields.{all-cons}
-use Rattle.promise.specs.Promise.{Given, isAbout, mark, remove, noteSent, noteAll, noteTaken, Step, Past, answerTo, sends, thenStep, thenSteps, Each}
+use Rattle.promise.specs.Promise.{Given, isAbout, mark, remove, noteSent, noteAll, noteTaken, Step, Past, answerTo, sends, isTaken, liveAt, acceptedAt, thenStep, thenSteps, Each}
 use Rattle.promise.specs.CardLaws.{swept-routes}
 use Rattle.promise.specs.EventLaws.{became, names, Keeps, event-keeps}
 use Rattle.promise.specs.PromiseProof.{Upheld, sends-said, then-upheld}
@@ -181,20 +181,18 @@ module _ (c : Card) (e : Event) (room : ℕ) where
   out-passed gs (taken ms after) g k z = g .1
 
 pub then-writable : (p : Past) (s : Step) → Upheld p → Writable p → Writable (thenStep p s)
-unfolding thenStep
+unfolding thenStep liveAt acceptedAt isTaken
 then-writable p s u w =
     let g : Goes (s .does) (outcome (p .card) (s .does)) = event-goes (p .card) (w .routes) (s .does) in
     let k = event-keeps (p .card) (p .live) (u .sound) (s .does) in
-    let n : answerTo (p .card) s .card .next < 4294967296 = unfold answerTo event in out-next (p .card) (s .does) (s .room) (outcome (p .card) (s .does)) (w .next) in
-    let r : all isRoute (answerTo (p .card) s .card .routes) ≡ true = unfold answerTo event in out-routes (p .card) (s .does) (s .room) (outcome (p .card) (s .does)) g (w .routes) in
-    picked Writable (eqb (answerTo (p .card) s .answer) 0)
-    (λ e. record {
-      next = n;
-      routes = r;
-      passed = unfold AllPassed in ((unfold answerTo event in out-passed (p .card) (s .does) (s .room) (p .live) (outcome (p .card) (s .does)) g k (unfold answerTo event in eqb-true _ _ e)), w .passed);
-      told = told-all (sends (p .card) s) (noteTaken (s .does) (p .live)) (sends-said p s u) (told-taken (s .does) (p .live) (w .told));
-    })
-    (λ e. record { next = n; routes = r; passed = w .passed; told = w .told })
+    record {
+      next = unfold answerTo event in out-next (p .card) (s .does) (s .room) (outcome (p .card) (s .does)) (w .next);
+      routes = unfold answerTo event in out-routes (p .card) (s .does) (s .room) (outcome (p .card) (s .does)) g (w .routes);
+      passed = picked AllPassed (eqb (answerTo (p .card) s .answer) 0)
+          (λ e. unfold AllPassed in ((unfold answerTo event in out-passed (p .card) (s .does) (s .room) (p .live) (outcome (p .card) (s .does)) g k (unfold answerTo event in eqb-true _ _ e)), w .passed))
+          (λ _. w .passed);
+      told = told-all (sends (p .card) s) _ (sends-said p s u) (picked (Each Told) (eqb (answerTo (p .card) s .answer) 0) (λ _. told-taken (s .does) (p .live) (w .told)) (λ _. w .told));
+    }
 
 pub steps-writable : (p : Past) (ss : List Step) → Upheld p → Writable p → Writable (thenSteps p ss)
 unfolding thenSteps

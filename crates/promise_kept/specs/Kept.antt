@@ -14,7 +14,7 @@ use Rattle.meaning.specs.Notice.{notice}
 use Rattle.meaning.specs.Save.{saved, save, restore}
 use Rattle.meaning.specs.Calls.{Hands}
 use Rattle.meaning.specs.Lists.{by-test}
-use Rattle.promise.specs.Promise.{Given, ofLabel, noteAll, noteTaken, feedBy, Step, Past, answerTo, sends, thenStep, Each, NoneLive, Leads, isWithdrawn, Promise}
+use Rattle.promise.specs.Promise.{Given, ofLabel, noteAll, noteTaken, feedBy, Step, Past, answerTo, sends, isTaken, liveAt, acceptedAt, thenStep, Each, NoneLive, Leads, isWithdrawn, Promise}
 use Rattle.promise.specs.SaveKept as Swap
 use Rattle.promise.specs.Deeds.{Deed, does, tells, swaps, thenDeed, thenDeeds, deeds-kept}
 use Rattle.memory.specs.Memory.{cardOf}
@@ -67,9 +67,13 @@ pub data Run (base : ℕ) : List Done → List ℕ → List ℕ → Type 0 where
 
 -- ---- what the calls said, by their answers and the octets that they handed back
 
+-- the live labels when a call's messages go out: the Release that it takes has ended a life
+abbrev pub liveFor : Call → List Given → List Given
+liveFor k gs = pick (eqb (k .answer) 0) (noteTaken (k .does) gs) gs
+
 unfoldable pub liveBy : List Done → List Given
 liveBy [] = []
-liveBy (call k ∷ ks) = pick (eqb (k .answer) 0) (noteAll (recordsIn (k .part)) (noteTaken (k .does) (liveBy ks))) (liveBy ks)
+liveBy (call k ∷ ks) = noteAll (recordsIn (k .part)) (liveFor k (liveBy ks))
 liveBy (tell t ∷ ks) = noteAll (recordsIn (t .part)) (liveBy ks)
 liveBy (swap ms ps ∷ ks) = liveBy ks
 
@@ -89,7 +93,7 @@ pub record KeptByCode (ks : List Done) (ns os : List ℕ) : Type 0 where
   -- Every live label is live at one neighbour, for one tree.
   pub one : (l : ℕ) → count (ofLabel l) (liveBy ks) ≤ 1
   -- No live label is given out again.
-  pub anew : (k : Call) (ns′ os′ : List ℕ) → Made ns os k ns′ os′ → NoneLive (recordsIn (k .part)) (noteTaken (k .does) (liveBy ks))
+  pub anew : (k : Call) (ns′ os′ : List ℕ) → Made ns os k ns′ os′ → NoneLive (recordsIn (k .part)) (liveFor k (liveBy ks))
   -- While mapped it leads exactly to the leaf, if joined, and the branches, those held left out, whose accepted Mapping no accepted Withdraw has since ended under its label; once withdrawn, to nobody.
   pub leads : Each (λ g. lookupLabel (g .label) (cardOf ns os) ≡ pick (g .withdrawn) nothing (feedBy (g .tree) (acceptedBy ks))) (liveBy ks)
   -- (any other number leads to nobody)
@@ -127,10 +131,8 @@ deeds-last p [] d = refl
 deeds-last p (x ∷ ds) d = deeds-last (thenDeed p x) ds d
 
 made-deed : (ks : List Done) (ns os : List ℕ) (k : Call) (ns′ os′ : List ℕ) → Made ns os k ns′ os′ → pastOf (call k ∷ ks) ns′ os′ ≡ thenDeed (pastOf ks ns os) (does (stepOf k))
-unfolding pastOf liveBy acceptedBy thenDeed thenStep sends answerTo
-made-deed ks ns os k ns′ os′ m =
-    rw (← m .answers, ← m .hands, ← m .leaves)
-    (by-test (eqb (k .answer) 0) (λ e. rw e refl) (λ e. rw e refl))
+unfolding pastOf liveBy acceptedBy thenDeed thenStep liveAt acceptedAt isTaken sends answerTo
+made-deed ks ns os k ns′ os′ m = rw (← m .answers, ← m .hands, ← m .leaves) refl
 
 told-deed : (ks : List Done) (ns os : List ℕ) (t : Telling) (ns′ : List ℕ) → Told ns t ns′ → pastOf (tell t ∷ ks) ns′ os ≡ thenDeed (pastOf ks ns os) (deedOf (tell t))
 unfolding pastOf liveBy acceptedBy thenDeed
@@ -165,14 +167,14 @@ call-is base ks ns os r k ns′ os′ m = rw (← run-past base ks ns os r) m
 
 -- DEMAND 3, of the code
 pub kept-by-code : (base : ℕ) (ks : List Done) (ns os : List ℕ) → Run base ks ns os → KeptByCode ks ns os
-unfolding pastOf Leads sends answerTo
+unfolding pastOf Leads sends answerTo liveAt isTaken
 kept-by-code base ks ns os r =
     let p : Promise (pastOf ks ns os) = subst Promise (sym (run-past base ks ns os r)) (unfold pastBy in deeds-kept base (deedsOf ks)) in
     record {
       wire = λ k ns′ os′ m. rw (m .hands) (p .wire (stepOf k));
       answers = λ k ns′ os′ m n s e z. p .answers (k .room) n s (ap (λ (x : Event). event (k .room) (cardOf ns os) x .answer) (sym e) ∙ sym (m .answers) ∙ z);
       one = p .one;
-      anew = λ k ns′ os′ m. rw (m .hands) (p .anew (stepOf k));
+      anew = λ k ns′ os′ m. rw (m .answers, m .hands) (p .anew (stepOf k));
       leads = p .leads;
       others = p .others;
       sum = p .sum;
