@@ -15,6 +15,7 @@ use Rattle.meaning.specs.Wire.{elementRefusal}
 use Rattle.meaning.specs.Card.{Tree, Use, free, Card, withTrees, withLabels, withLabel, named, bare, treePlace, treeOf, treeAt, isBranch, isEmpty, isFree, useOf, lowestFree, freeLabels}
 use Rattle.meaning.specs.Events.{setUse, setLabel, entered, swept}
 use Rattle.meaning.specs.Lists.{getD-same, by-test, picked, place-finds, place-count, getD-out, same-eq, same-refl, found-put, found-cut, count-put, count-cut, other-put, other-cut, count-other-put, place-only}
+use Rattle.promise.specs.Promise.{treesBut, useBut, Untouched}
 use Rattle.promise.specs.LiveLaws.{free-eq, upd}
 
 -- ---- uses
@@ -257,3 +258,77 @@ swept-base c i = picked (λ (x : Card). x .base ≡ c .base) (isEmpty (treeAt i 
 pub swept-routes : (c : Card) (i : ℕ) → swept i c .routes ≡ c .routes
 unfolding swept withTrees
 swept-routes c i = picked (λ (x : Card). x .routes ≡ c .routes) (isEmpty (treeAt i c)) (λ _. refl) (λ _. refl)
+
+-- ---- what is left alone
+
+pub untouched-same : (a : List ℕ) (c : Card) → Untouched a c c
+untouched-same a c = record { trees = refl; uses = λ l. refl }
+
+pub untouched-then : (a : List ℕ) (c d e : Card) → Untouched a c d → Untouched a d e → Untouched a c e
+untouched-then a c d e p q = record { trees = q .trees ∙ p .trees; uses = λ l. q .uses l ∙ p .uses l }
+
+-- a tree named a comes, changes, or goes
+but-put : (a : List ℕ) (ts : List Tree) (t : Tree) → named a t ≡ true → treesBut a (put ts (place (named a) ts) t) ≡ treesBut a ts
+unfolding treesBut place put
+but-put a [] t h = rw h refl
+but-put a (x ∷ ts) t h =
+    by-test (named a x)
+    (λ e. rw e (rw h refl))
+    (λ e. rw e (rw e (ap (λ (l : List Tree). x ∷ l) (but-put a ts t h))))
+
+but-set : (a : List ℕ) (ts : List Tree) (i : ℕ) (d t : Tree) → named a (getD ts i d) ≡ true → named a t ≡ true → treesBut a (set ts i t) ≡ treesBut a ts
+unfolding treesBut
+but-set a [] i d t h k = refl
+but-set a (x ∷ ts) zero d t h k = rw (h, k) refl
+but-set a (x ∷ ts) (suc i) d t h k = rw (but-set a ts i d t h k) refl
+
+but-cut : (a : List ℕ) (ts : List Tree) (i : ℕ) (d : Tree) → named a (getD ts i d) ≡ true → treesBut a (cut ts i) ≡ treesBut a ts
+unfolding treesBut cut
+but-cut a [] zero d h = refl
+but-cut a [] (suc i) d h = refl
+but-cut a (x ∷ ts) zero d h = rw h refl
+but-cut a (x ∷ ts) (suc i) d h = rw (but-cut a ts i d h) refl
+
+own-name : (a : List ℕ) (t : Tree) → t .name ≡ a → named a t ≡ true
+unfolding named
+own-name a t e = rw e (same-refl a)
+
+found-but : (a b : List ℕ) → same a b ≡ false → (ts : List Tree) → getD (treesBut a ts) (place (named b) (treesBut a ts)) (bare b) ≡ getD ts (place (named b) ts) (bare b)
+unfolding treesBut place
+found-but a b n [] = refl
+found-but a b n (t ∷ ts) =
+    by-test (named a t)
+    (λ e. rw (e, named-apart a b n t e) (found-but a b n ts))
+    (λ e. rw e (by-test (named b t) (λ k. rw k refl) (λ k. rw k (found-but a b n ts))))
+
+pub entered-untouched : (c : Card) (t : Tree) → Untouched (t .name) c (entered c t)
+unfolding entered withTrees treePlace useOf
+entered-untouched c t = record { trees = but-put (t .name) (c .trees) t (own-name (t .name) t refl); uses = λ l. refl }
+
+pub labelled-untouched : (c : Card) (i x : ℕ) → Untouched (treeAt i c .name) c (setLabel i x c)
+unfolding setLabel withTrees useOf
+labelled-untouched c i x = record { trees = but-set (treeAt i c .name) (c .trees) i (bare []) (withLabel x (treeAt i c)) (own-name _ _ (unfold treeAt in refl)) (labelled-own (treeAt i c)); uses = λ l. refl }
+  where
+    labelled-own : (t : Tree) → named (t .name) (withLabel x t) ≡ true
+    labelled-own t = unfold withLabel in own-name (t .name) (withLabel x t) refl
+
+pub swept-untouched : (c : Card) (i : ℕ) → Untouched (treeAt i c .name) c (swept i c)
+unfolding swept
+swept-untouched c i =
+    picked (Untouched (treeAt i c .name) c) (isEmpty (treeAt i c))
+    (λ _. unfold withTrees useOf in record { trees = but-cut (treeAt i c .name) (c .trees) i (bare []) (own-name _ _ (unfold treeAt in refl)); uses = λ l. refl })
+    (λ _. untouched-same _ c)
+
+-- a label of a's changes its use
+pub used-untouched : (a : List ℕ) (c : Card) (m : ℕ) (u : Use) → c .base ≤ m → m - c .base < length (c .labels) → useBut a u ≡ useBut a (useOf m c) → Untouched a c (setUse m u c)
+used-untouched a c m u from within e = record {
+  trees = unfold setUse withLabels in refl;
+  uses = λ l. ap (useBut a) (use-after c m u from within l) ∙ by-test (eqb m l)
+      (λ k. rw k (e ∙ ap (λ (x : ℕ). useBut a (useOf x c)) (eqb-true m l k)))
+      (λ k. rw k refl);
+}
+
+-- by name: every other tree's entry is as it was
+pub untouched-tree : (a : List ℕ) (c d : Card) → Untouched a c d → (b : List ℕ) → same a b ≡ false → treeOf b d ≡ treeOf b c
+unfolding treeOf treePlace
+untouched-tree a c d u b n = sym (found-but a b n (d .trees)) ∙ ap (λ (ts : List Tree). getD ts (place (named b) ts) (bare b)) (u .trees) ∙ found-but a b n (c .trees)

@@ -12,13 +12,13 @@ use Rattle.meaning.specs.Octets.{pick, place, same, put}
 use Rattle.meaning.specs.Wire.{isKind, mapping, withdraw, release, Message, messageIn, elementRefusal, Sent}
 use Rattle.meaning.specs.Card.{Tree, Use, free, mapped, awaiting, Card, noRoute, withRoutes, withTrees, withLabels, withBranch, withLeaf, treeLimit, named, bare, treePlace, treeOf, treeAt, stands, isEmpty, isFree, isAwaiting, mappedTo, useOf, heldFor, freeLabels, routeOf}
 use Rattle.meaning.specs.Events.{Outcome, refused, taken, unless, Moved, tell, setUse, relabel, need, labelsShort, upstream, upstreamOf, entered, swept, treesFull, treeRefusal, enter, become, branch, otherLabel, onMapping, lessBranch, onWithdraw, notAwaited, onRelease, onMessage, noNeighbour, onOctets, onJoin, onLeave, moveAll, needAll, routesWith, routeRefusal, reRoute, onRoute, Event, receive, join, leave, route, outcome}
-use Rattle.promise.specs.Promise.{Given, remove, noteSent, noteAll, noteTaken, NoneLive}
+use Rattle.promise.specs.Promise.{Given, remove, noteSent, noteAll, noteTaken, NoneLive, useBut, Untouched}
 use Rattle.meaning.specs.Lists.{by-test, picked, same-eq, count-new, no-when}
 use Rattle.meaning.specs.RoundTrip.{Heard, heard, AllSendable, sendable-append}
 use Rattle.promise.specs.LiveLaws.{linked-eq, upd, free-linked, books-eq, books-remove, books-removed}
-use Rattle.promise.specs.CardLaws.{use-after, in-block, shape, Proper, tree-name, tree-sized, entered-is, entered-tidy, put-within, swept-is, swept-tidy, swept-use, swept-labels, swept-base, swept-routes}
+use Rattle.promise.specs.CardLaws.{use-after, in-block, shape, Proper, tree-name, tree-sized, entered-is, entered-tidy, put-within, swept-is, swept-tidy, swept-use, swept-labels, swept-base, swept-routes, untouched-then, entered-untouched, swept-untouched, used-untouched}
 use Rattle.promise.specs.RuleLaws.{empty-asked, Ruled, shape-empty, upstream-same, route-ruled, put-in, put-more, cut-in, put-other-at, swept-at}
-use Rattle.promise.specs.LabelLaws.{holder-near, at-other, held-other, relabel-own, Sound, Fine, relabel-fine, relabel-none, none-append, note-append, Kept, all-kept, use-place}
+use Rattle.promise.specs.LabelLaws.{shape-name, own-awaiting, holder-near, at-other, held-other, relabel-own, Sound, Fine, relabel-fine, relabel-none, none-append, note-append, Kept, all-kept, use-place}
 
 -- ---- what an event that is taken makes of the tree named a
 
@@ -31,37 +31,37 @@ became (join e) a t = pick (same e a) (withLeaf true t) t
 became (leave e) a t = pick (same e a) (withLeaf false t) t
 became (route r via) a t = t
 
--- whether an event names the tree a; a route order may touch any
-unfoldable pub names : Event → List ℕ → Bool
-names (receive n s) a = same (messageIn s .name) a
-names (join e) a = same e a
-names (leave e) a = same e a
-names (route r via) a = true
+-- what an event leaves alone: all that is not of the tree that it names; a route order may touch any
+unfoldable pub Apart : Event → Card → Card → Type 0
+Apart (receive n s) = Untouched (messageIn s .name)
+Apart (join e) = Untouched e
+Apart (leave e) = Untouched e
+Apart (route r via) = λ before after. Unit {0}
 
 -- ---- what is to be kept, from a table c with gs live
 
-pub record Follows (c : Card) (gs : List Given) (f : List ℕ → Tree → Tree) (touched : List ℕ → Bool) (ms : List Sent) (after : Card) : Type 0 where
+pub record Follows (c : Card) (gs : List Given) (f : List ℕ → Tree → Tree) (A : Card → Type 0) (ms : List Sent) (after : Card) : Type 0 where
   pub sound : Sound after (noteAll ms gs)
   pub fair : NoneLive ms gs
   pub said : AllSendable ms
   pub shapes : (b : List ℕ) → shape (treeOf b after) ≡ shape (f b (treeOf b c))
-  pub apart : (b : List ℕ) → touched b ≡ false → treeOf b after ≡ treeOf b c
+  pub apart : A after
   pub ruled : Ruled c → Ruled after
 
-unfoldable pub Keeps : Card → List Given → (List ℕ → Tree → Tree) → (List ℕ → Bool) → Outcome → Type 0
+unfoldable pub Keeps : Card → List Given → (List ℕ → Tree → Tree) → (Card → Type 0) → Outcome → Type 0
 Keeps c gs f t (refused n) = n ≡ 0 → ⊥
 Keeps c gs f t (taken ms after) = Follows c gs f t ms after
 
-unless-keeps : (c : Card) (gs : List Given) (f : List ℕ → Tree → Tree) (t : List ℕ → Bool) (n : ℕ) (o : Outcome) → (n ≡ 0 → Keeps c gs f t o) → Keeps c gs f t (unless n o)
+unless-keeps : (c : Card) (gs : List Given) (f : List ℕ → Tree → Tree) (t : Card → Type 0) (n : ℕ) (o : Outcome) → (n ≡ 0 → Keeps c gs f t o) → Keeps c gs f t (unless n o)
 unfolding unless Keeps
 unless-keeps c gs f t zero o h = h refl
 unless-keeps c gs f t (suc n) o h = λ z. omega arith
 
-refused-keeps : (c : Card) (gs : List Given) (f : List ℕ → Tree → Tree) (t : List ℕ → Bool) (n : ℕ) → Keeps c gs f t (refused (suc n))
+refused-keeps : (c : Card) (gs : List Given) (f : List ℕ → Tree → Tree) (t : Card → Type 0) (n : ℕ) → Keeps c gs f t (refused (suc n))
 unfolding Keeps
 refused-keeps c gs f t n = λ z. omega arith
 
-keeps-eq : (c : Card) (gs : List Given) (f g : List ℕ → Tree → Tree) (t : List ℕ → Bool) (o : Outcome) → ((a : List ℕ) (x : Tree) → f a x ≡ g a x) → Keeps c gs f t o → Keeps c gs g t o
+keeps-eq : (c : Card) (gs : List Given) (f g : List ℕ → Tree → Tree) (t : Card → Type 0) (o : Outcome) → ((a : List ℕ) (x : Tree) → f a x ≡ g a x) → Keeps c gs f t o → Keeps c gs g t o
 unfolding Keeps
 keeps-eq c gs f g t (refused n) e k = k
 keeps-eq c gs f g t (taken ms after) e k = record { sound = k .sound; fair = k .fair; said = k .said; shapes = λ b. k .shapes b ∙ ap shape (e b (treeOf b c)); apart = k .apart; ruled = k .ruled }
@@ -255,22 +255,33 @@ module _ (c : Card) (gs : List Given) (S : Sound c gs) (a : List ℕ) (good : el
           rw (o .1) (o .2 ∙ R .held (r .0) (o .0) ∙ upstream-same c end (treeAt (r .0) c) (treeAt (r .0) c) (sym end-routes) refl)));
     }
 
-    entered-follows : treesFull c its ≡ false → (first : List Sent) → Quiet gs first → Follows c gs (onlyFor a f) (same a) (first ++ relabelled .sent) (swept its-place (relabelled .card))
+    -- the place is that of a, from its entry to its sweep
+    all-apart : Untouched a c end
+    all-apart =
+        let start-name : treeAt its-place (entered c its) .name ≡ a = ap (λ (t : Tree). t .name) its-at ∙ its-name in
+        let end-name : treeAt its-place (relabelled .card) .name ≡ a = shape-name _ _ (fine .at its-place) ∙ start-name in
+        untouched-then a c (relabelled .card) end
+        (untouched-then a c (entered c its) (relabelled .card)
+        (subst (λ (x : List ℕ). Untouched x c (entered c its)) its-name (entered-untouched c its))
+        (subst (λ (x : List ℕ). Untouched x (entered c its) (relabelled .card)) start-name (fine .apart)))
+        (subst (λ (x : List ℕ). Untouched x (relabelled .card) end) end-name (swept-untouched (relabelled .card) its-place))
+
+    entered-follows : treesFull c its ≡ false → (first : List Sent) → Quiet gs first → Follows c gs (onlyFor a f) (Untouched a c) (first ++ relabelled .sent) (swept its-place (relabelled .card))
     unfolding Quiet
     entered-follows full first q = record {
       sound = rw (note-append first (relabelled .sent) gs, q .0) swept-sound;
       fair = none-append first (relabelled .sent) gs (q .1) (rw (q .0) (fine .fair));
       said = sendable-append first (relabelled .sent) (q .2) (fine .said);
       shapes = λ b. ap shape (swept-tree b) ∙ fine .shapes b ∙ ap shape (entered-tree b);
-      apart = λ b n. swept-tree b ∙ fine .others b (ap (λ (t : Tree). same (t .name) b) its-at ∙ ap (λ (x : List ℕ). same x b) its-name ∙ n) ∙ entered-tree b ∙ (unfold onlyFor in rw n refl);
+      apart = all-apart;
       ruled = ruled-after full;
     }
 
-  pub enter-keeps : (first : List Sent) → Quiet gs first → treeRefusal c (f (treeOf a c)) ≡ 0 → Keeps c gs (onlyFor a f) (same a) (enter c first (f (treeOf a c)))
+  pub enter-keeps : (first : List Sent) → Quiet gs first → treeRefusal c (f (treeOf a c)) ≡ 0 → Keeps c gs (onlyFor a f) (Untouched a c) (enter c first (f (treeOf a c)))
   unfolding treeRefusal labelsShort its enter Keeps relabelled its-place
   enter-keeps first q e = let r = no-when 10 _ _ e in entered-follows (ltb-false _ _ (no-when 11 _ 0 (r .1) .0)) (r .0) first q
 
-  pub become-keeps : (first : List Sent) → Quiet gs first → Keeps c gs (onlyFor a f) (same a) (become c first (f (treeOf a c)))
+  pub become-keeps : (first : List Sent) → Quiet gs first → Keeps c gs (onlyFor a f) (Untouched a c) (become c first (f (treeOf a c)))
   unfolding become
   become-keeps first q = unless-keeps c gs _ _ _ _ (enter-keeps first q)
 
@@ -357,28 +368,34 @@ module _ (c : Card) (gs : List Given) (S : Sound c gs) where
       freed-at : (j : ℕ) → treeAt j (setUse l free c) ≡ treeAt j c
       freed-at j = unfold treeAt setUse withLabels in refl
 
-  release-keeps : (n k : ℕ) (a : List ℕ) (l : ℕ) (t : List ℕ → Bool) → Keeps c (remove n (record { kind = k; name = a; label = l }) gs) (λ b x. x) t (onRelease c n a l)
+  freed-apart : (n : ℕ) (a : List ℕ) (l : ℕ) → isAwaiting n a (useOf l c) ≡ true → Untouched a c (setUse l free c)
+  freed-apart n a l w =
+      let us : useOf l c ≡ awaiting n a = awaiting-eq n a (useOf l c) w in
+      let block : (c .base ≤ l) × (l - c .base < length (c .labels)) = in-block c l (ap isFree us ∙ unfold isFree in refl) in
+      used-untouched a c l free (block .0) (block .1) (sym (ap (useBut a) us ∙ own-awaiting n a ∙ unfold useBut in refl))
+
+  release-keeps : (n k : ℕ) (a : List ℕ) (l : ℕ) → Keeps c (remove n (record { kind = k; name = a; label = l }) gs) (λ b x. x) (Untouched a c) (onRelease c n a l)
   unfolding onRelease notAwaited
-  release-keeps n k a l t =
+  release-keeps n k a l =
       unless-keeps c _ _ _ _ (taken [] (setUse l free c))
       (λ e. unfold Keeps in record {
         sound = unfold noteAll in freed-sound n k a l (not-false _ (no-when 12 _ 0 e .0));
         fair = unfold NoneLive in tt;
         said = unfold AllSendable in tt;
         shapes = λ b. ap shape (freed-tree c l b);
-        apart = λ b _. freed-tree c l b;
+        apart = freed-apart n a l (not-false _ (no-when 12 _ 0 e .0));
         ruled = freed-ruled n k a l (not-false _ (no-when 12 _ 0 e .0));
       })
 
-  mapping-keeps : (n : ℕ) (a : List ℕ) (l : ℕ) → Heard n a l → Keeps c gs (onlyFor a (withBranch n l)) (same a) (onMapping c n a l)
+  mapping-keeps : (n : ℕ) (a : List ℕ) (l : ℕ) → Heard n a l → Keeps c gs (onlyFor a (withBranch n l)) (Untouched a c) (onMapping c n a l)
   unfolding onMapping
   mapping-keeps n a l g = unless-keeps c gs _ _ _ _ (λ _. become-keeps c gs S a (g .name) (withBranch n l) (λ t. unfold withBranch in refl) (λ t. unfold withBranch in refl) (size-branch n l) [] (none-quiet gs))
 
-  withdraw-keeps : (n : ℕ) (a : List ℕ) (l : ℕ) → Heard n a l → Keeps c gs (onlyFor a (lessBranch n l)) (same a) (onWithdraw c n a l)
+  withdraw-keeps : (n : ℕ) (a : List ℕ) (l : ℕ) → Heard n a l → Keeps c gs (onlyFor a (lessBranch n l)) (Untouched a c) (onWithdraw c n a l)
   unfolding onWithdraw
   withdraw-keeps n a l g = become-keeps c gs S a (g .name) (lessBranch n l) (less-name n l) (less-label n l) (less-size n l) _ (release-quiet gs n a l g)
 
-  message-keeps : (n : ℕ) (m : Message) → Heard n (m .name) (m .label) → Keeps c (pick (eqb (m .kind) release) (remove n m gs) gs) (onlyFor (m .name) (byMessage n m)) (same (m .name)) (onMessage c n m)
+  message-keeps : (n : ℕ) (m : Message) → Heard n (m .name) (m .label) → Keeps c (pick (eqb (m .kind) release) (remove n m gs) gs) (onlyFor (m .name) (byMessage n m)) (Untouched (m .name) c) (onMessage c n m)
   unfolding onMessage onlyFor byMessage
   message-keeps n m g =
       by-test (eqb (m .kind) mapping)
@@ -388,12 +405,12 @@ module _ (c : Card) (gs : List Given) (S : Sound c gs) where
       (λ k. rw (e, k, ne-eqb (m .kind) release (λ k′. omega (arith, eqb-true (m .kind) withdraw k)))
       (keeps-eq c gs (onlyFor (m .name) (lessBranch n (m .label))) (onlyFor (m .name) (byMessage n m)) _ _ (λ b t. rw (e, k) refl) (withdraw-keeps n (m .name) (m .label) g)))
       (λ k. by-test (eqb (m .kind) release)
-      (λ r. rw (e, k, r) (keeps-eq c (remove n m gs) (λ b t. t) (onlyFor (m .name) (byMessage n m)) _ _ (λ b t. rw (e, k) (either (same (m .name) b) t)) (release-keeps n (m .kind) (m .name) (m .label) _)))
+      (λ r. rw (e, k, r) (keeps-eq c (remove n m gs) (λ b t. t) (onlyFor (m .name) (byMessage n m)) _ _ (λ b t. rw (e, k) (either (same (m .name) b) t)) (release-keeps n (m .kind) (m .name) (m .label))))
       (λ r. rw (e, k, r) (refused-keeps c gs (onlyFor (m .name) (byMessage n m)) _ 2))))
 
   -- ---- the route order
 
-  routed : (r : List ℕ) (via : ℕ) (m : Moved) → Kept c gs m → (Ruled c → Ruled (withRoutes (routesWith c r via) (m .card))) → Follows c gs (λ b x. x) (λ b. true) (m .sent) (withRoutes (routesWith c r via) (m .card))
+  routed : (r : List ℕ) (via : ℕ) (m : Moved) → Kept c gs m → (Ruled c → Ruled (withRoutes (routesWith c r via) (m .card))) → Follows c gs (λ b x. x) (λ _. Unit {0}) (m .sent) (withRoutes (routesWith c r via) (m .card))
   routed r via m k rl = record {
     sound = record {
       tidy = unfold withRoutes in k .sound .tidy;
@@ -407,29 +424,29 @@ module _ (c : Card) (gs : List Given) (S : Sound c gs) where
     fair = k .fair;
     said = k .said;
     shapes = λ b. unfold withRoutes treeOf treePlace in k .shapes b;
-    apart = λ b e. absurd (let z : _≡_ {A = ℕ} 0 1 = cc in omega arith);
+    apart = tt;
     ruled = rl;
   }
 
-  moved-keeps : (r : List ℕ) (via : ℕ) → routeRefusal c r via ≡ 0 → Keeps c gs (λ b x. x) (λ b. true) (reRoute c r via)
+  moved-keeps : (r : List ℕ) (via : ℕ) → routeRefusal c r via ≡ 0 → Keeps c gs (λ b x. x) (λ _. Unit {0}) (reRoute c r via)
   unfolding reRoute Keeps routeRefusal labelsShort
   moved-keeps r via e =
       let full = no-when 14 _ _ e in
       let enough : needAll r (upstream via) c ≤ freeLabels c = ltb-false _ _ (no-when 11 _ 0 (full .1) .0) in
       routed r via (moveAll r (upstream via) c) (all-kept r (upstream via) (upstream-near via) c gs S enough) (λ R. route-ruled c gs S R r via (upstream-near via) enough (full .0))
 
-  route-keeps : (r : List ℕ) (via : ℕ) → Keeps c gs (λ b x. x) (λ b. true) (onRoute c r via)
+  route-keeps : (r : List ℕ) (via : ℕ) → Keeps c gs (λ b x. x) (λ _. Unit {0}) (onRoute c r via)
   unfolding onRoute
   route-keeps r via =
       unless-keeps c gs _ _ _ _
-      (λ _. picked (Keeps c gs (λ b x. x) (λ b. true)) (eqb (routeOf r c) via)
-      (λ _. unfold Keeps noteAll NoneLive AllSendable in record { sound = S; fair = tt; said = tt; shapes = λ b. refl; apart = λ b _. refl; ruled = λ R. R })
+      (λ _. picked (Keeps c gs (λ b x. x) (λ _. Unit {0})) (eqb (routeOf r c) via)
+      (λ _. unfold Keeps noteAll NoneLive AllSendable in record { sound = S; fair = tt; said = tt; shapes = λ b. refl; apart = tt; ruled = λ R. R })
       (λ _. unless-keeps c gs _ _ (routeRefusal c r via) (reRoute c r via) (moved-keeps r via)))
 
   -- ---- every event
 
-  pub event-keeps : (e : Event) → Keeps c (noteTaken e gs) (became e) (names e) (outcome c e)
-  unfolding outcome noteTaken became names onOctets onJoin onLeave onlyFor noNeighbour
+  pub event-keeps : (e : Event) → Keeps c (noteTaken e gs) (became e) (Apart e c) (outcome c e)
+  unfolding outcome noteTaken became Apart onOctets onJoin onLeave onlyFor noNeighbour
   event-keeps (receive n s) = unless-keeps c _ _ _ _ _ (λ z. unless-keeps c _ _ _ _ _ (λ e. message-keeps n (messageIn s) (heard n s (suc-le-suc (ltb-false 15 n (no-when 0 _ 0 z .0))) e)))
   event-keeps (join e) = unless-keeps c gs _ _ _ _ (λ ok. become-keeps c gs S e ok (withLeaf true) (λ t. unfold withLeaf in refl) (λ t. unfold withLeaf in refl) (λ t. unfold withLeaf in refl) [] (none-quiet gs))
   event-keeps (leave e) = unless-keeps c gs _ _ _ _ (λ ok. unless-keeps c gs _ _ _ _ (λ fits. unless-keeps c gs _ _ _ _ (λ _. enter-keeps c gs S e ok (withLeaf false) (λ t. unfold withLeaf in refl) (λ t. unfold withLeaf in refl) (λ t. unfold withLeaf in refl) [] (none-quiet gs) fits)))

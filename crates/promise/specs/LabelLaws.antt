@@ -13,11 +13,11 @@ use Rattle.meaning.specs.Octets.{pick, place, same}
 use Rattle.meaning.specs.Wire.{elementRefusal, isKind, withdraw, Sent}
 use Rattle.meaning.specs.Card.{Tree, Use, free, mapped, awaiting, Card, noRoute, withTrees, withLabels, withLabel, treePlace, treeOf, treeAt, leadsOn, isFree, mappedTo, useOf, heldFor, lowestFree, freeLabels}
 use Rattle.meaning.specs.Events.{Moved, still, followedBy, setUse, setLabel, ended, giveUp, give, letGo, takeUp, moveLabel, relabel, needMove, need, holder, ofRoot, moveOne, moveFrom, moveAll, needOne, sumFrom, needAll}
-use Rattle.promise.specs.Promise.{Given, noteSent, noteAll, NoneLive}
-use Rattle.meaning.specs.Lists.{by-test, picked, same-eq, count-set, count-set-place}
+use Rattle.promise.specs.Promise.{Given, noteSent, noteAll, NoneLive, useBut, Untouched}
+use Rattle.meaning.specs.Lists.{by-test, picked, same-eq, same-refl, count-set, count-set-place}
 use Rattle.meaning.specs.RoundTrip.{AllSendable, sendable-append}
 use Rattle.promise.specs.LiveLaws.{isMapped, mapped-near, mapped-eq, stray-not, Linked, linked-eq, upd, carry, up-linked, give-linked, up-keeps, give-keeps, Books, books-eq, books-free, books-give, books-mark, mark-length}
-use Rattle.promise.specs.CardLaws.{use-after, in-block, lowest-within, lowest-free, shape, Proper, Tidy, at-proper, at-place, at-named, labelled-is, labelled-tidy, labelled-at}
+use Rattle.promise.specs.CardLaws.{use-after, in-block, lowest-within, lowest-free, shape, Proper, Tidy, at-proper, at-place, at-named, labelled-is, labelled-tidy, labelled-at, untouched-same, untouched-then, labelled-untouched, used-untouched}
 
 -- the table is sound, and gs are the labels that are live
 pub record Sound (c : Card) (gs : List Given) : Type 0 where
@@ -41,10 +41,11 @@ pub record Fine (i : ℕ) (c : Card) (gs : List Given) (m : Moved) : Type 0 wher
   pub size : length (m .card .trees) ≡ length (c .trees)
   pub routes : m .card .routes ≡ c .routes
   pub at : (j : ℕ) → shape (treeAt j (m .card)) ≡ shape (treeAt j c)
+  pub apart : Untouched (treeAt i c .name) c (m .card)
 
 still-fine : (i : ℕ) (c : Card) (gs : List Given) → Sound c gs → Fine i c gs (still c)
 unfolding still noteAll NoneLive AllSendable
-still-fine i c gs S = record { sound = S; fair = tt; said = tt; others = λ b n. refl; uses = λ b n. refl; shapes = λ b. refl; size = refl; routes = refl; at = λ j. refl }
+still-fine i c gs S = record { sound = S; fair = tt; said = tt; others = λ b n. refl; uses = λ b n. refl; shapes = λ b. refl; size = refl; routes = refl; at = λ j. refl; apart = untouched-same _ c }
 
 pub shape-name : (t s : Tree) → shape t ≡ shape s → t .name ≡ s .name
 unfolding shape withLabel
@@ -74,7 +75,17 @@ then-fine i c gs m f p q =
       size = q .size ∙ p .size;
       routes = q .routes ∙ p .routes;
       at = λ j. q .at j ∙ p .at j;
+      apart = untouched-then _ c (m .card) (f (m .card) .card) (p .apart) (subst (λ (a : List ℕ). Untouched a (m .card) (f (m .card) .card)) nm (q .apart));
     }
+
+-- a's own labels
+own-mapped : (n : ℕ) (a : List ℕ) → useBut a (mapped n a) ≡ free
+unfolding useBut
+own-mapped n a = rw (same-refl a) refl
+
+pub own-awaiting : (n : ℕ) (a : List ℕ) → useBut a (awaiting n a) ≡ free
+unfolding useBut
+own-awaiting n a = rw (same-refl a) refl
 
 -- ---- one label's use and one tree's label change together
 
@@ -104,11 +115,16 @@ module _ (c : Card) (gs : List Given) (S : Sound c gs) (i : ℕ) (h : i < length
   moved-label : (b : List ℕ) → treeOf b moved .label ≡ carry (λ a. treeOf a c .label) (treeAt i c .name) x b
   moved-label b = ap (λ (t : Tree). t .label) (moved-tree b) ∙ by-test (same (treeAt i c .name) b) (λ e. rw e (unfold withLabel in refl)) (λ e. rw e refl)
 
+  used-name : treeAt i (setUse m v c) .name ≡ treeAt i c .name
+  unfolding treeAt setUse withLabels
+  used-name = refl
+
   moved-fine : (ms : List Sent) → Linked (carry (λ a. treeOf a c .label) (treeAt i c .name) x) (upd (λ l. useOf l c) m v) → Books (upd (λ l. useOf l c) m v) (noteAll ms gs)
       → length (noteAll ms gs) + freeLabels moved ≡ 256 → NoneLive ms gs → AllSendable ms
       → ((b : List ℕ) → same (treeAt i c .name) b ≡ false → upd (λ l. useOf l c) m v (treeOf b c .label) ≡ useOf (treeOf b c .label) c)
+      → useBut (treeAt i c .name) v ≡ useBut (treeAt i c .name) (useOf m c)
       → Fine i c gs (record { sent = ms; card = moved })
-  moved-fine ms L B n f sd keep = record {
+  moved-fine ms L B n f sd keep mine = record {
     sound = record {
       tidy = moved-tidy;
       low = unfold setLabel setUse withLabels withTrees in S .low;
@@ -126,6 +142,7 @@ module _ (c : Card) (gs : List Given) (S : Sound c gs) (i : ℕ) (h : i < length
     size = unfold setLabel setUse withLabels withTrees in length-set (c .trees) i _;
     routes = unfold setLabel setUse withLabels withTrees in refl;
     at = moved-at;
+    apart = untouched-then _ c (setUse m v c) moved (used-untouched _ c m v from within mine) (subst (λ (a : List ℕ). Untouched a (setUse m v c) moved) used-name (labelled-untouched (setUse m v c) i x));
   }
 
 -- the use by its place
@@ -192,7 +209,8 @@ module _ (c : Card) (gs : List Given) (S : Sound c gs) (i : ℕ) (h : i < length
         (unfold noteAll noteSent in ap₂ _+_ (mark-length _ _ gs) ended-free ∙ S .sum)
         (unfold NoneLive in ((λ e. absurd (omega arith)), tt))
         (unfold giveUp in up-said)
-        (λ b n. up-keeps _ _ (S .linked) (treeAt i c .name) (treeAt i c .label) _ b (held-own some-one) n))
+        (λ b n. up-keeps _ _ (S .linked) (treeAt i c .name) (treeAt i c .label) _ b (held-own some-one) n)
+        (own-awaiting (heldFor c (treeAt i c)) (treeAt i c .name) ∙ sym (ap (useBut (treeAt i c .name)) its-use ∙ own-mapped (heldFor c (treeAt i c)) (treeAt i c .name))))
 
   module _ (u : ℕ) (near : u < 16) (some-free : 0 < freeLabels c) (none : treeAt i c .label ≡ 0) where
     not-zero : lowestFree c ≡ 0 → ⊥
@@ -220,6 +238,7 @@ module _ (c : Card) (gs : List Given) (S : Sound c gs) (i : ℕ) (h : i < length
         (unfold NoneLive in ((λ _. books-free _ gs (S .books) (lowestFree c) (lowest-free c some-free)), tt))
         (unfold give in give-said)
         (λ b n. give-keeps _ _ (S .linked) (lowestFree c) _ b (lowest-free c some-free) not-zero)
+        (own-mapped u (treeAt i c .name) ∙ sym (ap (useBut (treeAt i c .name)) (lowest-free c some-free) ∙ unfold useBut in refl))
 
     give-at : treeAt i (give i u c .card) .label ≡ lowestFree c
     unfolding give treeAt setLabel setUse withLabels withTrees

@@ -8,7 +8,7 @@ use lib.ListN.{length}
 use lib.Dec.{eqb}
 use Rattle.meaning.specs.Octets.{pick, count, same}
 use Rattle.meaning.specs.Wire.{rootIn, mapping, withdraw, release, Message, messageIn, Sent, records, recordsIn}
-use Rattle.meaning.specs.Card.{noRoute, Card, treeOf, freeLabels, Branch, Feed, nothing, lookupLabel}
+use Rattle.meaning.specs.Card.{noRoute, Tree, Use, free, mapped, awaiting, Card, named, useOf, freeLabels, Branch, Feed, nothing, lookupLabel}
 use Rattle.meaning.specs.Events.{Event, receive, join, leave, route, Out, event, start}
 
 -- ---- live labels, from the messages alone
@@ -169,6 +169,22 @@ Leads p g = lookupLabel (g .label) (p .card) ≡ pick (g .withdrawn) nothing (fe
 unfoldable pub isWithdrawn : ℕ → Message → Given → Bool
 isWithdrawn n m g = isAbout n m g && g .withdrawn
 
+-- the trees, in their order, but for one named a
+unfoldable pub treesBut : List ℕ → List Tree → List Tree
+treesBut a [] = []
+treesBut a (t ∷ ts) = let others = treesBut a ts in pick (named a t) others (t ∷ others)
+
+-- what a label is used for, but for the name a: free where it is used for a
+unfoldable pub useBut : List ℕ → Use → Use
+useBut a free = free
+useBut a (mapped n b) = pick (same b a) free (mapped n b)
+useBut a (awaiting n b) = pick (same b a) free (awaiting n b)
+
+-- All that is not a's is as it was: the trees of other names and their order, and the labels that are used for other names.
+pub record Untouched (a : List ℕ) (before after : Card) : Type 0 where
+  pub trees : treesBut a (after .trees) ≡ treesBut a (before .trees)
+  pub uses : (l : ℕ) → useBut a (useOf l after) ≡ useBut a (useOf l before)
+
 pub record Promise (p : Past) : Type 0 where
   -- The octets are the records of the messages read in them, and hold nothing more.
   pub wire : (s : Step) → answerTo (p .card) s .octets ≡ records (p .card .next) (sends (p .card) s)
@@ -187,7 +203,7 @@ pub record Promise (p : Past) : Type 0 where
   -- Live and free labels make 256.
   pub sum : length (p .live) + freeLabels (p .card) ≡ 256
   -- A neighbour's message naming one tree touches no other tree's entry.
-  pub apart : (room n : ℕ) (s : List ℕ) (a : List ℕ) → (messageIn s .name ≡ a → ⊥) → treeOf a (event room (p .card) (receive n s) .card) ≡ treeOf a (p .card)
+  pub apart : (room n : ℕ) (s : List ℕ) → Untouched (messageIn s .name) (p .card) (event room (p .card) (receive n s) .card)
 
 -- DEMAND 3, proved in `PromiseProof`: after any history of a card that was started, with any base
 abbrev pub Demand3 : Type 0

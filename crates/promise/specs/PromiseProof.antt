@@ -14,16 +14,16 @@ use Rattle.meaning.specs.Octets.{pick, place, count, same}
 use Rattle.meaning.specs.Wire.{rootIn, mapping, withdraw, Message, messageIn, Sent, records, recordsF, recordsIn}
 use Rattle.meaning.specs.Card.{Tree, Use, free, mapped, awaiting, Card, fresh, withNext, withBranch, withLeaf, withLabel, bare, treePlace, treeOf, treeAt, isFree, isAwaiting, mappedTo, notHeld, leadsOn, useOf, freeLabels, heldFor, routeOf, routePlace, branchesFrom, feedOf, carries, carrier, feedOfUse, lookupLabel, isBranch}
 use Rattle.meaning.specs.Events.{Out, Outcome, refused, taken, refuse, accept, roomShort, finish, upstream, holder, upstreamOf, branch, lessBranch, Event, receive, join, leave, route, outcome, event, baseOutside, start, otherLabel}
-use Rattle.promise.specs.Promise.{Given, ofLabel, isAbout, isWithdrawn, Demand3, noteAll, noteTaken, leafBy, branchesBy, routeBy, feedBy, Step, Past, answerTo, sends, thenStep, thenSteps, history, Each, NoneLive, Leads, Promise, without, saidBy, branchesSaid, branchesTo, isTaken, liveAt, acceptedAt}
+use Rattle.promise.specs.Promise.{Given, ofLabel, isAbout, isWithdrawn, Demand3, noteAll, noteTaken, leafBy, branchesBy, routeBy, feedBy, Step, Past, answerTo, sends, thenStep, thenSteps, history, Each, NoneLive, Leads, Promise, without, saidBy, branchesSaid, branchesTo, isTaken, liveAt, acceptedAt, Untouched}
 use Rattle.meaning.specs.Lists.{getD-same, by-test, picked, place-finds, place-count, same-eq, same-refl, getD-out, getD-all, count-some}
 use Rattle.meaning.specs.RoundTrip.{both, AllSendable, records-back}
 use Rattle.meaning.specs.Refusals.{refusal-keeps}
 use Rattle.promise.specs.LiveLaws.{isMapped, mapped-near, stray, Linked, mapped-one, mapped-not-free, Books, only, givens, count-only, books-one, books-none, each-only}
-use Rattle.promise.specs.CardLaws.{shape, tree-name, tree-sized, Tidy, AllProper, at-named}
+use Rattle.promise.specs.CardLaws.{shape, tree-name, tree-sized, Tidy, AllProper, at-named, untouched-same}
 use Rattle.promise.specs.LabelLaws.{Sound}
 use Rattle.promise.specs.RuleLaws.{Ruled, held-named}
 use Rattle.promise.specs.RouteLaws.{routeNow, Routed, event-routed}
-use Rattle.promise.specs.EventLaws.{Awaited, heard-awaited, awaiting-eq, byMessage, became, names, Keeps, event-keeps, Admits, Meets, event-meets}
+use Rattle.promise.specs.EventLaws.{Awaited, heard-awaited, awaiting-eq, byMessage, became, Apart, Keeps, event-keeps, Admits, Meets, event-meets}
 
 -- ---- the tree that the accepted events make
 
@@ -159,7 +159,7 @@ module _ (c : Card) (gs : List Given) (es : List Event) (e : Event) where
   abbrev pastWith : Out → Outcome → Past
   pastWith out o = record { card = out .card; live = noteAll (sentWith out o) (liveWith out); accepted = pick (eqb (out .answer) 0) (e ∷ es) es }
 
-  step-upheld : (room : ℕ) (o : Outcome) → Keeps c (noteTaken e gs) (became e) (names e) o → Routed c e o → Meets c e o → Upheld (record { card = c; live = gs; accepted = es }) → Upheld (pastWith (finish room c o) o)
+  step-upheld : (room : ℕ) (o : Outcome) → Keeps c (noteTaken e gs) (became e) (Apart e c) o → Routed c e o → Meets c e o → Upheld (record { card = c; live = gs; accepted = es }) → Upheld (pastWith (finish room c o) o)
   unfolding finish refuse accept messagesOf Keeps Routed Meets noteAll
   step-upheld room (refused n) k w g u = rw (ne-eqb n 0 k) u
   step-upheld room (taken ms after) k w g u =
@@ -172,7 +172,7 @@ module _ (c : Card) (gs : List Given) (es : List Event) (e : Event) where
         routed = λ q. unfold routeOf routePlace in w q ∙ ap (routeNow e q) (u .routed q) ∙ sym (route-by e q es);
       }))
 
-  step-fair : (room : ℕ) (o : Outcome) → Keeps c (noteTaken e gs) (became e) (names e) o → NoneLive (sentWith (finish room c o) o) (liveWith (finish room c o))
+  step-fair : (room : ℕ) (o : Outcome) → Keeps c (noteTaken e gs) (became e) (Apart e c) o → NoneLive (sentWith (finish room c o) o) (liveWith (finish room c o))
   unfolding messagesOf Keeps finish refuse accept NoneLive
   step-fair room (refused n) k = rw (ne-eqb n 0 k) tt
   step-fair room (taken ms after) k =
@@ -181,7 +181,7 @@ module _ (c : Card) (gs : List Given) (es : List Event) (e : Event) where
       (λ t. rw t (k .fair))
 
   -- the octets read back
-  step-wire : (room : ℕ) (o : Outcome) → Keeps c (noteTaken e gs) (became e) (names e) o → recordsIn (finish room c o .octets) ≡ pick (eqb (finish room c o .answer) 0) (messagesOf o) []
+  step-wire : (room : ℕ) (o : Outcome) → Keeps c (noteTaken e gs) (became e) (Apart e c) o → recordsIn (finish room c o .octets) ≡ pick (eqb (finish room c o .answer) 0) (messagesOf o) []
   unfolding messagesOf Keeps finish refuse accept recordsIn recordsF
   step-wire room (refused n) k = picked (λ (ms : List Sent). [] ≡ ms) (eqb n 0) (λ _. refl) (λ _. refl)
   step-wire room (taken ms after) k =
@@ -189,7 +189,7 @@ module _ (c : Card) (gs : List Given) (es : List Event) (e : Event) where
       (λ t. rw t refl)
       (λ t. rw t (records-back (length (records (c .next) ms)) (c .next) ms (le-refl _) (k .said)))
 
-  step-octets : (room : ℕ) (o : Outcome) → Keeps c (noteTaken e gs) (became e) (names e) o → finish room c o .octets ≡ records (c .next) (pick (eqb (finish room c o .answer) 0) (messagesOf o) [])
+  step-octets : (room : ℕ) (o : Outcome) → Keeps c (noteTaken e gs) (became e) (Apart e c) o → finish room c o .octets ≡ records (c .next) (pick (eqb (finish room c o .answer) 0) (messagesOf o) [])
   unfolding messagesOf finish refuse accept records
   step-octets room (refused n) k = picked (λ (ms : List Sent). [] ≡ records (c .next) ms) (eqb n 0) (λ _. refl) (λ _. refl)
   step-octets room (taken ms after) k =
@@ -197,11 +197,11 @@ module _ (c : Card) (gs : List Given) (es : List Event) (e : Event) where
       (λ t. rw t refl)
       (λ t. rw t refl)
 
-  step-apart : (room : ℕ) (o : Outcome) → Keeps c (noteTaken e gs) (became e) (names e) o → (a : List ℕ) → names e a ≡ false → treeOf a (finish room c o .card) ≡ treeOf a c
+  step-apart : (room : ℕ) (a : List ℕ) (o : Outcome) → Keeps c (noteTaken e gs) (became e) (Untouched a c) o → Untouched a c (finish room c o .card)
   unfolding finish refuse accept Keeps
-  step-apart room (refused n) k a d = refl
-  step-apart room (taken ms after) k a d =
-      picked (λ (x : Out). treeOf a (x .card) ≡ treeOf a c) (roomShort room (records (c .next) ms)) (λ _. refl) (λ _. unfold withNext treeOf treePlace in k .apart a d)
+  step-apart room a (refused n) k = untouched-same a c
+  step-apart room a (taken ms after) k =
+      picked (λ (x : Out). Untouched a c (x .card)) (roomShort room (records (c .next) ms)) (λ _. untouched-same a c) (λ _. unfold withNext useOf in record { trees = k .apart .trees; uses = k .apart .uses })
 
 -- what the octets of a step say
 sends-is : (p : Past) (s : Step) → Upheld p → sends (p .card) s ≡ pick (eqb (answerTo (p .card) s .answer) 0) (messagesOf (outcome (p .card) (s .does))) []
@@ -214,7 +214,7 @@ sends-said p s u =
     rw (sends-is p s u)
     (picked AllSendable (eqb (answerTo (p .card) s .answer) 0) (λ _. said (outcome (p .card) (s .does)) (event-keeps (p .card) (p .live) (u .sound) (s .does))) (λ _. unfold AllSendable in tt))
   where
-    said : (o : Outcome) → Keeps (p .card) (noteTaken (s .does) (p .live)) (became (s .does)) (names (s .does)) o → AllSendable (messagesOf o)
+    said : (o : Outcome) → Keeps (p .card) (noteTaken (s .does) (p .live)) (became (s .does)) (Apart (s .does) (p .card)) o → AllSendable (messagesOf o)
     said (refused n) k = unfold AllSendable messagesOf in tt
     said (taken ms after) k = unfold messagesOf Keeps in k .said
 
@@ -408,11 +408,8 @@ module _ (p : Past) (u : Upheld p) where
     leads = each-only (Leads p) (p .live) (λ l. rw (by-label l) (use-leads l (useOf l (p .card)) refl));
     others = λ l e. unfold lookupLabel feedOfUse in rw (books-none l (useOf l (p .card)) (sym (ap length (by-label l)) ∙ sym (count-only l (p .live)) ∙ e)) refl;
     sum = u .sound .sum;
-    apart = λ room n s a d. unfold event names in step-apart (p .card) (p .live) (p .accepted) (receive n s) room (outcome (p .card) (receive n s)) (event-keeps (p .card) (p .live) (u .sound) (receive n s)) a (not-same (messageIn s .name) a d);
+    apart = λ room n s. unfold event Apart in step-apart (p .card) (p .live) (p .accepted) (receive n s) room (messageIn s .name) (outcome (p .card) (receive n s)) (event-keeps (p .card) (p .live) (u .sound) (receive n s));
   }
-    where
-      not-same : (x y : List ℕ) → (x ≡ y → ⊥) → same x y ≡ false
-      not-same x y d = by-test (same x y) (λ k. absurd (d (same-eq x y k))) (λ k. k)
 
 pub started : (b : ℕ) → Upheld (record { card = start b .card; live = []; accepted = [] })
 unfolding start accept refuse baseOutside withNext fresh

@@ -18,7 +18,7 @@ use Rattle.meaning.specs.Save.{isRoute}
 use Rattle.meaning.specs.SaveFields.{all-cons}
 use Rattle.promise.specs.Promise.{Given, isAbout, mark, remove, noteSent, noteAll, noteTaken, Step, Past, answerTo, sends, isTaken, liveAt, acceptedAt, thenStep, thenSteps, Each}
 use Rattle.promise.specs.CardLaws.{swept-routes}
-use Rattle.promise.specs.EventLaws.{became, names, Keeps, event-keeps}
+use Rattle.promise.specs.EventLaws.{became, Apart, Keeps, event-keeps}
 use Rattle.promise.specs.PromiseProof.{Upheld, sends-said, then-upheld}
 
 -- ---- the next identifier is of 32 bits
@@ -175,7 +175,7 @@ module _ (c : Card) (e : Event) (room : ℕ) where
   out-routes (refused n) g h = h
   out-routes (taken ms after) g h = picked (λ (x : Out). all isRoute (x .card .routes) ≡ true) (roomShort room (records (c .next) ms)) (λ _. h) (λ _. g .0)
 
-  out-passed : (gs : List Given) (o : Outcome) → Goes e o → Keeps c (noteTaken e gs) (became e) (names e) o → finish room c o .answer ≡ 0 → Passed e
+  out-passed : (gs : List Given) (o : Outcome) → Goes e o → Keeps c (noteTaken e gs) (became e) (Apart e c) o → finish room c o .answer ≡ 0 → Passed e
   unfolding finish refuse Goes Keeps
   out-passed gs (refused n) g k z = absurd (k z)
   out-passed gs (taken ms after) g k z = g .1

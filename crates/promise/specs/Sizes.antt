@@ -15,7 +15,7 @@ use Rattle.meaning.specs.RoundTrip.{AllSendable, Sendable, message-length, name
 use Rattle.promise.specs.Promise.{Given, noteTaken, Step, sends, history}
 use Rattle.promise.specs.LabelLaws.{Sound}
 use Rattle.promise.specs.RuleLaws.{Ruled}
-use Rattle.promise.specs.EventLaws.{became, names, Keeps, event-keeps}
+use Rattle.promise.specs.EventLaws.{became, Apart, Keeps, event-keeps}
 use Rattle.promise.specs.PromiseProof.{history-upheld, sends-said}
 
 unfoldable pub AllShort : List Sent → Type 0
@@ -87,7 +87,7 @@ route-most c r via =
     (λ _. unfold AtMost in zero-le)
     (λ _. unless-most _ _ _ (unfold AtMost in from-two r (upstream via) (length (c .trees)) 0 c)))
 
-most-octets : (c : Card) (gs : List Given) (e : Event) (room k : ℕ) (o : Outcome) → AtMost k o → Keeps c (noteTaken e gs) (became e) (names e) o → length (finish room c o .octets) ≤ k * recordLimit
+most-octets : (c : Card) (gs : List Given) (e : Event) (room k : ℕ) (o : Outcome) → AtMost k o → Keeps c (noteTaken e gs) (became e) (Apart e c) o → length (finish room c o .octets) ≤ k * recordLimit
 unfolding finish refuse accept AtMost Keeps
 most-octets c gs e room k (refused n) h g = zero-le
 most-octets c gs e room k (taken ms after) h g =

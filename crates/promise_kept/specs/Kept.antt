@@ -8,13 +8,13 @@ use lib.ListN.{length}
 use lib.Dec.{eqb}
 use Rattle.meaning.specs.Octets.{pick, count}
 use Rattle.meaning.specs.Wire.{release, messageIn, records, recordsIn}
-use Rattle.meaning.specs.Card.{Card, treeOf, freeLabels, nothing, lookupLabel}
+use Rattle.meaning.specs.Card.{Card, freeLabels, nothing, lookupLabel}
 use Rattle.meaning.specs.Events.{Event, receive, refuse, roomShort, event, start}
 use Rattle.meaning.specs.Notice.{notice}
 use Rattle.meaning.specs.Save.{saved, save, restore}
 use Rattle.meaning.specs.Calls.{Hands}
 use Rattle.meaning.specs.Lists.{by-test}
-use Rattle.promise.specs.Promise.{Given, ofLabel, noteAll, noteTaken, feedBy, Step, Past, answerTo, sends, isTaken, liveAt, acceptedAt, thenStep, Each, NoneLive, Leads, isWithdrawn, Promise}
+use Rattle.promise.specs.Promise.{Given, ofLabel, noteAll, noteTaken, feedBy, Step, Past, answerTo, sends, isTaken, liveAt, acceptedAt, thenStep, Each, NoneLive, Leads, isWithdrawn, Untouched, Promise}
 use Rattle.promise.specs.SaveKept as Swap
 use Rattle.promise.specs.Deeds.{Deed, does, tells, swaps, thenDeed, thenDeeds, deeds-kept}
 use Rattle.memory.specs.Memory.{cardOf}
@@ -101,7 +101,7 @@ pub record KeptByCode (ks : List Done) (ns os : List ℕ) : Type 0 where
   -- Live and free labels make 256.
   pub sum : length (liveBy ks) + freeLabels (cardOf ns os) ≡ 256
   -- A neighbour's message naming one tree touches no other tree's entry.
-  pub apart : (k : Call) (ns′ os′ : List ℕ) → Made ns os k ns′ os′ → (n : ℕ) (s a : List ℕ) → k .does ≡ receive n s → (messageIn s .name ≡ a → ⊥) → treeOf a (cardOf ns′ os′) ≡ treeOf a (cardOf ns os)
+  pub apart : (k : Call) (ns′ os′ : List ℕ) → Made ns os k ns′ os′ → (n : ℕ) (s : List ℕ) → k .does ≡ receive n s → Untouched (messageIn s .name) (cardOf ns os) (cardOf ns′ os′)
 
 -- ---- a run is a history
 
@@ -178,5 +178,5 @@ kept-by-code base ks ns os r =
       leads = p .leads;
       others = p .others;
       sum = p .sum;
-      apart = λ k ns′ os′ m n s a e d. ap (treeOf a) (m .leaves ∙ ap (λ (x : Event). event (k .room) (cardOf ns os) x .card) e) ∙ p .apart (k .room) n s a d;
+      apart = λ k ns′ os′ m n s e. rw (m .leaves ∙ ap (λ (x : Event). event (k .room) (cardOf ns os) x .card) e) (p .apart (k .room) n s);
     }
