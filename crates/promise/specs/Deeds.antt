@@ -1,26 +1,36 @@
--- DEMAND 3 WITH ALL THAT A CARD DOES: events, notices to neighbours and card swaps, in any order and number.
+-- DEMAND 3 WITH ALL THAT IS DONE WITH A CARD: events, notices to neighbours, saves, card swaps, refused restores and new starts, in any order and number.
 -- Assumes nothing.
 use Prim.Native.Nat.{ℕ, _+_, _%_, _<_}
 use native.Mathlib.Omega.{arith}
 use mathlib.Core.Path.{_≡_, refl}
+use mathlib.Core.Bool.{true}
 use mathlib.Core.List.{List, [], _∷_}
 use Rattle.meaning.specs.Octets.{pick, two, four, twoAt}
 use Rattle.meaning.specs.Wire.{mapping, withdraw, tlv, nextId, messageIn, recordsF, recordsIn}
 use Rattle.meaning.specs.Card.{Card, withNext, treeOf, treePlace, treeAt, useOf, heldFor, freeLabels, routeOf, routePlace}
 use Rattle.meaning.specs.Events.{Out, refuse, accept, roomShort, noNeighbour, upstreamOf, start}
+use Rattle.meaning.specs.Save.{saved, save, keepsRules, isSave, restore}
 use Rattle.meaning.specs.Notice.{statusValue, noticeDue, noticeOctets, noticeRecord, notice}
 use Rattle.meaning.specs.Lists.{picked}
 use Rattle.meaning.specs.NoticeLaws.{spread, record-spread}
-use Rattle.promise.specs.Promise.{Given, noteSent, noteAll, Step, Past, thenStep, Promise}
+use Rattle.promise.specs.Promise.{Given, noteSent, noteAll, Step, Past, thenStep, begun, Promise}
 use Rattle.promise.specs.PromiseProof.{Upheld, then-upheld, started, kept}
 use Rattle.promise.specs.SaveSteps.{Writable, then-writable}
 use Rattle.promise.specs.SaveKept.{start-writable, past-keeps-rules, swapped, swapped-same}
 
--- An event; a notice (the room that it has, the neighbour, the number of a refusal, the refused octets); or a swap for a card on which any table stands: the save of this card is restored there, with no event between.
+-- does: an event.
+-- tells: a notice: the room that it has, the neighbour, the number of a refusal, the refused octets.
+-- saves: a save, with the room that it has.
+-- swaps: a swap for a card on which any table stands: the save of this card is restored there, with no event between. A notice takes an identifier: between a save and its restore it counts as an event, and nothing is claimed.
+-- restores: a restore of those octets on this card, by which nothing is swapped: only of a refused one is anything claimed (`Claimed`).
+-- starts: a start with that base, by which a new history begins.
 pub data Deed : Type 0 where
   does : Step → Deed
   tells : ℕ → ℕ → ℕ → List ℕ → Deed
+  saves : ℕ → Deed
   swaps : Card → Deed
+  restores : List ℕ → Deed
+  starts : ℕ → Deed
 
 -- of a notice the messages count as of any output, by what a reader finds in its octets
 unfoldable pub thenDeed : Past → Deed → Past
@@ -28,11 +38,27 @@ thenDeed p (does s) = thenStep p s
 thenDeed p (tells room n number s) =
     let o = notice room (p .card) n number s in
     record { card = o .card; live = noteAll (recordsIn (o .octets)) (p .live); accepted = p .accepted }
+thenDeed p (saves room) = record { card = save room (p .card) .card; live = p .live; accepted = p .accepted }
 thenDeed p (swaps d) = swapped p d
+thenDeed p (restores o) = record { card = restore o (p .card) .card; live = p .live; accepted = p .accepted }
+thenDeed p (starts base) = begun base
 
 unfoldable pub thenDeeds : Past → List Deed → Past
 thenDeeds p [] = p
 thenDeeds p (d ∷ ds) = thenDeeds (thenDeed p d) ds
+
+-- Of every deed something is claimed but of a restore that is taken: the table that it brings has a history that is not this one's.
+unfoldable pub IsClaimed : Past → Deed → Type 0
+IsClaimed p (does s) = Unit {0}
+IsClaimed p (tells room n number s) = Unit {0}
+IsClaimed p (saves room) = Unit {0}
+IsClaimed p (swaps d) = Unit {0}
+IsClaimed p (restores o) = restore o (p .card) .answer ≡ 0 → ⊥
+IsClaimed p (starts base) = Unit {0}
+
+unfoldable pub Claimed : Past → List Deed → Type 0
+Claimed p [] = Unit {0}
+Claimed p (d ∷ ds) = IsClaimed p d × Claimed (thenDeed p d) ds
 
 -- ---- a notice
 
@@ -81,25 +107,40 @@ module _ (P : Past → Type 0) (p : Past) (small : p .card .next < 4294967296) (
       picked after (noNeighbour n) (λ _. unchanged 1)
       (λ _. picked after (noticeDue number s) (λ _. picked after (roomShort room (noticeRecord (p .card .next) n number s)) (λ _. unchanged 16) (λ _. spoken)) (λ _. silent))
 
+-- ---- a save, and a refused restore
+
+save-same : (room : ℕ) (c : Card) → save room c .card ≡ c
+unfolding save refuse
+save-same room c = picked (λ (o : Out). o .card ≡ c) (roomShort room (saved c)) (λ _. refl) (λ _. refl)
+
+restore-same : (o : List ℕ) (c : Card) → (restore o c .answer ≡ 0 → ⊥) → restore o c .card ≡ c
+unfolding restore refuse
+restore-same o c = picked (λ (x : Out). (x .answer ≡ 0 → ⊥) → x .card ≡ c) (isSave o) (λ _ n. absurd (n refl)) (λ _ _. refl)
+
 -- ---- any deed, and any number of them
 
-deed-upheld : (p : Past) (d : Deed) → Upheld p → Writable p → Upheld (thenDeed p d)
-unfolding thenDeed
-deed-upheld p (does s) u w = then-upheld p s u
-deed-upheld p (tells room n number s) u w = unfold thenDeed in told Upheld p (w .next) u (λ id _. renumbered-upheld id p u) room n number s
-deed-upheld p (swaps d) u w = rw (swapped-same p (past-keeps-rules p u w) d) u
+module _ (P : Past → Type 0) (p : Past) (h : P p) (small : p .card .next < 4294967296) (u : keepsRules (p .card) ≡ true)
+    (step : (s : Step) → P (thenStep p s)) (new : (base : ℕ) → P (begun base)) (goes : (id : ℕ) → id < 4294967296 → P (renumbered id p)) where
+  deed-keeps : (d : Deed) → IsClaimed p d → P (thenDeed p d)
+  unfolding thenDeed IsClaimed
+  deed-keeps (does s) k = step s
+  deed-keeps (tells room n number s) k = unfold thenDeed in told P p small h goes room n number s
+  deed-keeps (saves room) k = rw (save-same room (p .card)) h
+  deed-keeps (swaps d) k = rw (swapped-same p u d) h
+  deed-keeps (restores o) k = rw (restore-same o (p .card) k) h
+  deed-keeps (starts base) k = new base
 
-deed-writable : (p : Past) (d : Deed) → Upheld p → Writable p → Writable (thenDeed p d)
-unfolding thenDeed
-deed-writable p (does s) u w = then-writable p s u w
-deed-writable p (tells room n number s) u w = unfold thenDeed in told Writable p (w .next) w (λ id h. renumbered-writable id p h w) room n number s
-deed-writable p (swaps d) u w = rw (swapped-same p (past-keeps-rules p u w) d) w
+pub deed-upheld : (p : Past) (d : Deed) → Upheld p → Writable p → IsClaimed p d → Upheld (thenDeed p d)
+deed-upheld p d u w = deed-keeps Upheld p u (w .next) (past-keeps-rules p u w) (λ s. then-upheld p s u) started (λ id _. renumbered-upheld id p u) d
 
-deeds-upheld : (p : Past) (ds : List Deed) → Upheld p → Writable p → Upheld (thenDeeds p ds)
-unfolding thenDeeds
-deeds-upheld p [] u w = u
-deeds-upheld p (d ∷ ds) u w = deeds-upheld (thenDeed p d) ds (deed-upheld p d u w) (deed-writable p d u w)
+pub deed-writable : (p : Past) (d : Deed) → Upheld p → Writable p → IsClaimed p d → Writable (thenDeed p d)
+deed-writable p d u w = deed-keeps Writable p w (w .next) (past-keeps-rules p u w) (λ s. then-writable p s u w) start-writable (λ id h. renumbered-writable id p h w) d
 
--- DEMAND 3, after any events, notices and swaps of a card that was started.
-pub deeds-kept : (base : ℕ) (ds : List Deed) → Promise (thenDeeds (record { card = start base .card; live = []; accepted = [] }) ds)
-deeds-kept base ds = kept _ (deeds-upheld _ ds (started base) (start-writable base))
+deeds-upheld : (p : Past) (ds : List Deed) → Upheld p → Writable p → Claimed p ds → Upheld (thenDeeds p ds)
+unfolding thenDeeds Claimed
+deeds-upheld p [] u w k = u
+deeds-upheld p (d ∷ ds) u w k = deeds-upheld (thenDeed p d) ds (deed-upheld p d u w (k .0)) (deed-writable p d u w (k .0)) (k .1)
+
+-- DEMAND 3, after all that is done with a card that was started.
+pub deeds-kept : (base : ℕ) (ds : List Deed) → Claimed (begun base) ds → Promise (thenDeeds (begun base) ds)
+deeds-kept base ds k = kept _ (deeds-upheld _ ds (started base) (start-writable base) k)

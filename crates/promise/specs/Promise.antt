@@ -8,7 +8,7 @@ use lib.ListN.{length}
 use lib.Dec.{eqb}
 use Rattle.meaning.specs.Octets.{pick, count, same}
 use Rattle.meaning.specs.Wire.{rootIn, mapping, withdraw, release, Message, messageIn, Sent, records, recordsIn}
-use Rattle.meaning.specs.Card.{noRoute, Tree, Use, free, mapped, awaiting, Card, named, useOf, freeLabels, Branch, Feed, nothing, lookupLabel}
+use Rattle.meaning.specs.Card.{noRoute, Tree, Use, free, mapped, awaiting, Card, named, useOf, freeLabels, Branch, Feed, nothing, lookupLabel, lookupName}
 use Rattle.meaning.specs.Events.{Event, receive, join, leave, route, Out, event, start}
 
 -- ---- live labels, from the messages alone
@@ -144,9 +144,13 @@ unfoldable pub thenSteps : Past → List Step → Past
 thenSteps p [] = p
 thenSteps p (s ∷ ss) = thenSteps (thenStep p s) ss
 
--- a card as the start hands it back, whatever base was asked for, and then the steps
+-- a card as the start hands it back, whatever base was asked for
+abbrev pub begun : ℕ → Past
+begun base = record { card = start base .card; live = []; accepted = [] }
+
+-- and then the steps
 unfoldable pub history : ℕ → List Step → Past
-history base ss = thenSteps (record { card = start base .card; live = []; accepted = [] }) ss
+history base ss = thenSteps (begun base) ss
 
 -- ---- the promise
 
@@ -200,6 +204,8 @@ pub record Promise (p : Past) : Type 0 where
   pub leads : Each (Leads p) (p .live)
   -- (any other number leads to nobody)
   pub others : (l : ℕ) → count (ofLabel l) (p .live) ≡ 0 → lookupLabel l (p .card) ≡ nothing
+  -- (by name a tree leads to the same, upstream or not; octets that name none lead to nobody)
+  pub byName : (a : List ℕ) → lookupName a (p .card) ≡ feedBy a (p .accepted)
   -- Live and free labels make 256.
   pub sum : length (p .live) + freeLabels (p .card) ≡ 256
   -- A neighbour's message naming one tree touches no other tree's entry.

@@ -11,17 +11,17 @@ use lib.Seq.{ext-getD, set-getD, getD-set-same, getD-set-other}
 use lib.Dec.{eqb, leb, ltb}
 use borrow.Author.Tests.{eqb-true, eqb-false, eq-eqb, ne-eqb, ltb-true, ltb-false, lt-ltb, leb-true, not-false}
 use Rattle.meaning.specs.Octets.{pick, place, count, same}
-use Rattle.meaning.specs.Wire.{rootIn, mapping, withdraw, Message, messageIn, Sent, records, recordsF, recordsIn}
-use Rattle.meaning.specs.Card.{Tree, Use, free, mapped, awaiting, Card, fresh, withNext, withBranch, withLeaf, withLabel, bare, treePlace, treeOf, treeAt, isFree, isAwaiting, mappedTo, notHeld, leadsOn, useOf, freeLabels, heldFor, routeOf, routePlace, branchesFrom, feedOf, carries, carrier, feedOfUse, lookupLabel, isBranch}
+use Rattle.meaning.specs.Wire.{rootIn, mapping, withdraw, Message, messageIn, Sent, records, recordsF, recordsIn, elementRefusal}
+use Rattle.meaning.specs.Card.{Tree, Use, free, mapped, awaiting, Card, fresh, withNext, withBranch, withLeaf, withLabel, bare, treePlace, treeOf, treeAt, isFree, isAwaiting, mappedTo, notHeld, leadsOn, useOf, freeLabels, heldFor, routeOf, routePlace, branchesFrom, feedOf, carries, carrier, feedOfUse, lookupLabel, isBranch, nothing, lookupName}
 use Rattle.meaning.specs.Events.{Out, Outcome, refused, taken, refuse, accept, roomShort, finish, upstream, holder, upstreamOf, branch, lessBranch, Event, receive, join, leave, route, outcome, event, baseOutside, start, otherLabel}
-use Rattle.promise.specs.Promise.{Given, ofLabel, isAbout, isWithdrawn, Demand3, noteAll, noteTaken, leafBy, branchesBy, routeBy, feedBy, Step, Past, answerTo, sends, thenStep, thenSteps, history, Each, NoneLive, Leads, Promise, without, saidBy, branchesSaid, branchesTo, isTaken, liveAt, acceptedAt, Untouched}
-use Rattle.meaning.specs.Lists.{getD-same, by-test, picked, place-finds, place-count, same-eq, same-refl, getD-out, getD-all, count-some}
+use Rattle.promise.specs.Promise.{Given, ofLabel, isAbout, isWithdrawn, Demand3, noteAll, noteTaken, leafBy, branchesBy, routeBy, feedBy, Step, Past, answerTo, sends, thenStep, thenSteps, history, Each, NoneLive, Leads, Promise, without, saidBy, branchesSaid, branchesTo, isTaken, liveAt, acceptedAt, Untouched, begun}
+use Rattle.meaning.specs.Lists.{getD-same, by-test, picked, place-finds, place-count, same-eq, same-refl, getD-out, getD-all, count-some, set-replicate}
 use Rattle.meaning.specs.RoundTrip.{both, AllSendable, records-back}
 use Rattle.meaning.specs.Refusals.{refusal-keeps}
 use Rattle.promise.specs.LiveLaws.{isMapped, mapped-near, stray, Linked, mapped-one, mapped-not-free, Books, only, givens, count-only, books-one, books-none, each-only}
-use Rattle.promise.specs.CardLaws.{shape, tree-name, tree-sized, Tidy, AllProper, at-named, untouched-same}
+use Rattle.promise.specs.CardLaws.{shape, tree-name, tree-sized, Proper, Tidy, AllProper, at-proper, at-named, untouched-same}
 use Rattle.promise.specs.LabelLaws.{Sound}
-use Rattle.promise.specs.RuleLaws.{Ruled, held-named}
+use Rattle.promise.specs.RuleLaws.{Ruled, held-named, standing-at, not-standing}
 use Rattle.promise.specs.RouteLaws.{routeNow, Routed, event-routed}
 use Rattle.promise.specs.EventLaws.{Awaited, heard-awaited, awaiting-eq, byMessage, became, Apart, Keeps, event-keeps, Admits, Meets, event-meets}
 
@@ -340,6 +340,10 @@ feed-from a u es (l ∷ ls) n (suc k) e h =
     let here : branchesTo n (listed l) ≡ pick (eqb n u) [] (branchesTo n (branchesSaid a n es)) = ap (branchesTo n) first ∙ by-test (eqb n u) (λ z. rw z (unfold branchesTo in refl)) (λ z. rw z refl) in
     branches-cons n l ls ∙ ap₂ _++_ here later
 
+bare-leads : (u : ℕ) (a : List ℕ) → feedOf u (bare a) ≡ nothing
+unfolding feedOf notHeld bare nothing
+bare-leads u a = rw (set-replicate {A = ℕ} 16 u 0) (unfold branchesFrom isBranch in refl)
+
 module _ (p : Past) (u : Upheld p) where
   carrier-is : (l n : ℕ) (a : List ℕ) → useOf l (p .card) ≡ mapped n a → carrier l (p .card) ≡ treeOf a (p .card)
   carrier-is l n a us =
@@ -377,6 +381,23 @@ module _ (p : Past) (u : Upheld p) where
       feed-from a n (p .accepted) (set bs n 0) 0 16 (length-set bs n 0 ∙ size) (λ i h. at i h ∙ ap (λ (x : ℕ). pick (eqb x n) [] (branchesSaid a x (p .accepted))) (omega arith)) in
       λ i. record { branches = (branches ∙ ap (λ (x : ℕ). branchesBy a x 0 16 (p .accepted)) e) i; leaf = u .reads a .leaf i }
 
+  -- what 6 or 7 refuses names no tree
+  no-tree : (a : List ℕ) → eqb (elementRefusal a) 0 ≡ false → treeOf a (p .card) ≡ bare a
+  no-tree a e =
+      by-test (ltb (treePlace a (p .card)) (length (p .card .trees)))
+      (λ k. let at : treeOf a (p .card) ≡ treeAt (treePlace a (p .card)) (p .card) = standing-at (p .card) a (ltb-true _ _ k) in
+      let good : elementRefusal (treeAt (treePlace a (p .card)) (p .card) .name) ≡ 0 = unfold Proper in at-proper (p .card) (treePlace a (p .card)) (u .sound .tidy) (ltb-true _ _ k) .1 in
+      absurd (eqb-false _ _ e (ap elementRefusal (sym (tree-name a (p .card)) ∙ ap (λ (t : Tree). t .name) at) ∙ good)))
+      (λ k. not-standing (p .card) a (ltb-false _ _ k))
+
+  named-leads : (a : List ℕ) → lookupName a (p .card) ≡ feedBy a (p .accepted)
+  unfolding lookupName
+  named-leads a =
+      let whole : feedOf (routeOf (rootIn a) (p .card)) (treeOf a (p .card)) ≡ feedBy a (p .accepted) = feed-is (routeOf (rootIn a) (p .card)) a (u .routed (rootIn a)) in
+      by-test (eqb (elementRefusal a) 0)
+      (λ e. rw e whole)
+      (λ e. rw e (sym (bare-leads (routeOf (rootIn a) (p .card)) a) ∙ ap (feedOf (routeOf (rootIn a) (p .card))) (sym (no-tree a e)) ∙ whole))
+
   use-leads : (l : ℕ) (x : Use) → useOf l (p .card) ≡ x → Each (Leads p) (givens l x)
   unfolding Each Leads givens lookupLabel feedOfUse
   use-leads l free e = tt
@@ -407,11 +428,12 @@ module _ (p : Past) (u : Upheld p) where
     single = λ a n. rw (u .reads a .said n) (listed-one _);
     leads = each-only (Leads p) (p .live) (λ l. rw (by-label l) (use-leads l (useOf l (p .card)) refl));
     others = λ l e. unfold lookupLabel feedOfUse in rw (books-none l (useOf l (p .card)) (sym (ap length (by-label l)) ∙ sym (count-only l (p .live)) ∙ e)) refl;
+    byName = named-leads;
     sum = u .sound .sum;
     apart = λ room n s. unfold event Apart in step-apart (p .card) (p .live) (p .accepted) (receive n s) room (messageIn s .name) (outcome (p .card) (receive n s)) (event-keeps (p .card) (p .live) (u .sound) (receive n s));
   }
 
-pub started : (b : ℕ) → Upheld (record { card = start b .card; live = []; accepted = [] })
+pub started : (b : ℕ) → Upheld (begun b)
 unfolding start accept refuse baseOutside withNext fresh
 started b =
     by-test (leb 16 b && leb b 1048320)

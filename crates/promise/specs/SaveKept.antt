@@ -18,7 +18,7 @@ use Rattle.meaning.specs.Save.{isName, isBranchLabel, isTree, isUse, isCarried,
 use Rattle.meaning.specs.SaveFields.{all-cons}
 use Rattle.meaning.specs.SaveRules.{all-of, Rules, rules-kept}
 use Rattle.meaning.specs.SaveLaws.{restored}
-use Rattle.promise.specs.Promise.{Given, ofLabel, without, saidBy, branchesSaid, Step, Past, thenSteps, history, Each, Promise}
+use Rattle.promise.specs.Promise.{Given, ofLabel, without, saidBy, branchesSaid, Step, Past, thenSteps, begun, history, Each, Promise}
 use Rattle.promise.specs.LiveLaws.{isMapped, only, givens, Books}
 use Rattle.promise.specs.CardLaws.{Proper, at-proper, at-named}
 use Rattle.promise.specs.PromiseProof.{listed, Upheld, steps-upheld, started, history-upheld, kept}
@@ -148,7 +148,7 @@ module _ (p : Past) (u : Upheld p) (w : Writable p) where
 
 -- ---- a history
 
-pub start-writable : (base : ℕ) → Writable (record { card = start base .card; live = []; accepted = [] })
+pub start-writable : (base : ℕ) → Writable (begun base)
 unfolding start accept refuse withNext fresh all AllPassed Each
 start-writable base =
     by-test (baseOutside base)
