@@ -1,2 +1,3 @@
+pub mod One
 pub mod Contracts
 pub mod Kept

@@ -1,0 +1,177 @@
+-- ONE OUTCOME FOR EACH PUBLIC CALL: by the function's own contract, two results from the same entry agree in answer, output and card.
+-- a are the arguments of both; r and s, r′ and s′ are the result of each and its parameters right after it, in the order of the source.
+-- Where a call hands back a part of the buffer, the part is the output; where it is a core or a call for C, the whole buffer and the count.
+-- Assumes nothing but that an array of sixteen has sixteen places, which a contract cannot say of its type.
+use Prim.Native.Nat.{ℕ, zero, suc, _+_, _<_}
+use native.Mathlib.Omega.{arith}
+use mathlib.Core.Path.{_≡_, refl, sym, ap, _∙_, subst}
+use mathlib.Core.Bool.{Bool}
+use mathlib.Core.List.{List, [], _∷_}
+use lib.ListN.{getD, length}
+use lib.Seq.{ext-getD}
+use lib.Dec.{eqb, ltb}
+use borrow.Author.Tests.{eq-eqb, ne-eqb, ltb-false}
+use denote.Ref.{now}
+use Rattle.meaning.specs.Octets.{pick}
+use Rattle.meaning.specs.Card.{Branch, Feed, isBranch, branchesFrom}
+use Rattle.meaning.specs.Calls.{does-one, hands-one}
+use Rattle.meaning.specs.Lists.{by-test}
+use Rattle.memory.specs.Memory.{cardOf}
+use Rattle.card_lookups.specs.Feed.{feedIn}
+use Rattle.card.proofs.start.Reads as start-reads
+use Rattle.card.proofs.receive.Reads as receive-reads
+use Rattle.card.proofs.receive_core.Reads as receive-core-reads
+use Rattle.card.proofs.join.Reads as join-reads
+use Rattle.card.proofs.join_core.Reads as join-core-reads
+use Rattle.card.proofs.leave.Reads as leave-reads
+use Rattle.card.proofs.leave_core.Reads as leave-core-reads
+use Rattle.card.proofs.route.Reads as route-reads
+use Rattle.card.proofs.route_core.Reads as route-core-reads
+use Rattle.card.proofs.lookup_label.Reads as lookup-label-reads
+use Rattle.card.proofs.lookup_label_core.Reads as lookup-label-core-reads
+use Rattle.card.proofs.lookup_name.Reads as lookup-name-reads
+use Rattle.card.proofs.lookup_name_core.Reads as lookup-name-core-reads
+use Rattle.card.proofs.free_labels.Reads as free-labels-reads
+use Rattle.notice_writer.proofs.notice.Reads as notice-reads
+use Rattle.notice_writer.proofs.notice_core.Reads as notice-core-reads
+use Rattle.notice_reader.proofs.read_notice.Reads as read-notice-reads
+use Rattle.save_writer.proofs.save.Reads as save-reads
+use Rattle.save_writer.proofs.save_core.Reads as save-core-reads
+use Rattle.save_reader.proofs.restore.Reads as restore-reads
+use Rattle.firmware.proofs.card_start.Reads as card-start-reads
+use Rattle.firmware.proofs.card_receive.Reads as card-receive-reads
+use Rattle.firmware.proofs.card_join.Reads as card-join-reads
+use Rattle.firmware.proofs.card_leave.Reads as card-leave-reads
+use Rattle.firmware.proofs.card_route.Reads as card-route-reads
+use Rattle.firmware.proofs.card_lookup_label.Reads as card-lookup-label-reads
+use Rattle.firmware.proofs.card_lookup_name.Reads as card-lookup-name-reads
+use Rattle.firmware.proofs.card_free_labels.Reads as card-free-labels-reads
+
+-- ---- sixteen places are told by their feed
+
+-- the label of the branch to neighbour j; 0 where there is none
+unfoldable labelTo : ℕ → List Branch → ℕ
+labelTo j [] = 0
+labelTo j (b ∷ bs) = let later = labelTo j bs in pick (eqb (b .neighbour) j) (b .label) later
+
+none-below : (j n : ℕ) (ls : List ℕ) → j < n → labelTo j (branchesFrom n ls) ≡ 0
+unfolding branchesFrom labelTo
+none-below j n [] h = refl
+none-below j n (l ∷ ls) h =
+    by-test (isBranch l)
+    (λ e. rw (e, ne-eqb n j (λ z. omega arith)) (none-below j (suc n) ls (omega arith)))
+    (λ e. rw e (none-below j (suc n) ls (omega arith)))
+
+label-at : (n i : ℕ) (ls : List ℕ) → labelTo (n + i) (branchesFrom n ls) ≡ getD ls i 0
+unfolding branchesFrom labelTo isBranch
+label-at n i [] = refl
+label-at n zero (l ∷ ls) =
+    by-test (ltb 0 l)
+    (λ e. rw (e, eq-eqb n (n + 0) (omega arith)) refl)
+    (λ e. rw e (none-below (n + 0) (suc n) ls (omega arith) ∙ (let z = ltb-false 0 l e in omega arith)))
+label-at n (suc i) (l ∷ ls) =
+    let later : labelTo (n + suc i) (branchesFrom (suc n) ls) ≡ getD ls i 0 = ap (λ (j : ℕ). labelTo j (branchesFrom (suc n) ls)) (omega arith) ∙ label-at (suc n) i ls in
+    by-test (ltb 0 l)
+    (λ e. rw (e, ne-eqb n (n + suc i) (λ z. omega arith)) later)
+    (λ e. rw e later)
+
+-- The branches by rising neighbour number tell the places.
+pub feed-one : (bs cs : List ℕ) (l m : Bool) → length bs ≡ 16 → length cs ≡ 16 → feedIn bs l ≡ feedIn cs m → (l ≡ m) × (bs ≡ cs)
+feed-one bs cs l m sixteen also e = (
+  ap (λ (f : Feed). f .leaf) e,
+  ext-getD 0 bs cs (sixteen ∙ sym also) (λ i _. sym (label-at 0 i bs) ∙ ap (λ (f : Feed). labelTo (0 + i) (f .branches)) e ∙ label-at 0 i cs),
+)
+
+-- ---- a start: the answer, and the card whatever the names
+
+pub start-one : (κs : _) (a : _) (r r′ : _) (s s′ : _) → start-reads.Learnt κs a r s → start-reads.Learnt κs a r′ s′ → (r ≡ r′) × ((any : List ℕ) → (cardOf (now (s .0)) any ≡ cardOf (now (s′ .0)) any))
+start-one κs a r r′ s s′ h h′ = (h .0 ∙ sym (h′ .0), λ any. h .1 any ∙ sym (h′ .1 any))
+
+pub card-start-one : (κs : _) (a : _) (r r′ : _) (s s′ : _) → card-start-reads.Learnt κs a r s → card-start-reads.Learnt κs a r′ s′ → (r ≡ r′) × ((any : List ℕ) → (cardOf (now (s .0)) any ≡ cardOf (now (s′ .0)) any))
+card-start-one κs a r r′ s s′ h h′ = (h .0 ∙ sym (h′ .0), λ any. h .1 any ∙ sym (h′ .1 any))
+
+-- ---- events: the answer, the part or the count and the whole buffer, the card
+
+pub receive-one : (κs : _) (a : _) (r r′ : _) (s s′ : _) → receive-reads.Learnt κs a r s → receive-reads.Learnt κs a r′ s′ → (now (s .1 .1 .1 .1 .1 .0) ≡ now (s′ .1 .1 .1 .1 .1 .0)) × (now r ≡ now r′) × (cardOf (now (s .0)) (now (s .1 .0)) ≡ cardOf (now (s′ .0)) (now (s′ .1 .0)))
+receive-one κs a r r′ s s′ h h′ = hands-one _ _ _ _ _ _ _ (h .0) (h′ .0)
+
+pub receive-core-one : (κs : _) (a : _) (r r′ : _) (s s′ : _) → receive-core-reads.Learnt κs a r s → receive-core-reads.Learnt κs a r′ s′ → (now (s .1 .1 .1 .1 .1 .0) ≡ now (s′ .1 .1 .1 .1 .1 .0)) × (r ≡ r′) × (now (s .1 .1 .1 .1 .0) ≡ now (s′ .1 .1 .1 .1 .0)) × (cardOf (now (s .0)) (now (s .1 .0)) ≡ cardOf (now (s′ .0)) (now (s′ .1 .0)))
+receive-core-one κs a r r′ s s′ h h′ = does-one _ _ _ _ _ _ _ _ _ _ h h′
+
+pub card-receive-one : (κs : _) (a : _) (r r′ : _) (s s′ : _) → card-receive-reads.Learnt κs a r s → card-receive-reads.Learnt κs a r′ s′ → (now (s .1 .1 .1 .1 .1 .0) ≡ now (s′ .1 .1 .1 .1 .1 .0)) × (r ≡ r′) × (now (s .1 .1 .1 .1 .0) ≡ now (s′ .1 .1 .1 .1 .0)) × (cardOf (now (s .0)) (now (s .1 .0)) ≡ cardOf (now (s′ .0)) (now (s′ .1 .0)))
+card-receive-one κs a r r′ s s′ h h′ = does-one _ _ _ _ _ _ _ _ _ _ h h′
+
+pub join-one : (κs : _) (a : _) (r r′ : _) (s s′ : _) → join-reads.Learnt κs a r s → join-reads.Learnt κs a r′ s′ → (now (s .1 .1 .1 .1 .0) ≡ now (s′ .1 .1 .1 .1 .0)) × (now r ≡ now r′) × (cardOf (now (s .0)) (now (s .1 .0)) ≡ cardOf (now (s′ .0)) (now (s′ .1 .0)))
+join-one κs a r r′ s s′ h h′ = hands-one _ _ _ _ _ _ _ (h .0) (h′ .0)
+
+pub join-core-one : (κs : _) (a : _) (r r′ : _) (s s′ : _) → join-core-reads.Learnt κs a r s → join-core-reads.Learnt κs a r′ s′ → (now (s .1 .1 .1 .1 .0) ≡ now (s′ .1 .1 .1 .1 .0)) × (r ≡ r′) × (now (s .1 .1 .1 .0) ≡ now (s′ .1 .1 .1 .0)) × (cardOf (now (s .0)) (now (s .1 .0)) ≡ cardOf (now (s′ .0)) (now (s′ .1 .0)))
+join-core-one κs a r r′ s s′ h h′ = does-one _ _ _ _ _ _ _ _ _ _ h h′
+
+pub card-join-one : (κs : _) (a : _) (r r′ : _) (s s′ : _) → card-join-reads.Learnt κs a r s → card-join-reads.Learnt κs a r′ s′ → (now (s .1 .1 .1 .1 .0) ≡ now (s′ .1 .1 .1 .1 .0)) × (r ≡ r′) × (now (s .1 .1 .1 .0) ≡ now (s′ .1 .1 .1 .0)) × (cardOf (now (s .0)) (now (s .1 .0)) ≡ cardOf (now (s′ .0)) (now (s′ .1 .0)))
+card-join-one κs a r r′ s s′ h h′ = does-one _ _ _ _ _ _ _ _ _ _ h h′
+
+pub leave-one : (κs : _) (a : _) (r r′ : _) (s s′ : _) → leave-reads.Learnt κs a r s → leave-reads.Learnt κs a r′ s′ → (now (s .1 .1 .1 .1 .0) ≡ now (s′ .1 .1 .1 .1 .0)) × (now r ≡ now r′) × (cardOf (now (s .0)) (now (s .1 .0)) ≡ cardOf (now (s′ .0)) (now (s′ .1 .0)))
+leave-one κs a r r′ s s′ h h′ = hands-one _ _ _ _ _ _ _ (h .0) (h′ .0)
+
+pub leave-core-one : (κs : _) (a : _) (r r′ : _) (s s′ : _) → leave-core-reads.Learnt κs a r s → leave-core-reads.Learnt κs a r′ s′ → (now (s .1 .1 .1 .1 .0) ≡ now (s′ .1 .1 .1 .1 .0)) × (r ≡ r′) × (now (s .1 .1 .1 .0) ≡ now (s′ .1 .1 .1 .0)) × (cardOf (now (s .0)) (now (s .1 .0)) ≡ cardOf (now (s′ .0)) (now (s′ .1 .0)))
+leave-core-one κs a r r′ s s′ h h′ = does-one _ _ _ _ _ _ _ _ _ _ h h′
+
+pub card-leave-one : (κs : _) (a : _) (r r′ : _) (s s′ : _) → card-leave-reads.Learnt κs a r s → card-leave-reads.Learnt κs a r′ s′ → (now (s .1 .1 .1 .1 .0) ≡ now (s′ .1 .1 .1 .1 .0)) × (r ≡ r′) × (now (s .1 .1 .1 .0) ≡ now (s′ .1 .1 .1 .0)) × (cardOf (now (s .0)) (now (s .1 .0)) ≡ cardOf (now (s′ .0)) (now (s′ .1 .0)))
+card-leave-one κs a r r′ s s′ h h′ = does-one _ _ _ _ _ _ _ _ _ _ h h′
+
+pub route-one : (κs : _) (a : _) (r r′ : _) (s s′ : _) → route-reads.Learnt κs a r s → route-reads.Learnt κs a r′ s′ → (now (s .1 .1 .1 .1 .1 .0) ≡ now (s′ .1 .1 .1 .1 .1 .0)) × (now r ≡ now r′) × (cardOf (now (s .0)) (now (s .1 .0)) ≡ cardOf (now (s′ .0)) (now (s′ .1 .0)))
+route-one κs a r r′ s s′ h h′ = hands-one _ _ _ _ _ _ _ (h .0) (h′ .0)
+
+pub route-core-one : (κs : _) (a : _) (r r′ : _) (s s′ : _) → route-core-reads.Learnt κs a r s → route-core-reads.Learnt κs a r′ s′ → (now (s .1 .1 .1 .1 .1 .0) ≡ now (s′ .1 .1 .1 .1 .1 .0)) × (r ≡ r′) × (now (s .1 .1 .1 .1 .0) ≡ now (s′ .1 .1 .1 .1 .0)) × (cardOf (now (s .0)) (now (s .1 .0)) ≡ cardOf (now (s′ .0)) (now (s′ .1 .0)))
+route-core-one κs a r r′ s s′ h h′ = does-one _ _ _ _ _ _ _ _ _ _ h h′
+
+pub card-route-one : (κs : _) (a : _) (r r′ : _) (s s′ : _) → card-route-reads.Learnt κs a r s → card-route-reads.Learnt κs a r′ s′ → (now (s .1 .1 .1 .1 .1 .0) ≡ now (s′ .1 .1 .1 .1 .1 .0)) × (r ≡ r′) × (now (s .1 .1 .1 .1 .0) ≡ now (s′ .1 .1 .1 .1 .0)) × (cardOf (now (s .0)) (now (s .1 .0)) ≡ cardOf (now (s′ .0)) (now (s′ .1 .0)))
+card-route-one κs a r r′ s s′ h h′ = does-one _ _ _ _ _ _ _ _ _ _ h h′
+
+-- ---- lookups: the leaf mark and the sixteen labels
+
+pub lookup-label-one : (κs : _) (a : _) (r r′ : _) (s s′ : _) → lookup-label-reads.Learnt κs a r s → lookup-label-reads.Learnt κs a r′ s′ → length (r .branches) ≡ 16 → length (r′ .branches) ≡ 16 → (r .leaf ≡ r′ .leaf) × (r .branches ≡ r′ .branches)
+lookup-label-one κs a r r′ s s′ h h′ n n′ = feed-one _ _ _ _ n n′ (h [] ∙ sym (h′ []))
+
+pub lookup-label-core-one : (κs : _) (a : _) (r r′ : _) (s s′ : _) → lookup-label-core-reads.Learnt κs a r s → lookup-label-core-reads.Learnt κs a r′ s′ → length (now (s .1 .1 .0)) ≡ 16 → length (now (s′ .1 .1 .0)) ≡ 16 → (r ≡ r′) × (now (s .1 .1 .0) ≡ now (s′ .1 .1 .0))
+lookup-label-core-one κs a r r′ s s′ h h′ n n′ = feed-one _ _ _ _ n n′ (h [] ∙ sym (h′ []))
+
+pub card-lookup-label-one : (κs : _) (a : _) (r r′ : _) (s s′ : _) → card-lookup-label-reads.Learnt κs a r s → card-lookup-label-reads.Learnt κs a r′ s′ → length (now (s .1 .1 .0)) ≡ 16 → length (now (s′ .1 .1 .0)) ≡ 16 → (r ≡ r′) × (now (s .1 .1 .0) ≡ now (s′ .1 .1 .0))
+card-lookup-label-one κs a r r′ s s′ h h′ n n′ = feed-one _ _ _ _ n n′ (h [] ∙ sym (h′ []))
+
+pub lookup-name-one : (κs : _) (a : _) (r r′ : _) (s s′ : _) → lookup-name-reads.Learnt κs a r s → lookup-name-reads.Learnt κs a r′ s′ → length (r .branches) ≡ 16 → length (r′ .branches) ≡ 16 → (r .leaf ≡ r′ .leaf) × (r .branches ≡ r′ .branches)
+lookup-name-one κs a r r′ s s′ h h′ n n′ = feed-one _ _ _ _ n n′ (h ∙ sym h′)
+
+pub lookup-name-core-one : (κs : _) (a : _) (r r′ : _) (s s′ : _) → lookup-name-core-reads.Learnt κs a r s → lookup-name-core-reads.Learnt κs a r′ s′ → length (now (s .1 .1 .1 .0)) ≡ 16 → length (now (s′ .1 .1 .1 .0)) ≡ 16 → (r ≡ r′) × (now (s .1 .1 .1 .0) ≡ now (s′ .1 .1 .1 .0))
+lookup-name-core-one κs a r r′ s s′ h h′ n n′ = feed-one _ _ _ _ n n′ (h ∙ sym h′)
+
+pub card-lookup-name-one : (κs : _) (a : _) (r r′ : _) (s s′ : _) → card-lookup-name-reads.Learnt κs a r s → card-lookup-name-reads.Learnt κs a r′ s′ → length (now (s .1 .1 .1 .0)) ≡ 16 → length (now (s′ .1 .1 .1 .0)) ≡ 16 → (r ≡ r′) × (now (s .1 .1 .1 .0) ≡ now (s′ .1 .1 .1 .0))
+card-lookup-name-one κs a r r′ s s′ h h′ n n′ = feed-one _ _ _ _ n n′ (h ∙ sym h′)
+
+pub free-labels-one : (κs : _) (a : _) (r r′ : _) (s s′ : _) → free-labels-reads.Learnt κs a r s → free-labels-reads.Learnt κs a r′ s′ → (r ≡ r′)
+free-labels-one κs a r r′ s s′ h h′ = h [] ∙ sym (h′ [])
+
+pub card-free-labels-one : (κs : _) (a : _) (r r′ : _) (s s′ : _) → card-free-labels-reads.Learnt κs a r s → card-free-labels-reads.Learnt κs a r′ s′ → (r ≡ r′)
+card-free-labels-one κs a r r′ s s′ h h′ = h [] ∙ sym (h′ [])
+
+-- ---- notices: as events, and the card whatever the names; their reader: what it reads
+
+pub notice-one : (κs : _) (a : _) (r r′ : _) (s s′ : _) → notice-reads.Learnt κs a r s → notice-reads.Learnt κs a r′ s′ → (now (s .1 .1 .1 .1 .1 .0) ≡ now (s′ .1 .1 .1 .1 .1 .0)) × (now r ≡ now r′) × ((any : List ℕ) → cardOf (now (s .0)) any ≡ cardOf (now (s′ .0)) any)
+notice-one κs a r r′ s s′ h h′ = let o = hands-one _ _ _ _ _ _ _ (h .0 []) (h′ .0 []) in (o .0, o .1, λ any. hands-one _ _ _ _ _ _ _ (h .0 any) (h′ .0 any) .2)
+
+pub notice-core-one : (κs : _) (a : _) (r r′ : _) (s s′ : _) → notice-core-reads.Learnt κs a r s → notice-core-reads.Learnt κs a r′ s′ → (now (s .1 .1 .1 .1 .1 .0) ≡ now (s′ .1 .1 .1 .1 .1 .0)) × (r ≡ r′) × (now (s .1 .1 .1 .1 .0) ≡ now (s′ .1 .1 .1 .1 .0)) × ((any : List ℕ) → cardOf (now (s .0)) any ≡ cardOf (now (s′ .0)) any)
+notice-core-one κs a r r′ s s′ h h′ = let o = does-one _ _ _ _ _ _ _ _ _ _ (h []) (h′ []) in (o .0, o .1, o .2, λ any. does-one _ _ _ _ _ _ _ _ _ _ (h any) (h′ any) .3)
+
+pub read-notice-one : (κs : _) (a : _) (r r′ : _) (s s′ : _) → read-notice-reads.Learnt κs a r s → read-notice-reads.Learnt κs a r′ s′ → r ≡ r′
+read-notice-one κs a r r′ s s′ h h′ = h ∙ sym h′
+
+-- ---- saves: the card is lent to be read alone; a restore
+
+pub save-one : (κs : _) (a : _) (r r′ : _) (s s′ : _) → save-reads.Learnt κs a r s → save-reads.Learnt κs a r′ s′ → (now (s .1 .1 .1 .0) ≡ now (s′ .1 .1 .1 .0)) × (now r ≡ now r′)
+save-one κs a r r′ s s′ h h′ = let o = hands-one _ _ _ _ _ _ _ (h .0) (h′ .0) in (o .0, o .1)
+
+pub save-core-one : (κs : _) (a : _) (r r′ : _) (s s′ : _) → save-core-reads.Learnt κs a r s → save-core-reads.Learnt κs a r′ s′ → (now (s .1 .1 .1 .0) ≡ now (s′ .1 .1 .1 .0)) × (r ≡ r′) × (now (s .1 .1 .0) ≡ now (s′ .1 .1 .0))
+save-core-one κs a r r′ s s′ h h′ = let o = does-one _ _ _ _ _ _ _ _ _ _ h h′ in (o .0, o .1, o .2)
+
+pub restore-one : (κs : _) (a : _) (r r′ : _) (s s′ : _) → restore-reads.Learnt κs a r s → restore-reads.Learnt κs a r′ s′ → (r ≡ r′) × (cardOf (now (s .0)) (now (s .1 .0)) ≡ cardOf (now (s′ .0)) (now (s′ .1 .0)))
+restore-one κs a r r′ s s′ h h′ = (h .0 ∙ sym (h′ .0), h .1 ∙ sym (h′ .1))
