@@ -1,16 +1,16 @@
 -- DEMAND 3 WITH ALL THAT IS DONE WITH A CARD: events, notices to neighbours, saves, card swaps, refused restores and new starts, in any order and number.
 -- Assumes nothing.
-use Prim.Native.Nat.{ℕ, _+_, _%_, _<_}
+use Prim.Native.Nat.{ℕ, _<_}
 use native.Mathlib.Omega.{arith}
 use mathlib.Core.Path.{_≡_, refl}
 use mathlib.Core.Bool.{true}
 use mathlib.Core.List.{List, [], _∷_}
-use Rattle.meaning.specs.Octets.{pick, two, four, twoAt}
-use Rattle.meaning.specs.Wire.{mapping, withdraw, tlv, nextId, messageIn, recordsF, recordsIn}
+use Rattle.meaning.specs.Octets.{two, four, twoAt}
+use Rattle.meaning.specs.Wire.{nextId, messageIn, recordsF, recordsIn}
 use Rattle.meaning.specs.Card.{Card, withNext, treeOf, treePlace, treeAt, useOf, heldFor, freeLabels, routeOf, routePlace}
 use Rattle.meaning.specs.Events.{Out, refuse, accept, roomShort, noNeighbour, upstreamOf, start}
 use Rattle.meaning.specs.Save.{saved, save, keepsRules, isSave, restore}
-use Rattle.meaning.specs.Notice.{statusValue, noticeDue, noticeOctets, noticeRecord, notice}
+use Rattle.meaning.specs.Notice.{noticeDue, noticeRecord, notice}
 use Rattle.meaning.specs.Lists.{picked}
 use Rattle.meaning.specs.NoticeLaws.{spread, record-spread}
 use Rattle.promise.specs.Promise.{Given, noteSent, noteAll, Step, Past, thenStep, begun, Promise}

@@ -1,15 +1,14 @@
 -- A feed never leads back to the neighbour that sends it, on any card: to whom a label is mapped, or whom the root's route names.
 -- Assumes nothing.
 use Prim.Native.Nat.{ℕ, zero, suc, _+_, _<_}
-use native.Mathlib.Nat.{le-refl}
 use native.Mathlib.Omega.{arith}
 use mathlib.Core.Path.{_≡_, refl, ap, _∙_}
-use mathlib.Core.Bool.{Bool, true, false}
+use mathlib.Core.Bool.{Bool}
 use mathlib.Core.List.{List, [], _∷_}
 use lib.ListN.{set}
 use lib.Dec.{eqb, ltb}
 use borrow.Author.Tests.{ne-eqb}
-use Rattle.meaning.specs.Octets.{pick, count}
+use Rattle.meaning.specs.Octets.{count}
 use Rattle.meaning.specs.Wire.{rootIn, elementRefusal}
 use Rattle.meaning.specs.Card.{Tree, Use, free, mapped, awaiting, Card, treeOf, routeOf, mappedTo, useOf, isBranch, notHeld, Branch, Feed, nothing, branchesFrom, feedOf, carrier, feedOfUse, lookupLabel, lookupName}
 use Rattle.meaning.specs.Lists.{by-test, picked}

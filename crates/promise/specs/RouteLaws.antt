@@ -2,14 +2,13 @@
 -- Assumes nothing.
 use Prim.Native.Nat.{ℕ, zero, suc, _≤_}
 use mathlib.Core.Path.{_≡_, refl, sym, ap, _∙_}
-use mathlib.Core.Bool.{Bool, true, false}
 use mathlib.Core.List.{List, []}
 use lib.Dec.{eqb}
 use borrow.Author.Tests.{eqb-true, ltb-false}
 use Rattle.meaning.specs.Octets.{pick, same}
 use Rattle.meaning.specs.Wire.{Message, messageIn, mapping, withdraw, release, Sent}
-use Rattle.meaning.specs.Card.{Tree, Card, noRoute, free, withRoutes, withTrees, withLabels, routeOf, routePlace, treePlace, treeAt, heldFor, freeLabels}
-use Rattle.meaning.specs.Events.{Outcome, refused, taken, unless, Moved, still, followedBy, setUse, setLabel, giveUp, give, letGo, takeUp, moveLabel, relabel, labelsShort, upstream, upstreamOf, entered, swept, enter, become, onMapping, lessBranch, onWithdraw, onRelease, onMessage, onOctets, onJoin, onLeave, moveAll, needAll, routesWith, routeRefusal, reRoute, onRoute, Event, receive, join, leave, route, outcome}
+use Rattle.meaning.specs.Card.{Tree, Card, free, withRoutes, withTrees, withLabels, routeOf, routePlace, treePlace, freeLabels}
+use Rattle.meaning.specs.Events.{Outcome, refused, taken, unless, Moved, setUse, relabel, labelsShort, upstream, upstreamOf, entered, swept, enter, become, onMapping, onWithdraw, onRelease, onMessage, onOctets, onJoin, onLeave, moveAll, needAll, routesWith, routeRefusal, reRoute, onRoute, Event, receive, join, leave, route, outcome}
 use Rattle.meaning.specs.Lists.{by-test, picked, same-eq, no-when}
 use Rattle.meaning.specs.RoutesStay.{relabel-routes}
 use Rattle.promise.specs.Promise.{Given}
