@@ -7,7 +7,7 @@ use lib.ListN.{length, replicate}
 use lib.Dec.{T, eqb}
 use Rattle.meaning.specs.Octets.{same, two, four}
 use Rattle.meaning.specs.Wire.{rootIn, element, tlv, mapping, withdraw, release, recordOf}
-use Rattle.meaning.specs.Card.{Route, Tree, Use, free, mapped, awaiting, Card, withTrees, withLabels, freeLabels, lookupName}
+use Rattle.meaning.specs.Card.{Route, Tree, Use, free, mapped, awaiting, Card, withNext, withTrees, withLabels, freeLabels, lookupName}
 use Rattle.meaning.specs.Events.{tell, Event, receive, join, leave, route, event, start}
 use Rattle.meaning.specs.Computing.{computing}
 use Rattle.meaning.specs.Examples.{Row, anew, then, enough, flat, feed, agrees, wrong, NoneWrong, A, wide, firstCard, heard, wrote}
@@ -48,6 +48,10 @@ maps e = anew e 0 (recordOf 1 (tell 0 mapping A 16)) 255 16 (1 ∷ 100 ∷ [])
 unfoldable pub other : List ℕ
 other = element 2 (replicate 16 32) (9 ∷ [])
 
+-- one whose root begins as A's
+unfoldable pub long : List ℕ
+long = element 2 (rootIn A ++ replicate 12 0) (9 ∷ [])
+
 unfoldable pub readings : List Row
 readings =
     -- 1: neighbour 16, though there are no octets
@@ -67,9 +71,12 @@ readings =
     -- 4, not 5: no FEC, and a later head runs past; not 6: no element, and a further value runs past
     refuses (said (label 100 (0 ∷ 0 ∷ 0 ∷ []))) 4 ∷
     refuses (said (fec (odd 2 1 4 7 (replicate 7 7)) (label 100 (0x80 ∷ 1 ∷ 0 ∷ 1 ∷ [])))) 4 ∷
-    -- 5: Label first; FEC with the U bit (reading 1); FEC alone; a U-bit TLV between FEC and Label; nothing
+    -- 5: Label first; FEC with the U bit, with the F bit (reading 1), and Label so; FEC alone; a U-bit TLV between FEC and Label; nothing
     refuses (said (label 100 (fec A []))) 5 ∷
     refuses (said (tlv 0x8100 A (label 100 []))) 5 ∷
+    refuses (said (tlv 0x4100 A (label 100 []))) 5 ∷
+    refuses (said (fec A (tlv 0x8200 (four 100) []))) 5 ∷
+    refuses (said (fec A (tlv 0x4200 (four 100) []))) 5 ∷
     refuses (said (fec A [])) 5 ∷
     refuses (said (fec A (tlv 0x8001 [] (label 100 [])))) 5 ∷
     refuses (said []) 5 ∷
@@ -148,7 +155,30 @@ readings =
     inRoom 41 (maps (heard 1 mapping A 100)) ∷
     inRoom 0 (then (heard 2 mapping A 200) 0 [] 255 16 (1 ∷ 100 ∷ 2 ∷ 200 ∷ [])) ∷
     inRoom 40 (then (heard 2 withdraw A 200) 16 [] 255 16 (1 ∷ 100 ∷ 2 ∷ 200 ∷ [])) ∷
+    -- 16 on two records (reading 7), 82 octets: a Withdraw that ends the tree, and a route order, each one octet short and then with just enough
+    maps (heard 1 mapping A 100) ∷
+    inRoom 81 (then (heard 1 withdraw A 100) 16 [] 255 16 (1 ∷ 100 ∷ [])) ∷
+    inRoom 82 (then (heard 1 withdraw A 100) 0 (wrote 2 1 release 100 ++ wrote 3 0 withdraw 16) 255 16 []) ∷
+    maps (heard 1 mapping A 100) ∷
+    inRoom 81 (then (route (rootIn A) 3) 16 [] 255 16 (1 ∷ 100 ∷ [])) ∷
+    inRoom 82 (then (route (rootIn A) 3) 0 (wrote 2 0 withdraw 16 ++ wrote 3 3 mapping 17) 254 17 (1 ∷ 100 ∷ [])) ∷
+    -- 15 is a neighbour as any other: a branch, a route by which that branch is held, and a Withdraw
+    anew (heard 15 mapping A 100) 0 (wrote 1 0 mapping 16) 255 16 (15 ∷ 100 ∷ []) ∷
+    then (route (rootIn A) 15) 0 (wrote 2 0 withdraw 16) 255 16 [] ∷
+    then (heard 2 mapping A 200) 0 (wrote 3 15 mapping 17) 254 17 (2 ∷ 200 ∷ []) ∷
+    then (heard 15 withdraw A 100) 0 (wrote 4 15 release 100) 254 17 (2 ∷ 200 ∷ []) ∷
+    -- a route order leaves the trees of other roots alone (reading 13), one whose root of 16 octets begins with the 4 octets of the order's too
+    anew (route (rootIn long) 9) 0 [] 256 16 [] ∷
+    then (join long) 0 (recordOf 1 (tell 9 mapping long 16)) 255 16 (1 ∷ []) ∷
+    then (join A) 0 (wrote 2 0 mapping 17) 254 17 (1 ∷ []) ∷
+    then (route (rootIn other) 9) 0 [] 254 17 (1 ∷ []) ∷
+    then (join other) 0 (recordOf 3 (tell 9 mapping other 18)) 253 18 (1 ∷ []) ∷
+    then (route (rootIn A) 3) 0 (wrote 4 0 withdraw 17 ++ wrote 5 3 mapping 19) 252 16 (1 ∷ []) ∷
+    then (route (rootIn long) 17) 0 (recordOf 6 (tell 9 withdraw long 16)) 252 19 (1 ∷ []) ∷
+    then (route (rootIn A) 17) 0 (wrote 7 3 withdraw 19) 252 18 (1 ∷ []) ∷
     -- 16 comes last
+    anew (heard 1 mapping A 100) 0 (wrote 1 0 mapping 16) 255 16 (1 ∷ 100 ∷ []) ∷
+    then (heard 2 mapping A 200) 0 [] 255 16 (1 ∷ 100 ∷ 2 ∷ 200 ∷ []) ∷
     inRoom 0 (then (heard 2 mapping A 201) 10 [] 255 16 (1 ∷ 100 ∷ 2 ∷ 200 ∷ [])) ∷
     []
 
@@ -226,8 +256,9 @@ fullRows =
     -- a further branch to a standing tree is taken; a Withdraw of an unknown tree is answered (reading 5)
     anew (heard 5 mapping (kin 0) 100) 0 [] 0 16 (5 ∷ 100 ∷ 1 ∷ []) ∷
     anew (heard 5 withdraw A 100) 0 (wrote 1 5 release 100) 0 16 (1 ∷ []) ∷
-    -- 12 before 16, none moved
+    -- 12 before 16, none moved; the same route before 12 and before 16 (reading 6)
     inRoom 0 (anew (route (rootIn A) 3) 12 [] 0 16 (1 ∷ [])) ∷
+    inRoom 0 (anew (route (rootIn A) 0) 0 [] 0 16 (1 ∷ [])) ∷
     []
 
 unfoldable pub scarceRows : List Row
@@ -298,6 +329,26 @@ rootRows =
     then (route (root 1) 3) 15 [] 256 16 [] ∷
     []
 
+-- with a tree of another root, and no free label
+unfoldable pub rootedRows : List Row
+rootedRows =
+    -- 15 before 12 where both apply; with a place for the root it is 12
+    anew (route (rootIn A) 3) 15 [] 0 16 [] ∷
+    anew (route (root 1) 17) 0 [] 0 16 [] ∷
+    then (route (rootIn A) 3) 12 [] 0 16 [] ∷
+    []
+
+-- the next identifier is the last of 32 bits; a tree holds label 16
+unfoldable pub endRows : List Row
+endRows =
+    -- after 4294967295 comes 0: from one event to the next, and within one
+    anew (heard 5 withdraw A 100) 0 (wrote 4294967295 5 release 100) 255 16 (1 ∷ []) ∷
+    then (heard 5 withdraw A 100) 0 (wrote 0 5 release 100) 255 16 (1 ∷ []) ∷
+    then (heard 5 withdraw A 100) 0 (wrote 1 5 release 100) 255 16 (1 ∷ []) ∷
+    anew (route (rootIn A) 3) 0 (recordOf 4294967295 (tell 0 withdraw (kin 0) 16) ++ recordOf 0 (tell 3 mapping (kin 0) 17)) 254 17 (1 ∷ []) ∷
+    then (heard 5 withdraw A 100) 0 (wrote 1 5 release 100) 254 17 (1 ∷ []) ∷
+    []
+
 -- ---- what no row shows
 
 -- the roots that have a route, in their order, one after the other
@@ -336,9 +387,11 @@ pub corners-shown : NoneWrong (wrong 1 firstCard firstCard readings)
     × NoneWrong (wrong 1 (left 2 (grown 3)) firstCard scarceRows)
     × NoneWrong (wrong 1 (left 1 (grown 3)) firstCard lastRows)
     × NoneWrong (wrong 1 (rooted 32) firstCard rootRows)
+    × NoneWrong (wrong 1 (left 0 (event enough (rooted 32) (join (kin 0)) .card)) firstCard rootedRows)
+    × NoneWrong (wrong 1 (withNext 4294967295 (grown 1)) firstCard endRows)
     × NoneWrong (wrong 1 firstCard firstCard heldRows)
     × NoneWrong (wrong 1 (left 0 paired) firstCard needyRows)
     × NoneWrong (wrong 1 (left 2 paired) firstCard countedRows)
     × T others
-unfolding computing readings other packed fec label said odd wrong firstCard agrees flat feed A wide heard wrote kin grown scarce left crowd usedBy fullCard fullRows scarceRows lastRows root rooted rootRows heldRows paired needyRows countedRows rootsOf rerouted startsAs others
-corners-shown = (tt, tt, tt, tt, tt, tt, tt, tt, tt)
+unfolding computing readings other long packed fec label said odd wrong firstCard agrees flat feed A wide heard wrote kin grown scarce left crowd usedBy fullCard fullRows scarceRows lastRows root rooted rootRows rootedRows endRows heldRows paired needyRows countedRows rootsOf rerouted startsAs others
+corners-shown = (tt, tt, tt, tt, tt, tt, tt, tt, tt, tt, tt)

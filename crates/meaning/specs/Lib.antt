@@ -6,6 +6,7 @@ pub mod Events
 pub mod Computing
 pub mod Examples
 pub mod Corners
+pub mod Whole
 pub mod WireLaws
 pub mod RoundTrip
 pub mod Standing

@@ -97,6 +97,14 @@ rows =
     row 26 5 16 head 0 [] 1 ∷
     row 26 5 17 head 0 [] 1 ∷
     row 26 5 0 head 0 [] 1 ∷
+    -- and numbers above 17, the refusals of other requests and none, write nothing
+    row 26 5 18 head 0 [] 1 ∷
+    row 26 5 19 head 0 [] 1 ∷
+    row 26 5 20 head 0 [] 1 ∷
+    row 26 5 21 head 0 [] 1 ∷
+    row 26 5 22 head 0 [] 1 ∷
+    row 26 5 256 head 0 [] 1 ∷
+    row 26 5 4294967295 head 0 [] 1 ∷
     -- the U bit silences 3, and no other
     row 26 5 3 ignorable 0 [] 1 ∷
     row 26 5 2 ignorable 0 (told 5 0x80 0x05 ofIgnorable) 2 ∷
