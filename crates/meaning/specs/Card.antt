@@ -177,7 +177,7 @@ pub record Branch : Type 0 where
   pub neighbour : ℕ
   pub label : ℕ
 
--- nothing is no branch and no leaf: no tree that stands gives that
+-- Nothing is no branch and no leaf: so leads a label that is not mapped or a name that doesn't stand, and a tree all of whose branches are held.
 pub record Feed : Type 0 where
   pub branches : List Branch
   pub leaf : Bool

@@ -45,6 +45,12 @@ finish room before (taken ms c) =
 
 -- ---- the label of one tree
 
+-- The paper's sentences, with request [2]'s rule of who holds a label, are made of these:
+-- "a new label and Mapping to it", "give it a label and send Mapping there": `give`; only "if the new route is a neighbour": `takeUp`.
+-- "Withdraw M to the old neighbour and M awaits release": `giveUp`; only "if it held M": `letGo`.
+-- A route order does the one and then the other to each tree of its root: `moveLabel`.
+-- A Mapping, a Withdraw, a join and a leave do so only where the tree does not hold a label for whom it is to hold one: `relabel`.
+
 -- messages sent, and the card after them
 pub record Moved : Type 0 where
   pub sent : List Sent
@@ -115,16 +121,17 @@ need c t u = pick (eqb (heldFor c t) u) 0 (needMove u)
 unfoldable pub labelsShort : Card → ℕ → Bool
 labelsShort c needed = ltb (freeLabels c) needed
 
--- the neighbour that a tree of a root with this route holds a label for; 17 for none
+-- the upstream of the trees of a root with this route; 17 where it is no neighbour
 unfoldable pub upstream : ℕ → ℕ
 upstream via = pick (ltb via 16) via noRoute
 
--- A tree holds a label exactly while its route is a neighbour u and it has a leaf or a branch from another neighbour: u, or 17 for none.
+-- For whom a tree with upstream u is to hold a label: exactly while u is a neighbour and it has a leaf or a branch from another, for u; 17 for nobody.
 unfoldable pub holder : ℕ → Tree → ℕ
 holder u t = pick (leadsOn u t) u noRoute
 
 -- ---- an event of one tree
 
+-- for whom the tree is to hold a label by the route in force, which need not be for whom it holds one (`heldFor`)
 unfoldable pub upstreamOf : Card → Tree → ℕ
 upstreamOf c t = holder (upstream (routeOf (rootIn (t .name)) c)) t
 
@@ -173,6 +180,7 @@ unfoldable pub lessBranch : ℕ → ℕ → Tree → Tree
 lessBranch n l t = pick (eqb (branch t n) l) (withBranch n 0 t) t
 
 -- Withdraw <a, l> from n. The Release is sent in any case.
+-- A tree that doesn't stand needs no case of its own: it is a bare one (`treeOf`), which the Withdraw leaves bare; `enter` puts it after the others, gives it no label, and sweeps it away again.
 unfoldable pub onWithdraw : Card → ℕ → List ℕ → ℕ → Outcome
 onWithdraw c n a l = become c (tell n release a l ∷ []) (lessBranch n l (treeOf a c))
 
