@@ -204,7 +204,7 @@ pub record Promise (p : Past) : Type 0 where
   pub leads : Each (Leads p) (p .live)
   -- (any other number leads to nobody)
   pub others : (l : ℕ) → count (ofLabel l) (p .live) ≡ 0 → lookupLabel l (p .card) ≡ nothing
-  -- (by name a tree leads to the same, upstream or not; octets that name none lead to nobody)
+  -- (by name a tree leads there whether or not it holds a label; octets that name none lead to nobody)
   pub byName : (a : List ℕ) → lookupName a (p .card) ≡ feedBy a (p .accepted)
   -- Live and free labels make 256.
   pub sum : length (p .live) + freeLabels (p .card) ≡ 256
