@@ -8,7 +8,7 @@ use lib.ListN.{length, set}
 use lib.Seq.{set-out}
 use Rattle.meaning.specs.Octets.{any}
 use Rattle.meaning.specs.Lists.{by-test, picked}
-use Rattle.meaning.specs.Card.{Tree, noRoute, isBranch, notHeld, leadsOn, withBranch, withLeaf}
+use Rattle.meaning.specs.Card.{Tree, nobody, isBranch, notHeld, leadsOn, withBranch, withLeaf}
 use Rattle.meaning.specs.Events.{holder}
 
 module _ (u n x : ℕ) (t : Tree) (leaf : Bool) where
@@ -20,7 +20,7 @@ module _ (u n x : ℕ) (t : Tree) (leaf : Bool) where
   unfolding holder leadsOn notHeld withLeaf withBranch
   held-branch e = rw e refl
 
-  pub held-none : leaf ≡ false → any isBranch (set (set (t .branches) n x) u 0) ≡ false → noRoute ≡ holder u (withLeaf leaf (withBranch n x t))
+  pub held-none : leaf ≡ false → any isBranch (set (set (t .branches) n x) u 0) ≡ false → nobody ≡ holder u (withLeaf leaf (withBranch n x t))
   unfolding holder leadsOn notHeld withLeaf withBranch
   held-none e k = rw (e, k) refl
 

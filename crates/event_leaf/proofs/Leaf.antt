@@ -10,7 +10,7 @@ use Rattle.meaning.specs.Octets.{any, _when_else_}
 use Rattle.meaning.specs.Lists.{by-test}
 use Rattle.meaning.specs.Wire.{rootIn}
 use Rattle.meaning.specs.Card.{Tree, Card, free, withLeaf, bare, treePlace, treeAt, isBranch, isEmpty, notHeld, leadsOn, useOf, routeOf}
-use Rattle.meaning.specs.Events.{refused, unless, finish, need, labelsShort, upstream, holder, upstreamOf, treeRefusal, enter, become, notLeaf}
+use Rattle.meaning.specs.Events.{refused, unless, finish, need, labelsShort, upstream, holder, holderOf, treeRefusal, enter, become, notLeaf}
 use Rattle.meaning.specs.Calls.{Does}
 use Rattle.event_leaf.specs.Order.{joinOf, leaveOf}
 use Rattle.event_tree.proofs.Found.{found-tree}
@@ -25,12 +25,12 @@ unfolding isEmpty withLeaf
 leaf-full t = and-false (not (any isBranch (t .branches)))
 
 -- a tree with a leaf leads on, whoever is its upstream
-leaf-upstream : (c : Card) (a : List ℕ) → upstream (routeOf (rootIn a) c) ≡ upstreamOf c (withLeaf true (bare a))
-unfolding upstreamOf holder leadsOn withLeaf bare
+leaf-upstream : (c : Card) (a : List ℕ) → upstream (routeOf (rootIn a) c) ≡ holderOf c (withLeaf true (bare a))
+unfolding holderOf holder leadsOn withLeaf bare
 leaf-upstream c a = by-test (any isBranch (notHeld (upstream (routeOf (rootIn a) c)) (withLeaf true (bare a)))) (λ e. rw e refl) (λ e. rw e refl)
 
 module _ (c : Card) (i : ℕ) (ei : i ≡ treePlace (treeAt i c .name) c) (h : i < length (c .trees)) (u : ℕ) where
-  pub leaf-stands : (leaf : Bool) → u ≡ upstreamOf c (withLeaf leaf (treeAt i c)) → Standing c (withLeaf leaf (treeAt i c)) i u
+  pub leaf-stands : (leaf : Bool) → u ≡ holderOf c (withLeaf leaf (treeAt i c)) → Standing c (withLeaf leaf (treeAt i c)) i u
   leaf-stands leaf eu = record { place = unfold withLeaf in ei; within = h; label = unfold withLeaf in refl; name = unfold withLeaf in refl; upstream = eu }
 
 module _ (c : Card) (a : List ℕ) (i u : ℕ) (ei : i ≡ treePlace a c) (h : i ≡ length (c .trees)) (z : useOf 0 c ≡ free) where

@@ -11,7 +11,7 @@ use lib.Dec.{eqb}
 use Rattle.meaning.specs.Octets.{place}
 use Rattle.meaning.specs.Lists.{append-nil, by-test, picked, count-set, count-set-place}
 use Rattle.meaning.specs.Wire.{Sent, records}
-use Rattle.meaning.specs.Card.{Tree, Card, Use, free, mapped, awaiting, withTrees, withLabels, bare, treeAt, isFree, useOf, freeLabels, lowestFree, noRoute}
+use Rattle.meaning.specs.Card.{Tree, Card, Use, free, mapped, awaiting, withTrees, withLabels, bare, treeAt, isFree, useOf, freeLabels, lowestFree, nobody}
 use Rattle.meaning.specs.Events.{Moved, still, followedBy, setUse, setLabel, ended, giveUp, give, letGo, takeUp, moveLabel, holder, ofRoot, moveOne, moveFrom, sumFrom}
 use Rattle.event_holder.specs.Move.{sizeOne}
 use Rattle.event_move.proofs.Alike.{move-stays}
@@ -52,7 +52,7 @@ module _ (i j : ℕ) (ne : j ≡ i → ⊥) where
 
   take-up-other : (u : ℕ) (c : Card) → treeAt j (takeUp i u c .card) ≡ treeAt j c
   unfolding takeUp still give
-  take-up-other u c = picked (λ (m : Moved). treeAt j (m .card) ≡ treeAt j c) (eqb u noRoute) (λ _. refl) (λ _. moved-other i j _ _ _ c ne)
+  take-up-other u c = picked (λ (m : Moved). treeAt j (m .card) ≡ treeAt j c) (eqb u nobody) (λ _. refl) (λ _. moved-other i j _ _ _ c ne)
 
   pub one-other : (r : List ℕ) (u : ℕ) (c : Card) → treeAt j (moveOne r u i c .card) ≡ treeAt j c
   unfolding moveOne moveLabel still followedBy

@@ -7,7 +7,7 @@ use lib.ListN.{length}
 use borrow.Author.Tests.{lt-leb}
 use Rattle.meaning.specs.Wire.{Sent}
 use Rattle.meaning.specs.Card.{Tree, Card, free, treePlace, treeOf, treeAt, useOf}
-use Rattle.meaning.specs.Events.{taken, relabel, upstreamOf, entered, swept, enter}
+use Rattle.meaning.specs.Events.{taken, relabel, holderOf, entered, swept, enter}
 use Rattle.meaning.specs.Standing.{standing-at, standing-name}
 use Rattle.memory.specs.Memory.{cardOf, treeCount, baseIn}
 use Rattle.memory.proofs.Memory.{trees-length, base-range}
@@ -26,7 +26,7 @@ module _ (c : Card) (a : List ℕ) (i : ℕ) (ei : i ≡ treePlace a c) (h : i <
 
 -- ---- a tree is entered
 
-pub enter-is : (c d : Card) (first : List Sent) (t : Tree) (i u : ℕ) → i ≡ treePlace (t .name) c → u ≡ upstreamOf c t → entered c t ≡ d
+pub enter-is : (c d : Card) (first : List Sent) (t : Tree) (i u : ℕ) → i ≡ treePlace (t .name) c → u ≡ holderOf c t → entered c t ≡ d
     → enter c first t ≡ taken (first ++ relabel i u d .sent) (swept i (relabel i u d .card))
 unfolding enter
 enter-is c d first t i u ei eu ed = rw (← ei, ← eu, ed) refl

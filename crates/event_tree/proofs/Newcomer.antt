@@ -10,8 +10,8 @@ use borrow.Author.Tests.{eq-eqb, ne-eqb, eqb-true, eqb-false, le-leb, lt-leb, le
 use Rattle.meaning.specs.Octets.{pick, any, cut, _when_else_}
 use Rattle.meaning.specs.Lists.{append-nil, by-test, getD-all}
 use Rattle.meaning.specs.Wire.{Sent, records, rootIn, recordSize}
-use Rattle.meaning.specs.Card.{Tree, Card, free, noRoute, withTrees, bare, treePlace, treeOf, treeAt, stands, isBranch, isEmpty, notHeld, leadsOn, mappedTo, useOf, heldFor, freeLabels, treeLimit, routeOf}
-use Rattle.meaning.specs.Events.{Outcome, taken, unless, finish, Moved, still, followedBy, letGo, takeUp, moveLabel, relabel, needMove, need, labelsShort, upstream, holder, upstreamOf, entered, swept, treesFull, treeRefusal, enter, become}
+use Rattle.meaning.specs.Card.{Tree, Card, free, nobody, withTrees, bare, treePlace, treeOf, treeAt, stands, isBranch, isEmpty, notHeld, leadsOn, mappedTo, useOf, heldFor, freeLabels, treeLimit, routeOf}
+use Rattle.meaning.specs.Events.{Outcome, taken, unless, finish, Moved, still, followedBy, letGo, takeUp, moveLabel, relabel, needMove, need, labelsShort, upstream, holder, holderOf, entered, swept, treesFull, treeRefusal, enter, become}
 use Rattle.meaning.specs.Standing.{not-standing}
 use Rattle.meaning.specs.Calls.{Does}
 use Rattle.octets.proofs.Tab.{put-end, cut-end}
@@ -35,7 +35,7 @@ pub entered-new : (c : Card) (t : Tree) (i : ℕ) → i ≡ treePlace (t .name) 
 unfolding entered
 entered-new c t i ei h = rw (← ei) (ap (λ (l : List Tree). withTrees l c) (put-end (c .trees) i t h))
 
-zero-held : (c : Card) (t : Tree) → useOf 0 c ≡ free → t .label ≡ 0 → heldFor c t ≡ noRoute
+zero-held : (c : Card) (t : Tree) → useOf 0 c ≡ free → t .label ≡ 0 → heldFor c t ≡ nobody
 unfolding heldFor mappedTo
 zero-held c t z e = ap (λ (l : ℕ). mappedTo (useOf l c)) e ∙ ap mappedTo z
 
@@ -43,18 +43,18 @@ need-none : (c : Card) (t : Tree) (u : ℕ) → useOf 0 c ≡ free → t .label 
 unfolding need needMove
 need-none c t u z e =
     rw (zero-held c t z e)
-    (by-test (eqb u noRoute)
-    (λ k. rw (k, eq-eqb noRoute u (sym (eqb-true u noRoute k))) refl)
-    (λ k. rw (k, ne-eqb noRoute u (λ q. eqb-false u noRoute k (sym q))) refl))
+    (by-test (eqb u nobody)
+    (λ k. rw (k, eq-eqb nobody u (sym (eqb-true u nobody k))) refl)
+    (λ k. rw (k, ne-eqb nobody u (λ q. eqb-false u nobody k (sym q))) refl))
 
 -- a tree with no label has none to give up
 pub relabel-none : (i u : ℕ) (c : Card) → useOf 0 c ≡ free → treeAt i c .label ≡ 0 → relabel i u c ≡ takeUp i u c
 unfolding relabel moveLabel letGo takeUp followedBy
 relabel-none i u c z e =
     rw (zero-held c (treeAt i c) z e, eq-eqb (treeAt i c .label) 0 e)
-    (by-test (eqb u noRoute)
-    (λ k. rw (k, eq-eqb noRoute u (sym (eqb-true u noRoute k))) refl)
-    (λ k. rw (k, ne-eqb noRoute u (λ q. eqb-false u noRoute k (sym q))) (unfold still in refl)))
+    (by-test (eqb u nobody)
+    (λ k. rw (k, eq-eqb nobody u (sym (eqb-true u nobody k))) refl)
+    (λ k. rw (k, ne-eqb nobody u (λ q. eqb-false u nobody k (sym q))) (unfold still in refl)))
 
 snoc-at : (l : List Tree) (t d : Tree) → getD (l ++ (t ∷ [])) (length l) d ≡ t
 snoc-at [] t d = refl
@@ -68,7 +68,7 @@ pub new-within : (c : Card) (t : Tree) (i : ℕ) → i ≡ length (c .trees) →
 unfolding withTrees
 new-within c t i e = rw (length-append (c .trees) (t ∷ [])) (omega arith)
 
-module _ (c : Card) (first : List Sent) (t : Tree) (i u : ℕ) (ei : i ≡ treePlace (t .name) c) (h : i ≡ length (c .trees)) (z : useOf 0 c ≡ free) (el : t .label ≡ 0) (eu : u ≡ upstreamOf c t) where
+module _ (c : Card) (first : List Sent) (t : Tree) (i u : ℕ) (ei : i ≡ treePlace (t .name) c) (h : i ≡ length (c .trees)) (z : useOf 0 c ≡ free) (el : t .label ≡ 0) (eu : u ≡ holderOf c t) where
   grown : Card
   grown = withTrees (c .trees ++ (t ∷ [])) c
 
@@ -98,19 +98,19 @@ module _ (c : Card) (first : List Sent) (t : Tree) (i u : ℕ) (ei : i ≡ treeP
       kept : swept i (takeUp i u (withTrees (c .trees ++ (t ∷ [])) c) .card) ≡ takeUp i u (withTrees (c .trees ++ (t ∷ [])) c) .card
       kept = unfold swept in rw (alike-empty _ _ (take-up-stays i (withTrees (c .trees ++ (t ∷ [])) c) (new-within c t i h) u .tree), new-at c t i h, e) refl
 
-bare-upstream : (c : Card) (a : List ℕ) → noRoute ≡ upstreamOf c (bare a)
-unfolding upstreamOf holder leadsOn notHeld bare
-bare-upstream c a = rw (any-zeros 16 (upstream (routeOf (rootIn a) c))) refl
+bare-holder : (c : Card) (a : List ℕ) → nobody ≡ holderOf c (bare a)
+unfolding holderOf holder leadsOn notHeld bare
+bare-holder c a = rw (any-zeros 16 (upstream (routeOf (rootIn a) c))) refl
 
 -- it becomes nothing: only what goes first is left
 pub bare-refusal : (c : Card) (a : List ℕ) → useOf 0 c ≡ free → treeRefusal c (bare a) ≡ 0
 bare-refusal c a z = unfold treeRefusal in rw (never-full, no-need) (unfold labelsShort _when_else_ in rw (le-ltb (freeLabels c) 0 zero-le) refl)
   where
-    no-upstream : noRoute ≡ upstreamOf c (bare a)
-    no-upstream = bare-upstream c a
+    no-holder : nobody ≡ holderOf c (bare a)
+    no-holder = bare-holder c a
 
-    no-need : need c (bare a) (upstreamOf c (bare a)) ≡ 0
-    no-need = rw (← no-upstream) (need-none c (bare a) noRoute z (unfold bare in refl) ∙ unfold needMove in refl)
+    no-need : need c (bare a) (holderOf c (bare a)) ≡ 0
+    no-need = rw (← no-holder) (need-none c (bare a) nobody z (unfold bare in refl) ∙ unfold needMove in refl)
 
     never-full : treesFull c (bare a) ≡ false
     never-full = unfold treesFull bare isEmpty any isBranch in refl
@@ -119,8 +119,8 @@ pub become-nothing : (c : Card) (first : List Sent) (a : List ℕ) → treePlace
 unfolding become unless
 become-nothing c first a e z = ap₂ (λ (n : ℕ) (o : Outcome). unless n o) (bare-refusal c a z) entered-swept
   where
-    no-upstream : noRoute ≡ upstreamOf c (bare a)
-    no-upstream = bare-upstream c a
+    no-holder : nobody ≡ holderOf c (bare a)
+    no-holder = bare-holder c a
 
     gone : pick (isEmpty (bare a)) (withTrees (cut (withTrees (c .trees ++ (bare a ∷ [])) c .trees) (treePlace a c)) (withTrees (c .trees ++ (bare a ∷ [])) c)) (withTrees (c .trees ++ (bare a ∷ [])) c) ≡ c
     gone = unfold isEmpty bare any isBranch withTrees in ap (λ (l : List Tree). withTrees l c) (cut-end (c .trees) (bare a) (treePlace a c) e)
@@ -130,12 +130,12 @@ become-nothing c first a e z = ap₂ (λ (n : ℕ) (o : Outcome). unless n o) (b
 
     entered-swept : enter c first (bare a) ≡ taken first c
     entered-swept =
-        grown-is c first (bare a) (treePlace a c) noRoute (unfold bare in refl) e z (unfold bare in refl) no-upstream
+        grown-is c first (bare a) (treePlace a c) nobody (unfold bare in refl) e z (unfold bare in refl) no-holder
         ∙ unfold takeUp still in ap₂ taken (append-nil first) shrunk
 
 -- ---- a new tree t, which is not empty
 
-module _ (c : Card) (t : Tree) (i u : ℕ) (ei : i ≡ treePlace (t .name) c) (h : i ≡ length (c .trees)) (z : useOf 0 c ≡ free) (el : t .label ≡ 0) (eu : u ≡ upstreamOf c t) (full : isEmpty t ≡ false) (s : List ℕ) where
+module _ (c : Card) (t : Tree) (i u : ℕ) (ei : i ≡ treePlace (t .name) c) (h : i ≡ length (c .trees)) (z : useOf 0 c ≡ free) (el : t .label ≡ 0) (eu : u ≡ holderOf c t) (full : isEmpty t ≡ false) (s : List ℕ) where
   abbrev larger : Card
   larger = withTrees (c .trees ++ (t ∷ [])) c
 
@@ -208,7 +208,7 @@ pub record Newcomer (c : Card) (t : Tree) (a : List ℕ) (i u : ℕ) : Type 0 wh
   pub last : i ≡ length (c .trees)
   pub zero : useOf 0 c ≡ free
   pub label : t .label ≡ 0
-  pub upstream : u ≡ upstreamOf c t
+  pub upstream : u ≡ holderOf c t
   pub full : isEmpty t ≡ false
 
 module _ (c : Card) (t : Tree) (a : List ℕ) (i u : ℕ) (N : Newcomer c t a i u) (s : List ℕ) (size r : ℕ) (es : size ≡ recordSize a)

@@ -12,7 +12,7 @@ use Rattle.meaning.specs.Octets.{pick, cut, _when_else_}
 use Rattle.meaning.specs.Lists.{by-test}
 use Rattle.meaning.specs.Wire.{Sent, records, idsAfter}
 use Rattle.meaning.specs.Card.{Tree, Card, withTrees, withBranch, bare, treePlace, treeAt, stands, isEmpty, mappedTo, useOf, heldFor, freeLabels, treeLimit}
-use Rattle.meaning.specs.Events.{taken, unless, finish, relabel, needMove, need, labelsShort, upstreamOf, entered, swept, treesFull, treeRefusal, enter, become}
+use Rattle.meaning.specs.Events.{taken, unless, finish, relabel, needMove, need, labelsShort, holderOf, entered, swept, treesFull, treeRefusal, enter, become}
 use Rattle.meaning.specs.Calls.{Does}
 use Rattle.octets.proofs.Tab.{put-in}
 use Rattle.event_holder.specs.Move.{moveSize, relabelSize}
@@ -41,7 +41,7 @@ pub need-same : (c : Card) (t s : Tree) (u : ℕ) → t .label ≡ s .label → 
 unfolding need heldFor
 need-same c t s u e = ap (λ (l : ℕ). pick (eqb (mappedTo (useOf l c)) u) 0 (needMove u)) e
 
-pub become-standing : (c : Card) (first : List Sent) (t : Tree) (i u : ℕ) → i ≡ treePlace (t .name) c → i < length (c .trees) → t .label ≡ treeAt i c .label → u ≡ upstreamOf c t
+pub become-standing : (c : Card) (first : List Sent) (t : Tree) (i u : ℕ) → i ≡ treePlace (t .name) c → i < length (c .trees) → t .label ≡ treeAt i c .label → u ≡ holderOf c t
     → become c first t
     ≡ unless (12 when labelsShort c (need c (treeAt i c) u) else 0)
     (taken (first ++ relabel i u (withTrees (set (c .trees) i t) c) .sent) (swept i (relabel i u (withTrees (set (c .trees) i t) c) .card)))
@@ -76,7 +76,7 @@ pub record Standing (c : Card) (t : Tree) (i u : ℕ) : Type 0 where
   pub within : i < length (c .trees)
   pub label : t .label ≡ treeAt i c .label
   pub name : t .name ≡ treeAt i c .name
-  pub upstream : u ≡ upstreamOf c t
+  pub upstream : u ≡ holderOf c t
 
 module _ (c : Card) (first : List Sent) (t : Tree) (i u : ℕ) (S : Standing c t i u) (s : List ℕ) where
   abbrev changed : Card
@@ -162,5 +162,5 @@ module _ (c : Card) (first : List Sent) (t : Tree) (i u : ℕ) (S : Standing c t
 -- ---- one branch of it changes
 
 module _ (c : Card) (i : ℕ) (ei : i ≡ treePlace (treeAt i c .name) c) (h : i < length (c .trees)) (u : ℕ) where
-  pub branch-stands : (n l : ℕ) → u ≡ upstreamOf c (withBranch n l (treeAt i c)) → Standing c (withBranch n l (treeAt i c)) i u
+  pub branch-stands : (n l : ℕ) → u ≡ holderOf c (withBranch n l (treeAt i c)) → Standing c (withBranch n l (treeAt i c)) i u
   branch-stands n l eu = record { place = unfold withBranch in ei; within = h; label = unfold withBranch in refl; name = unfold withBranch in refl; upstream = eu }

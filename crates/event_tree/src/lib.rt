@@ -7,7 +7,7 @@ ghost use lib.Dec.{leb, ltb};
 ghost use Rattle.meaning.specs.Octets.{_when_else_};
 ghost use Rattle.meaning.specs.Wire.{records, recordLimit};
 ghost use Rattle.meaning.specs.Card.{treeAt, withBranch, withLeaf, bare, freeLabels, treeLimit};
-ghost use Rattle.meaning.specs.Events.{relabel, takeUp, needMove, need, labelsShort, upstreamOf};
+ghost use Rattle.meaning.specs.Events.{relabel, takeUp, needMove, need, labelsShort, holderOf};
 ghost use Rattle.memory.specs.Sizes.{Numbers, Names};
 ghost use Rattle.memory.specs.Memory.{cardOf, treeCount};
 ghost use Rattle.event_holder.specs.Move.{relabelSize};
@@ -19,7 +19,7 @@ use meaning::TREE_LIMIT;
 // The neighbour that the tree at place i holds a label for, once neighbour n's branch is x; 17 for none.
 pub fn branch_holder(numbers: &[u64], names: &[u8], i: usize, n: usize, x: u64) -> u64
     requires { ⌜ Numbers (now numbers) × Names (now names) × (i < treeCount (now numbers)) × (i < treeLimit) ⌝ }
-    ensures { λ r. ⌜ (let c = cardOf (now (numbers .entry)) (now (names .entry)) in (r ≡ upstreamOf c (withBranch n x (treeAt i c))) × (r ≤ 17) × (r ≡ 16 → ⊥)) ⌝ }
+    ensures { λ r. ⌜ (let c = cardOf (now (numbers .entry)) (now (names .entry)) in (r ≡ holderOf c (withBranch n x (treeAt i c))) × (r ≤ 17) × (r ≡ 16 → ⊥)) ⌝ }
 {
     let u = event_holder::upstream_of(numbers, names, memory_trees::tree_name(names, i));
     event_holder::holder_then(numbers, i, n, x, memory_trees::is_leaf(numbers, i), u)
@@ -28,7 +28,7 @@ pub fn branch_holder(numbers: &[u64], names: &[u8], i: usize, n: usize, x: u64) 
 // The same, once its leaf mark is `leaf`.
 pub fn leaf_holder(numbers: &[u64], names: &[u8], i: usize, leaf: bool) -> u64
     requires { ⌜ Numbers (now numbers) × Names (now names) × (i < treeCount (now numbers)) × (i < treeLimit) ⌝ }
-    ensures { λ r. ⌜ (let c = cardOf (now (numbers .entry)) (now (names .entry)) in (r ≡ upstreamOf c (withLeaf leaf (treeAt i c))) × (r ≤ 17) × (r ≡ 16 → ⊥)) ⌝ }
+    ensures { λ r. ⌜ (let c = cardOf (now (numbers .entry)) (now (names .entry)) in (r ≡ holderOf c (withLeaf leaf (treeAt i c))) × (r ≤ 17) × (r ≡ 16 → ⊥)) ⌝ }
 {
     let u = event_holder::upstream_of(numbers, names, memory_trees::tree_name(names, i));
     event_holder::holder_then(numbers, i, 16, 0, leaf, u)
@@ -37,7 +37,7 @@ pub fn leaf_holder(numbers: &[u64], names: &[u8], i: usize, leaf: bool) -> u64
 // The neighbour that a new tree holds a label for, whose only branch is that of neighbour n; 17 for none.
 pub fn new_holder(numbers: &[u64], names: &[u8], name: &[u8], n: usize) -> u64
     requires { ⌜ Numbers (now numbers) × Names (now names) × (n < 16) ⌝ }
-    ensures { λ r. ⌜ ((l : ℕ) → 0 < l → r ≡ upstreamOf (cardOf (now (numbers .entry)) (now (names .entry))) (withBranch n l (bare (now (name .entry))))) × (r ≤ 17) × (r ≡ 16 → ⊥) ⌝ }
+    ensures { λ r. ⌜ ((l : ℕ) → 0 < l → r ≡ holderOf (cardOf (now (numbers .entry)) (now (names .entry))) (withBranch n l (bare (now (name .entry))))) × (r ≤ 17) × (r ≡ 16 → ⊥) ⌝ }
 {
     let u = event_holder::upstream_of(numbers, names, name);
     if u == n as u64 {

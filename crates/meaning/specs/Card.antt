@@ -36,6 +36,10 @@ thisNode = 16
 abbrev pub noRoute : ℕ
 noRoute = 17
 
+-- in the place of a neighbour's number: nobody, told by the number that is no route
+abbrev pub nobody : ℕ
+nobody = noRoute
+
 pub record Route : Type 0 where
   pub root : List ℕ
   pub via : ℕ
@@ -151,17 +155,17 @@ isAwaiting r a free = false
 isAwaiting r a (mapped n t) = false
 isAwaiting r a (awaiting n t) = eqb n r && same t a
 
--- the neighbour to which a label is mapped; 17, as "no route", where it is not mapped
+-- the neighbour to which a label is mapped; nobody where it is not mapped
 unfoldable pub mappedTo : Use → ℕ
-mappedTo free = noRoute
+mappedTo free = nobody
 mappedTo (mapped n a) = n
-mappedTo (awaiting n a) = noRoute
+mappedTo (awaiting n a) = nobody
 
 -- what the label numbered l is used for; a number outside the block is never in use
 unfoldable pub useOf : ℕ → Card → Use
 useOf l c = pick (leb (c .base) l) (getD (c .labels) (l - c .base) free) free
 
--- the neighbour for which the tree holds its label; 17 where it holds none (no label is 0)
+-- the neighbour for which the tree holds its label; nobody where it holds none (no label is 0)
 unfoldable pub heldFor : Card → Tree → ℕ
 heldFor c t = mappedTo (useOf (t .label) c)
 

@@ -7,7 +7,7 @@ use lib.ListN.{getD, length, set}
 use lib.Dec.{eqb, leb, ltb}
 use Rattle.meaning.specs.Octets.{pick, same, put, cut, _when_else_}
 use Rattle.meaning.specs.Wire.{rootIn, elementRefusal, Message, messageIn, messageRefusal, mapping, withdraw, release, Sent, records, idsAfter}
-use Rattle.meaning.specs.Card.{noRoute, Route, Tree, Use, free, mapped, awaiting, Card, fresh, withNext, withRoutes, withTrees, withLabels, withBranch, withLeaf, withLabel, routePlace, routeOf, treePlace, treeOf, treeAt, stands, isEmpty, leadsOn, isAwaiting, useOf, heldFor, lowestFree, freeLabels, treeLimit, routeLimit}
+use Rattle.meaning.specs.Card.{noRoute, nobody, Route, Tree, Use, free, mapped, awaiting, Card, fresh, withNext, withRoutes, withTrees, withLabels, withBranch, withLeaf, withLabel, routePlace, routeOf, treePlace, treeOf, treeAt, stands, isEmpty, leadsOn, isAwaiting, useOf, heldFor, lowestFree, freeLabels, treeLimit, routeLimit}
 
 -- ---- what an event hands back
 
@@ -100,9 +100,9 @@ letGo i c = pick (eqb (treeAt i c .label) 0) (still c) (giveUp i c)
 
 -- a new one is given, where u is a neighbour
 unfoldable pub takeUp : ℕ → ℕ → Card → Moved
-takeUp i u c = pick (eqb u noRoute) (still c) (give i u c)
+takeUp i u c = pick (eqb u nobody) (still c) (give i u c)
 
--- THE RULE OF LABELS: the tree at place i gives up its label, if it has one, and is given one for neighbour u, or none where u is 17.
+-- THE RULE OF LABELS: the tree at place i gives up its label, if it has one, and is given one for neighbour u, or none where u is nobody.
 unfoldable pub moveLabel : ℕ → ℕ → Card → Moved
 moveLabel i u c = followedBy (letGo i c) (takeUp i u)
 
@@ -112,7 +112,7 @@ relabel i u c = pick (eqb (heldFor c (treeAt i c)) u) (still c) (moveLabel i u c
 
 -- how many free labels a move takes
 unfoldable pub needMove : ℕ → ℕ
-needMove u = pick (eqb u noRoute) 0 1
+needMove u = pick (eqb u nobody) 0 1
 
 unfoldable pub need : Card → Tree → ℕ → ℕ
 need c t u = pick (eqb (heldFor c t) u) 0 (needMove u)
@@ -121,19 +121,19 @@ need c t u = pick (eqb (heldFor c t) u) 0 (needMove u)
 unfoldable pub labelsShort : Card → ℕ → Bool
 labelsShort c needed = ltb (freeLabels c) needed
 
--- the upstream of the trees of a root with this route; 17 where it is no neighbour
+-- the upstream of the trees of a root with this route; nobody where it is no neighbour
 unfoldable pub upstream : ℕ → ℕ
-upstream via = pick (ltb via 16) via noRoute
+upstream via = pick (ltb via 16) via nobody
 
--- For whom a tree with upstream u is to hold a label: exactly while u is a neighbour and it has a leaf or a branch from another, for u; 17 for nobody.
+-- For whom a tree with upstream u is to hold a label: exactly while u is a neighbour and it has a leaf or a branch from another, for u; else for nobody.
 unfoldable pub holder : ℕ → Tree → ℕ
-holder u t = pick (leadsOn u t) u noRoute
+holder u t = pick (leadsOn u t) u nobody
 
 -- ---- an event of one tree
 
 -- for whom the tree is to hold a label by the route in force, which need not be for whom it holds one (`heldFor`)
-unfoldable pub upstreamOf : Card → Tree → ℕ
-upstreamOf c t = holder (upstream (routeOf (rootIn (t .name)) c)) t
+unfoldable pub holderOf : Card → Tree → ℕ
+holderOf c t = holder (upstream (routeOf (rootIn (t .name)) c)) t
 
 -- t in place of the tree of its name, or after the others
 unfoldable pub entered : Card → Tree → Card
@@ -148,13 +148,13 @@ unfoldable pub treesFull : Card → Tree → Bool
 treesFull c t = not (isEmpty t) && not (stands (t .name) c) && leb treeLimit (length (c .trees))
 
 unfoldable pub treeRefusal : Card → Tree → ℕ
-treeRefusal c t = 11 when treesFull c t else 12 when labelsShort c (need c t (upstreamOf c t)) else 0
+treeRefusal c t = 11 when treesFull c t else 12 when labelsShort c (need c t (holderOf c t)) else 0
 
 -- The tree of t's name is t from now on, with the label that its state asks for. The messages `first` go before.
 unfoldable pub enter : Card → List Sent → Tree → Outcome
 enter c first t =
     let i = treePlace (t .name) c in
-    let m = relabel i (upstreamOf c t) (entered c t) in
+    let m = relabel i (holderOf c t) (entered c t) in
     taken (first ++ m .sent) (swept i (m .card))
 
 unfoldable pub become : Card → List Sent → Tree → Outcome

@@ -11,7 +11,7 @@ use Rattle.meaning.specs.Octets.{pick, any, twoAt, _when_else_}
 use Rattle.meaning.specs.Lists.{by-test}
 use Rattle.meaning.specs.Wire.{isElement, isOpaque, opaqueIn, elementRefusal, isOverrun, tlvs, mapping, withdraw, release, Message, bodyOf, fecOf, labelOf, must, isSized, isKind, isOrdered, isLabel, messageRefusal, messageIn, Sent, records}
 use Rattle.meaning.specs.Card.{Tree, Card, withBranch, withLeaf, treeOf, routeOf}
-use Rattle.meaning.specs.Events.{Out, Outcome, refused, taken, unless, refuse, accept, roomShort, finish, tell, labelsShort, need, upstream, upstreamOf, treesFull, treeRefusal, enter, become, otherLabel, onMapping, lessBranch, onWithdraw, notAwaited, onRelease, onMessage, noNeighbour, onOctets, onJoin, notLeaf, onLeave, needAll, notRoute, notRoot, routesFull, routeRefusal, reRoute, onRoute, Event, receive, join, leave, route, outcome, event}
+use Rattle.meaning.specs.Events.{Out, Outcome, refused, taken, unless, refuse, accept, roomShort, finish, tell, labelsShort, need, upstream, holderOf, treesFull, treeRefusal, enter, become, otherLabel, onMapping, lessBranch, onWithdraw, notAwaited, onRelease, onMessage, noNeighbour, onOctets, onJoin, notLeaf, onLeave, needAll, notRoute, notRoot, routesFull, routeRefusal, reRoute, onRoute, Event, receive, join, leave, route, outcome, event}
 
 -- a refusal's number, and whether its test applies
 pub record Test : Type 0 where
@@ -39,7 +39,7 @@ messageTests s =
     ∷ (9 if any must (drop 2 (bodyOf s))) ∷ []
 
 unfoldable pub treeTests : Card → Tree → List Test
-treeTests c t = (11 if treesFull c t) ∷ (12 if labelsShort c (need c t (upstreamOf c t))) ∷ []
+treeTests c t = (11 if treesFull c t) ∷ (12 if labelsShort c (need c t (holderOf c t))) ∷ []
 
 -- the octets that an outcome writes
 unfoldable pub writtenBy : Card → Outcome → List ℕ

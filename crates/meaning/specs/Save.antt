@@ -11,7 +11,7 @@ use lib.Dec.{eqb, leb, ltb}
 use Rattle.meaning.specs.Octets.{pick, place, count, any, same, two, four, twoAt, fourAt, _when_else_, all}
 use Rattle.meaning.specs.Wire.{rootIn, opaqueIn, elementRefusal, element, rootLimit}
 use Rattle.meaning.specs.Card.{Route, Tree, Use, free, mapped, awaiting, Card, withLabel, treeLimit, routeLimit, labelCount, isFor, named, isEmpty, isFree, heldFor, useOf, treeOf, freeLabels, neighbourCount}
-use Rattle.meaning.specs.Events.{Out, roomShort, refuse, baseOutside, notRoot, upstreamOf}
+use Rattle.meaning.specs.Events.{Out, roomShort, refuse, baseOutside, notRoot, holderOf}
 
 -- ---- sizes
 
@@ -220,7 +220,7 @@ carriesOwn c t = eqb (t .label) 0 || isMappedFor (t .name) (useOf (t .label) c)
 
 -- a tree holds a label exactly as the rule of labels says
 unfoldable pub holdsRight : Card → Tree → Bool
-holdsRight c t = eqb (heldFor c t) (upstreamOf c t)
+holdsRight c t = eqb (heldFor c t) (holderOf c t)
 
 unfoldable pub keepsRules : Card → Bool
 keepsRules c =

@@ -12,7 +12,7 @@ use borrow.Author.Tests.{eqb-true, leb-true, ltb-true, eq-eqb, le-leb, lt-ltb, n
 use Rattle.meaning.specs.Octets.{count, any, same, all}
 use Rattle.meaning.specs.Lists.{by-test, picked, same-eq, same-refl}
 use Rattle.meaning.specs.Card.{Route, Tree, Use, free, Card, treeLimit, routeLimit, labelCount, isFor, named, bare, treeAt, heldFor}
-use Rattle.meaning.specs.Events.{baseOutside, upstreamOf}
+use Rattle.meaning.specs.Events.{baseOutside, holderOf}
 use Rattle.meaning.specs.RoundTrip.{both}
 use Rattle.meaning.specs.Save.{onceEach, isRoute, sameRoot, isTree, sameName, isUse, isCarried, allCarried, carriesOwn, holdsRight, keepsRules}
 use Rattle.meaning.specs.SaveFields.{all-cons}
@@ -98,7 +98,7 @@ pub record Rules (c : Card) : Type 0 where
   pub uses : all isUse (c .labels) ≡ true
   pub carried : (i : ℕ) → i < length (c .labels) → isCarried c (c .base + i) (getD (c .labels) i free) ≡ true
   pub own : (i : ℕ) → i < length (c .trees) → carriesOwn c (treeAt i c) ≡ true
-  pub held : (i : ℕ) → i < length (c .trees) → heldFor c (treeAt i c) ≡ upstreamOf c (treeAt i c)
+  pub held : (i : ℕ) → i < length (c .trees) → heldFor c (treeAt i c) ≡ holderOf c (treeAt i c)
 
 module _ (c : Card) where
   roots-once : onceEach sameRoot (c .routes) ≡ true → (r : List ℕ) → count (isFor r) (c .routes) ≤ 1
@@ -125,11 +125,11 @@ module _ (c : Card) where
   unfolding treeAt
   own-of h = all-of (carriesOwn c) (c .trees) (bare []) h
 
-  held-at : all (holdsRight c) (c .trees) ≡ true → (i : ℕ) → i < length (c .trees) → heldFor c (treeAt i c) ≡ upstreamOf c (treeAt i c)
+  held-at : all (holdsRight c) (c .trees) ≡ true → (i : ℕ) → i < length (c .trees) → heldFor c (treeAt i c) ≡ holderOf c (treeAt i c)
   unfolding treeAt holdsRight
   held-at h i k = eqb-true _ _ (all-at (holdsRight c) (c .trees) (bare []) h i k)
 
-  held-of : ((i : ℕ) → i < length (c .trees) → heldFor c (treeAt i c) ≡ upstreamOf c (treeAt i c)) → all (holdsRight c) (c .trees) ≡ true
+  held-of : ((i : ℕ) → i < length (c .trees) → heldFor c (treeAt i c) ≡ holderOf c (treeAt i c)) → all (holdsRight c) (c .trees) ≡ true
   unfolding treeAt holdsRight
   held-of h = all-of (holdsRight c) (c .trees) (bare []) (λ i k. eq-eqb _ _ (h i k))
 

@@ -8,7 +8,7 @@ use mathlib.Core.List.{List, [], _∷_}
 use Rattle.meaning.specs.Octets.{two, four, twoAt}
 use Rattle.meaning.specs.Wire.{nextId, messageIn, recordsF, recordsIn}
 use Rattle.meaning.specs.Card.{Card, withNext, treeOf, treePlace, treeAt, useOf, heldFor, freeLabels, routeOf, routePlace}
-use Rattle.meaning.specs.Events.{Out, refuse, accept, roomShort, noNeighbour, upstreamOf, start}
+use Rattle.meaning.specs.Events.{Out, refuse, accept, roomShort, noNeighbour, holderOf, start}
 use Rattle.meaning.specs.Save.{saved, save, keepsRules, isSave, restore}
 use Rattle.meaning.specs.Notice.{noticeDue, noticeRecord, notice}
 use Rattle.meaning.specs.Lists.{picked}
@@ -76,7 +76,7 @@ unfolding renumbered withNext treeOf treePlace useOf freeLabels
 renumbered-upheld id p u = record {
   sound = record { tidy = u .sound .tidy; low = u .sound .low; high = u .sound .high; many = u .sound .many; linked = u .sound .linked; books = u .sound .books; sum = u .sound .sum };
   reads = u .reads;
-  ruled = unfold treeAt heldFor upstreamOf routeOf routePlace in record { roots = u .ruled .roots; full = u .ruled .full; held = u .ruled .held; trees = u .ruled .trees; routes = u .ruled .routes };
+  ruled = unfold treeAt heldFor holderOf routeOf routePlace in record { roots = u .ruled .roots; full = u .ruled .full; held = u .ruled .held; trees = u .ruled .trees; routes = u .ruled .routes };
   routed = λ q. unfold routeOf routePlace in u .routed q;
 }
 

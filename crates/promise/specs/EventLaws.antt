@@ -10,14 +10,14 @@ use lib.Dec.{eqb, ltb}
 use borrow.Author.Tests.{eqb-true, eqb-false, eq-eqb, ne-eqb, ltb-true, ltb-false, leb-false, not-false}
 use Rattle.meaning.specs.Octets.{pick, place, same, put}
 use Rattle.meaning.specs.Wire.{isKind, mapping, withdraw, release, Message, messageIn, elementRefusal, Sent}
-use Rattle.meaning.specs.Card.{Tree, Use, free, mapped, awaiting, Card, noRoute, withRoutes, withTrees, withLabels, withBranch, withLeaf, treeLimit, named, bare, treePlace, treeOf, treeAt, stands, isEmpty, isFree, isAwaiting, mappedTo, useOf, heldFor, freeLabels, routeOf}
-use Rattle.meaning.specs.Events.{Outcome, refused, taken, unless, Moved, tell, setUse, relabel, need, labelsShort, upstream, upstreamOf, entered, swept, treesFull, treeRefusal, enter, become, branch, otherLabel, onMapping, lessBranch, onWithdraw, notAwaited, onRelease, onMessage, noNeighbour, onOctets, onJoin, onLeave, moveAll, needAll, routesWith, routeRefusal, reRoute, onRoute, Event, receive, join, leave, route, outcome}
+use Rattle.meaning.specs.Card.{Tree, Use, free, mapped, awaiting, Card, nobody, withRoutes, withTrees, withLabels, withBranch, withLeaf, treeLimit, named, bare, treePlace, treeOf, treeAt, stands, isEmpty, isFree, isAwaiting, mappedTo, useOf, heldFor, freeLabels, routeOf}
+use Rattle.meaning.specs.Events.{Outcome, refused, taken, unless, Moved, tell, setUse, relabel, need, labelsShort, upstream, holderOf, entered, swept, treesFull, treeRefusal, enter, become, branch, otherLabel, onMapping, lessBranch, onWithdraw, notAwaited, onRelease, onMessage, noNeighbour, onOctets, onJoin, onLeave, moveAll, needAll, routesWith, routeRefusal, reRoute, onRoute, Event, receive, join, leave, route, outcome}
 use Rattle.promise.specs.Promise.{Given, remove, noteSent, noteAll, noteTaken, NoneLive, useBut, Untouched}
 use Rattle.meaning.specs.Lists.{by-test, picked, same-eq, count-new, no-when}
 use Rattle.meaning.specs.RoundTrip.{Heard, heard, AllSendable, sendable-append}
 use Rattle.promise.specs.LiveLaws.{linked-eq, upd, free-linked, books-eq, books-remove, books-removed}
 use Rattle.promise.specs.CardLaws.{use-after, in-block, shape, Proper, tree-name, tree-sized, entered-is, entered-tidy, put-within, swept-is, swept-tidy, swept-use, swept-labels, swept-base, swept-routes, untouched-then, entered-untouched, swept-untouched, used-untouched}
-use Rattle.promise.specs.RuleLaws.{empty-asked, Ruled, shape-empty, upstream-same, route-ruled, put-in, put-more, cut-in, put-other-at, swept-at}
+use Rattle.promise.specs.RuleLaws.{empty-asked, Ruled, shape-empty, holder-same, route-ruled, put-in, put-more, cut-in, put-other-at, swept-at}
 use Rattle.promise.specs.LabelLaws.{shape-name, own-awaiting, holder-near, at-other, held-other, relabel-own, Sound, Fine, relabel-fine, relabel-none, none-append, note-append, Kept, all-kept, use-place}
 
 -- ---- what an event that is taken makes of the tree named a
@@ -83,15 +83,15 @@ release-quiet gs n a l g = (
   (record { near = g .near; says = record { kind = refl; kind-fits = omega arith; name = g .name; low = g .low; high = g .high } }, tt),
 )
 
-pub upstream-near : (via : ℕ) → eqb (upstream via) noRoute ≡ false → upstream via < 16
+pub upstream-near : (via : ℕ) → eqb (upstream via) nobody ≡ false → upstream via < 16
 unfolding upstream
 upstream-near via =
     by-test (ltb via 16)
     (λ e. rw e (λ _. ltb-true via 16 e))
     (λ e. rw e (λ z. absurd (let z′ : _≡_ {A = ℕ} 0 1 = cc in omega arith)))
 
-with-near : (c : Card) (t : Tree) → eqb (upstreamOf c t) noRoute ≡ false → upstreamOf c t < 16
-unfolding upstreamOf
+with-near : (c : Card) (t : Tree) → eqb (holderOf c t) nobody ≡ false → holderOf c t < 16
+unfolding holderOf
 with-near c t = holder-near _ t (upstream-near _)
 
 -- ---- one tree's event
@@ -156,22 +156,22 @@ module _ (c : Card) (gs : List Given) (S : Sound c gs) (a : List ℕ) (good : el
   unfolding its-place treeAt entered withTrees treePlace
   its-at = getD-put (named (its .name)) (c .trees) its (bare [])
 
-  module _ (enough : need c its (upstreamOf c its) ≤ freeLabels c) where
-    entered-enough : need (entered c its) (treeAt its-place (entered c its)) (upstreamOf c its) ≤ freeLabels (entered c its)
+  module _ (enough : need c its (holderOf c its) ≤ freeLabels c) where
+    entered-enough : need (entered c its) (treeAt its-place (entered c its)) (holderOf c its) ≤ freeLabels (entered c its)
     entered-enough = rw its-at (unfold need heldFor useOf freeLabels entered withTrees in enough)
 
     relabelled : Moved
-    relabelled = relabel its-place (upstreamOf c its) (entered c its)
+    relabelled = relabel its-place (holderOf c its) (entered c its)
 
     fine : Fine its-place (entered c its) gs relabelled
     unfolding relabelled
-    fine = relabel-fine (entered c its) gs entered-sound its-place its-within (upstreamOf c its) (with-near c its) entered-enough
+    fine = relabel-fine (entered c its) gs entered-sound its-place its-within (holderOf c its) (with-near c its) entered-enough
 
     bare-label : isEmpty (treeAt its-place (relabelled .card)) ≡ true → treeAt its-place (relabelled .card) .label ≡ 0
-    unfolding upstreamOf relabelled
+    unfolding holderOf relabelled
     bare-label e =
         let empty : isEmpty its ≡ true = sym (shape-empty _ _ (fine .at its-place ∙ ap shape its-at)) ∙ e in
-        relabel-none (entered c its) gs entered-sound its-place its-within (upstreamOf c its) (with-near c its) entered-enough (empty-asked c its empty)
+        relabel-none (entered c its) gs entered-sound its-place its-within (holderOf c its) (with-near c its) entered-enough (empty-asked c its empty)
 
     within-after : its-place < length (relabelled .card .trees)
     within-after = rw (fine .size) its-within
@@ -217,11 +217,11 @@ module _ (c : Card) (gs : List Given) (S : Sound c gs) (a : List ℕ) (good : el
     end-held t = ap mappedTo (swept-use (relabelled .card) its-place (t .label))
 
     -- the place itself
-    here-held : heldFor (relabelled .card) (treeAt its-place (relabelled .card)) ≡ upstreamOf end (treeAt its-place (relabelled .card))
+    here-held : heldFor (relabelled .card) (treeAt its-place (relabelled .card)) ≡ holderOf end (treeAt its-place (relabelled .card))
     here-held =
-        let own : heldFor (relabelled .card) (treeAt its-place (relabelled .card)) ≡ upstreamOf c its = unfold relabelled in relabel-own (entered c its) gs entered-sound its-place its-within (upstreamOf c its) (with-near c its) entered-enough in
+        let own : heldFor (relabelled .card) (treeAt its-place (relabelled .card)) ≡ holderOf c its = unfold relabelled in relabel-own (entered c its) gs entered-sound its-place its-within (holderOf c its) (with-near c its) entered-enough in
         own
-        ∙ upstream-same c end its (treeAt its-place (relabelled .card)) (sym end-routes) (sym (fine .at its-place ∙ ap shape its-at))
+        ∙ holder-same c end its (treeAt its-place (relabelled .card)) (sym end-routes) (sym (fine .at its-place ∙ ap shape its-at))
 
     -- the trees are no more than before, but for one that is new
     size-after : length (relabelled .card .trees) ≡ length (put (c .trees) its-place its)
@@ -250,9 +250,9 @@ module _ (c : Card) (gs : List Given) (S : Sound c gs) (a : List ℕ) (good : el
           (λ e. let o = else-at (r .0) (r .1) (eqb-false _ _ e) in rw (o .1) (R .full (r .0) (o .0))));
       held = λ j h. let r = swept-at (relabelled .card) its-place j h in
           rw (r .2) (end-held (treeAt (r .0) (relabelled .card)) ∙ by-test (eqb its-place (r .0))
-          (λ e. subst (λ (k : ℕ). heldFor (relabelled .card) (treeAt k (relabelled .card)) ≡ upstreamOf end (treeAt k (relabelled .card))) (eqb-true its-place (r .0) e) here-held)
+          (λ e. subst (λ (k : ℕ). heldFor (relabelled .card) (treeAt k (relabelled .card)) ≡ holderOf end (treeAt k (relabelled .card))) (eqb-true its-place (r .0) e) here-held)
           (λ e. let o = else-at (r .0) (r .1) (eqb-false _ _ e) in
-          rw (o .1) (o .2 ∙ R .held (r .0) (o .0) ∙ upstream-same c end (treeAt (r .0) c) (treeAt (r .0) c) (sym end-routes) refl)));
+          rw (o .1) (o .2 ∙ R .held (r .0) (o .0) ∙ holder-same c end (treeAt (r .0) c) (treeAt (r .0) c) (sym end-routes) refl)));
     }
 
     -- the place is that of a, from its entry to its sweep
@@ -362,7 +362,7 @@ module _ (c : Card) (gs : List Given) (S : Sound c gs) where
     trees = unfold setUse withLabels in R .trees;
     routes = unfold setUse withLabels in R .routes;
     full = unfold setUse withLabels treeAt in R .full;
-    held = λ j h. ap (heldFor (setUse l free c)) (freed-at j) ∙ freed-held n a l w j (unfold setUse withLabels in h) ∙ R .held j (unfold setUse withLabels in h) ∙ upstream-same c (setUse l free c) (treeAt j c) (treeAt j (setUse l free c)) (unfold setUse withLabels in refl) (ap shape (sym (freed-at j)));
+    held = λ j h. ap (heldFor (setUse l free c)) (freed-at j) ∙ freed-held n a l w j (unfold setUse withLabels in h) ∙ R .held j (unfold setUse withLabels in h) ∙ holder-same c (setUse l free c) (treeAt j c) (treeAt j (setUse l free c)) (unfold setUse withLabels in refl) (ap shape (sym (freed-at j)));
   }
     where
       freed-at : (j : ℕ) → treeAt j (setUse l free c) ≡ treeAt j c

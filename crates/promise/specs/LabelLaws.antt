@@ -11,7 +11,7 @@ use lib.Dec.{eqb}
 use borrow.Author.Tests.{eqb-true, eqb-false, eq-eqb, le-leb, lt-leb}
 use Rattle.meaning.specs.Octets.{pick, place, same}
 use Rattle.meaning.specs.Wire.{elementRefusal, isKind, withdraw, Sent}
-use Rattle.meaning.specs.Card.{Tree, Use, free, mapped, awaiting, Card, noRoute, withTrees, withLabels, withLabel, treePlace, treeOf, treeAt, leadsOn, isFree, mappedTo, useOf, heldFor, lowestFree, freeLabels}
+use Rattle.meaning.specs.Card.{Tree, Use, free, mapped, awaiting, Card, nobody, withTrees, withLabels, withLabel, treePlace, treeOf, treeAt, leadsOn, isFree, mappedTo, useOf, heldFor, lowestFree, freeLabels}
 use Rattle.meaning.specs.Events.{Moved, still, followedBy, setUse, setLabel, ended, giveUp, give, letGo, takeUp, moveLabel, relabel, needMove, need, holder, ofRoot, moveOne, moveFrom, moveAll, needOne, sumFrom, needAll}
 use Rattle.promise.specs.Promise.{Given, noteSent, noteAll, NoneLive, useBut, Untouched}
 use Rattle.meaning.specs.Lists.{by-test, picked, same-eq, same-refl, count-set, count-set-place}
@@ -155,24 +155,24 @@ module _ (c : Card) (gs : List Given) (S : Sound c gs) (i : ℕ) (h : i < length
   its-label = ap (λ (t : Tree). t .label) (at-named c (S .tidy) i h)
 
   -- a label held for somebody is mapped for the tree
-  held-own : (heldFor c (treeAt i c) ≡ noRoute → ⊥) → isMapped (treeAt i c .name) (useOf (treeAt i c .label) c) ≡ true
+  held-own : (heldFor c (treeAt i c) ≡ nobody → ⊥) → isMapped (treeAt i c .name) (useOf (treeAt i c .label) c) ≡ true
   unfolding heldFor mappedTo
   held-own some-one =
       rw (← its-label) (S .linked .own (treeAt i c .name)
       (λ z. some-one (ap mappedTo (ap (λ (k : ℕ). useOf k c) (sym its-label ∙ z) ∙ S .linked .zero-free))))
 
   -- a tree with a label holds it for somebody
-  held-none : heldFor c (treeAt i c) ≡ noRoute → treeAt i c .label ≡ 0
+  held-none : heldFor c (treeAt i c) ≡ nobody → treeAt i c .label ≡ 0
   unfolding heldFor
   held-none e =
       by-test (eqb (treeAt i c .label) 0)
       (λ k. eqb-true _ _ k)
       (λ k. absurd (stray-not (treeAt i c .name) _ (rw its-label at (S .linked .own (treeAt i c .name) (λ z. eqb-false _ _ k (sym its-label ∙ z)))) (S .linked .real (treeAt i c .label)) e))
 
-  label-held : (treeAt i c .label ≡ 0 → ⊥) → heldFor c (treeAt i c) ≡ noRoute → ⊥
+  label-held : (treeAt i c .label ≡ 0 → ⊥) → heldFor c (treeAt i c) ≡ nobody → ⊥
   label-held some-label e = some-label (held-none e)
 
-  module _ (some-one : heldFor c (treeAt i c) ≡ noRoute → ⊥) where
+  module _ (some-one : heldFor c (treeAt i c) ≡ nobody → ⊥) where
     its-use : useOf (treeAt i c .label) c ≡ mapped (heldFor c (treeAt i c)) (treeAt i c .name)
     unfolding heldFor
     its-use = mapped-eq (treeAt i c .name) (useOf (treeAt i c .label) c) (held-own some-one)
@@ -279,32 +279,32 @@ module _ (c : Card) (gs : List Given) (S : Sound c gs) (i : ℕ) (h : i < length
       (λ e. eqb-true _ _ e)
       (λ e. up-none)
 
-  take-up-fine : (u : ℕ) → (eqb u noRoute ≡ false → u < 16) → (eqb u noRoute ≡ false → 0 < freeLabels c) → treeAt i c .label ≡ 0 → Fine i c gs (takeUp i u c)
+  take-up-fine : (u : ℕ) → (eqb u nobody ≡ false → u < 16) → (eqb u nobody ≡ false → 0 < freeLabels c) → treeAt i c .label ≡ 0 → Fine i c gs (takeUp i u c)
   unfolding takeUp
   take-up-fine u near enough none =
-      picked (Fine i c gs) (eqb u noRoute)
+      picked (Fine i c gs) (eqb u nobody)
       (λ _. still-fine i c gs S)
       (λ e. give-fine c gs S i h u (near e) (enough e) none)
 
-  none-held : treeAt i c .label ≡ 0 → heldFor c (treeAt i c) ≡ noRoute
+  none-held : treeAt i c .label ≡ 0 → heldFor c (treeAt i c) ≡ nobody
   unfolding heldFor mappedTo
   none-held z = ap mappedTo (ap (λ (l : ℕ). useOf l c) z ∙ S .linked .zero-free)
 
-  take-up-own : (u : ℕ) → (eqb u noRoute ≡ false → u < 16) → (eqb u noRoute ≡ false → 0 < freeLabels c) → treeAt i c .label ≡ 0 → heldFor (takeUp i u c .card) (treeAt i (takeUp i u c .card)) ≡ u
+  take-up-own : (u : ℕ) → (eqb u nobody ≡ false → u < 16) → (eqb u nobody ≡ false → 0 < freeLabels c) → treeAt i c .label ≡ 0 → heldFor (takeUp i u c .card) (treeAt i (takeUp i u c .card)) ≡ u
   unfolding takeUp still
   take-up-own u near enough none =
-      by-test (eqb u noRoute)
+      by-test (eqb u nobody)
       (λ e. rw e (none-held none ∙ sym (eqb-true _ _ e)))
       (λ e. rw e (give-own c gs S i h u (near e) (enough e) none))
 
-  take-up-free : (u : ℕ) → (eqb u noRoute ≡ false → u < 16) → (eqb u noRoute ≡ false → 0 < freeLabels c) → treeAt i c .label ≡ 0 → freeLabels (takeUp i u c .card) + needMove u ≡ freeLabels c
+  take-up-free : (u : ℕ) → (eqb u nobody ≡ false → u < 16) → (eqb u nobody ≡ false → 0 < freeLabels c) → treeAt i c .label ≡ 0 → freeLabels (takeUp i u c .card) + needMove u ≡ freeLabels c
   unfolding takeUp still needMove
   take-up-free u near enough none =
-      by-test (eqb u noRoute)
+      by-test (eqb u nobody)
       (λ e. rw e (omega arith))
       (λ e. rw e (omega (arith, give-free c gs S i h u (near e) (enough e) none)))
 
-module _ (c : Card) (gs : List Given) (S : Sound c gs) (i : ℕ) (h : i < length (c .trees)) (u : ℕ) (near : eqb u noRoute ≡ false → u < 16) (enough : needMove u ≤ freeLabels c) where
+module _ (c : Card) (gs : List Given) (S : Sound c gs) (i : ℕ) (h : i < length (c .trees)) (u : ℕ) (near : eqb u nobody ≡ false → u < 16) (enough : needMove u ≤ freeLabels c) where
   left : Card
   left = letGo i c .card
 
@@ -312,7 +312,7 @@ module _ (c : Card) (gs : List Given) (S : Sound c gs) (i : ℕ) (h : i < length
   unfolding left
   left-sound = let-go-fine c gs S i h .sound
 
-  left-enough : eqb u noRoute ≡ false → 0 < freeLabels left
+  left-enough : eqb u nobody ≡ false → 0 < freeLabels left
   unfolding needMove left
   left-enough k = rw (let-go-free c gs S i h) (rw k at enough)
 
@@ -342,11 +342,11 @@ module _ (c : Card) (gs : List Given) (S : Sound c gs) (i : ℕ) (h : i < length
   unfolding moveLabel followedBy left
   move-own = take-up-own left _ left-sound i left-within u near left-enough left-none
 
-  pub move-none : u ≡ noRoute → treeAt i (moveLabel i u c .card) .label ≡ 0
+  pub move-none : u ≡ nobody → treeAt i (moveLabel i u c .card) .label ≡ 0
   unfolding moveLabel followedBy takeUp still
-  move-none z = rw (eq-eqb u noRoute z) (let-go-none c gs S i h)
+  move-none z = rw (eq-eqb u nobody z) (let-go-none c gs S i h)
 
-module _ (c : Card) (gs : List Given) (S : Sound c gs) (i : ℕ) (h : i < length (c .trees)) (u : ℕ) (near : eqb u noRoute ≡ false → u < 16) (enough : need c (treeAt i c) u ≤ freeLabels c) where
+module _ (c : Card) (gs : List Given) (S : Sound c gs) (i : ℕ) (h : i < length (c .trees)) (u : ℕ) (near : eqb u nobody ≡ false → u < 16) (enough : need c (treeAt i c) u ≤ freeLabels c) where
   move-enough : eqb (heldFor c (treeAt i c)) u ≡ false → needMove u ≤ freeLabels c
   unfolding need
   move-enough e = rw e at enough
@@ -374,7 +374,7 @@ module _ (c : Card) (gs : List Given) (S : Sound c gs) (i : ℕ) (h : i < length
       (λ e. rw e (move-own c gs S i h u near (move-enough e)))
 
   -- no label is left where none is to be held
-  pub relabel-none : u ≡ noRoute → treeAt i (relabel i u c .card) .label ≡ 0
+  pub relabel-none : u ≡ nobody → treeAt i (relabel i u c .card) .label ≡ 0
   unfolding relabel still
   relabel-none z =
       by-test (eqb (heldFor c (treeAt i c)) u)
@@ -425,11 +425,11 @@ module _ (c : Card) (gs : List Given) (S : Sound c gs) (i : ℕ) (h : i < length
   held-other j k n = ap mappedTo (rw (at-named c (S .tidy) j k) at (p .uses (treeAt j c .name) (names-apart j k n)))
 
 -- whoever is to hold the label is a neighbour, where u is one
-pub holder-near : (u : ℕ) (t : Tree) → (eqb u noRoute ≡ false → u < 16) → eqb (holder u t) noRoute ≡ false → holder u t < 16
+pub holder-near : (u : ℕ) (t : Tree) → (eqb u nobody ≡ false → u < 16) → eqb (holder u t) nobody ≡ false → holder u t < 16
 unfolding holder
-holder-near u t near = picked (λ (x : ℕ). eqb x noRoute ≡ false → x < 16) (leadsOn u t) (λ _. near) (λ _ e. absurd (eqb-false noRoute noRoute e refl))
+holder-near u t near = picked (λ (x : ℕ). eqb x nobody ≡ false → x < 16) (leadsOn u t) (λ _. near) (λ _ e. absurd (eqb-false nobody nobody e refl))
 
-module _ (r : List ℕ) (u : ℕ) (near : eqb u noRoute ≡ false → u < 16) where
+module _ (r : List ℕ) (u : ℕ) (near : eqb u nobody ≡ false → u < 16) where
   pub one-fine : (c : Card) (gs : List Given) → Sound c gs → (i : ℕ) → i < length (c .trees) → needOne r u (treeAt i c) ≤ freeLabels c → Fine i c gs (moveOne r u i c)
   unfolding moveOne needOne
   one-fine c gs S i h enough =

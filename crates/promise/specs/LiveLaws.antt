@@ -11,7 +11,7 @@ use lib.Dec.{eqb, leb}
 use borrow.Author.Tests.{eqb-true, eqb-false, eq-eqb, ne-eqb, leb-false}
 use Rattle.meaning.specs.Octets.{pick, count, same}
 use Rattle.meaning.specs.Wire.{Message}
-use Rattle.meaning.specs.Card.{Use, free, mapped, awaiting, noRoute, isFree, isAwaiting, mappedTo}
+use Rattle.meaning.specs.Card.{Use, free, mapped, awaiting, nobody, isFree, isAwaiting, mappedTo}
 use Rattle.promise.specs.Promise.{Given, ofLabel, isAbout, mark, remove, Each}
 use Rattle.meaning.specs.Lists.{by-test, picked, same-eq, same-refl, same-no}
 
@@ -51,7 +51,7 @@ free-eq (mapped n t) e = cc
 free-eq (awaiting n t) e = cc
 
 -- a label that is held for somebody is mapped
-pub held-mapped : (u : Use) → (mappedTo u ≡ noRoute → ⊥) → (a : List ℕ) × (u ≡ mapped (mappedTo u) a)
+pub held-mapped : (u : Use) → (mappedTo u ≡ nobody → ⊥) → (a : List ℕ) × (u ≡ mapped (mappedTo u) a)
 unfolding mappedTo
 held-mapped free h = absurd (h refl)
 held-mapped (mapped n t) h = (t, refl)
@@ -63,7 +63,7 @@ mapped-near a free e s = absurd (let z : _≡_ {A = ℕ} 0 1 = cc in omega arith
 mapped-near a (mapped n t) e s = leb-false 16 n s
 mapped-near a (awaiting n t) e s = absurd (let z : _≡_ {A = ℕ} 0 1 = cc in omega arith)
 
-pub stray-not : (a : List ℕ) (u : Use) → isMapped a u ≡ true → stray u ≡ false → mappedTo u ≡ noRoute → ⊥
+pub stray-not : (a : List ℕ) (u : Use) → isMapped a u ≡ true → stray u ≡ false → mappedTo u ≡ nobody → ⊥
 stray-not a u e s z = let near = mapped-near a u e s in omega arith
 
 -- ---- trees and labels: the tree named a carries lab a, the label l has use U l

@@ -13,7 +13,7 @@ use borrow.Author.Tests.{eqb-true, eqb-false, eq-eqb, ne-eqb, ltb-true, ltb-fals
 use Rattle.meaning.specs.Octets.{pick, place, count, same}
 use Rattle.meaning.specs.Wire.{rootIn, mapping, withdraw, Message, messageIn, Sent, records, recordsF, recordsIn, elementRefusal}
 use Rattle.meaning.specs.Card.{Tree, Use, free, mapped, awaiting, Card, fresh, withNext, withBranch, withLeaf, withLabel, bare, treePlace, treeOf, treeAt, isFree, isAwaiting, mappedTo, notHeld, leadsOn, useOf, freeLabels, heldFor, routeOf, routePlace, branchesFrom, feedOf, carries, carrier, feedOfUse, lookupLabel, isBranch, nothing, lookupName}
-use Rattle.meaning.specs.Events.{Out, Outcome, refused, taken, refuse, accept, roomShort, finish, upstream, holder, upstreamOf, branch, lessBranch, Event, receive, join, leave, route, outcome, event, baseOutside, start, otherLabel}
+use Rattle.meaning.specs.Events.{Out, Outcome, refused, taken, refuse, accept, roomShort, finish, upstream, holder, holderOf, branch, lessBranch, Event, receive, join, leave, route, outcome, event, baseOutside, start, otherLabel}
 use Rattle.promise.specs.Promise.{Given, ofLabel, isAbout, isWithdrawn, Demand3, noteAll, noteTaken, leafBy, branchesBy, routeBy, feedBy, Step, Past, answerTo, sends, thenStep, thenSteps, history, Each, NoneLive, Leads, Promise, without, saidBy, branchesSaid, branchesTo, isTaken, liveAt, acceptedAt, Untouched, begun}
 use Rattle.meaning.specs.Lists.{getD-same, by-test, picked, place-finds, place-count, same-eq, same-refl, getD-out, getD-all, count-some, set-replicate}
 use Rattle.meaning.specs.RoundTrip.{both, AllSendable, records-back}
@@ -168,7 +168,7 @@ module _ (c : Card) (gs : List Given) (es : List Event) (e : Event) where
       (λ t. rw t (unfold withNext treeOf treePlace useOf freeLabels in record {
         sound = record { tidy = k .sound .tidy; low = k .sound .low; high = k .sound .high; many = k .sound .many; linked = k .sound .linked; books = k .sound .books; sum = k .sound .sum };
         reads = λ a. reads-shape a (e ∷ es) _ _ (k .shapes a) (became-reads c (u .sound .tidy) a es (u .reads a) e g);
-        ruled = unfold treeAt heldFor upstreamOf routeOf routePlace in record { roots = k .ruled (u .ruled) .roots; full = k .ruled (u .ruled) .full; held = k .ruled (u .ruled) .held; trees = k .ruled (u .ruled) .trees; routes = k .ruled (u .ruled) .routes };
+        ruled = unfold treeAt heldFor holderOf routeOf routePlace in record { roots = k .ruled (u .ruled) .roots; full = k .ruled (u .ruled) .full; held = k .ruled (u .ruled) .held; trees = k .ruled (u .ruled) .trees; routes = k .ruled (u .ruled) .routes };
         routed = λ q. unfold routeOf routePlace in w q ∙ ap (routeNow e q) (u .routed q) ∙ sym (route-by e q es);
       }))
 
@@ -316,8 +316,8 @@ unfolding mappedTo
 to-whom n a = refl
 
 -- a label that is held is held for the root's route
-held-route : (c : Card) (t : Tree) (n : ℕ) → n < 16 → upstreamOf c t ≡ n → n ≡ routeOf (rootIn (t .name)) c
-unfolding upstreamOf holder upstream
+held-route : (c : Card) (t : Tree) (n : ℕ) → n < 16 → holderOf c t ≡ n → n ≡ routeOf (rootIn (t .name)) c
+unfolding holderOf holder upstream
 held-route c t n near =
     picked (λ (x : ℕ). x ≡ n → n ≡ routeOf (rootIn (t .name)) c) (leadsOn _ t)
     (λ _. picked (λ (x : ℕ). x ≡ n → n ≡ routeOf (rootIn (t .name)) c) (ltb (routeOf (rootIn (t .name)) c) 16) (λ _ e. sym e) (λ _ e. absurd (omega arith)))
@@ -362,7 +362,7 @@ module _ (p : Past) (u : Upheld p) where
       let sent : mappedTo (useOf l (p .card)) ≡ n = ap mappedTo us ∙ to-whom n a in
       let near : n < 16 = subst (λ (k : ℕ). k < 16) sent (mapped-near a (useOf l (p .card)) ma (L .real l)) in
       let held : heldFor (p .card) (treeOf a (p .card)) ≡ n = ap (λ (k : ℕ). mappedTo (useOf k (p .card))) (L .led a l ma) ∙ sent in
-      let asked : upstreamOf (p .card) (treeOf a (p .card)) ≡ n = sym (held-named (p .card) (p .live) (u .sound) (u .ruled) a) ∙ held in
+      let asked : holderOf (p .card) (treeOf a (p .card)) ≡ n = sym (held-named (p .card) (p .live) (u .sound) (u .ruled) a) ∙ held in
       held-route (p .card) (treeOf a (p .card)) n near asked
       ∙ ap (λ (b : List ℕ). routeOf (rootIn b) (p .card)) (tree-name a (p .card))
       ∙ u .routed (rootIn a)

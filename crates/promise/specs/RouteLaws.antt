@@ -8,7 +8,7 @@ use borrow.Author.Tests.{eqb-true, ltb-false}
 use Rattle.meaning.specs.Octets.{pick, same}
 use Rattle.meaning.specs.Wire.{Message, messageIn, mapping, withdraw, release, Sent}
 use Rattle.meaning.specs.Card.{Tree, Card, free, withRoutes, withTrees, withLabels, routeOf, routePlace, treePlace, freeLabels}
-use Rattle.meaning.specs.Events.{Outcome, refused, taken, unless, Moved, setUse, relabel, labelsShort, upstream, upstreamOf, entered, swept, enter, become, onMapping, onWithdraw, onRelease, onMessage, onOctets, onJoin, onLeave, moveAll, needAll, routesWith, routeRefusal, reRoute, onRoute, Event, receive, join, leave, route, outcome}
+use Rattle.meaning.specs.Events.{Outcome, refused, taken, unless, Moved, setUse, relabel, labelsShort, upstream, holderOf, entered, swept, enter, become, onMapping, onWithdraw, onRelease, onMessage, onOctets, onJoin, onLeave, moveAll, needAll, routesWith, routeRefusal, reRoute, onRoute, Event, receive, join, leave, route, outcome}
 use Rattle.meaning.specs.Lists.{by-test, picked, same-eq, no-when}
 use Rattle.meaning.specs.RoutesStay.{relabel-routes}
 use Rattle.promise.specs.Promise.{Given}
@@ -44,8 +44,8 @@ module _ (c : Card) (e : Event) (plain : (q : List ℕ) (before : ℕ) → route
   unfolding enter Routed
   enter-routed first t q =
       let i : ℕ = treePlace (t .name) c in
-      let m : Moved = relabel i (upstreamOf c t) (entered c t) in
-      same-route (swept i (m .card)) c q (swept-routes (m .card) i ∙ relabel-routes i (upstreamOf c t) (entered c t) ∙ unfold entered withTrees in refl) ∙ sym (plain q _)
+      let m : Moved = relabel i (holderOf c t) (entered c t) in
+      same-route (swept i (m .card)) c q (swept-routes (m .card) i ∙ relabel-routes i (holderOf c t) (entered c t) ∙ unfold entered withTrees in refl) ∙ sym (plain q _)
 
   become-routed : (first : List Sent) (t : Tree) → Routed c e (become c first t)
   unfolding become

@@ -11,8 +11,8 @@ use lib.Dec.{eqb, ltb}
 use borrow.Author.Tests.{eqb-true, eqb-false, ltb-true, ltb-false, leb-false, not-true}
 use Rattle.meaning.specs.Octets.{pick, place, count, any, same, put, cut}
 use Rattle.meaning.specs.Wire.{rootIn}
-use Rattle.meaning.specs.Card.{Tree, Route, free, Card, noRoute, withRoutes, withTrees, withLabel, treeLimit, routeLimit, isFor, routePlace, routeOf, bare, treePlace, treeOf, treeAt, isBranch, isEmpty, notHeld, leadsOn, mappedTo, useOf, heldFor, freeLabels}
-use Rattle.meaning.specs.Events.{upstream, holder, upstreamOf, swept, ofRoot, moveAll, needAll, routesWith, routesFull}
+use Rattle.meaning.specs.Card.{Tree, Route, free, Card, noRoute, nobody, withRoutes, withTrees, withLabel, treeLimit, routeLimit, isFor, routePlace, routeOf, bare, treePlace, treeOf, treeAt, isBranch, isEmpty, notHeld, leadsOn, mappedTo, useOf, heldFor, freeLabels}
+use Rattle.meaning.specs.Events.{upstream, holder, holderOf, swept, ofRoot, moveAll, needAll, routesWith, routesFull}
 use Rattle.meaning.specs.Standing.{standing-at, not-standing}
 use Rattle.promise.specs.Promise.{Given}
 use Rattle.meaning.specs.Lists.{by-test, same-eq, same-refl, same-flip, getD-out, found-put, found-cut, other-put, other-cut, count-put, count-cut, count-other-put}
@@ -22,7 +22,7 @@ use Rattle.promise.specs.LabelLaws.{Sound, Kept, all-kept, all-held, sha
 pub record Ruled (c : Card) : Type 0 where
   pub roots : (r : List ℕ) → count (isFor r) (c .routes) ≤ 1
   pub full : (j : ℕ) → j < length (c .trees) → isEmpty (treeAt j c) ≡ false
-  pub held : (j : ℕ) → j < length (c .trees) → heldFor c (treeAt j c) ≡ upstreamOf c (treeAt j c)
+  pub held : (j : ℕ) → j < length (c .trees) → heldFor c (treeAt j c) ≡ holderOf c (treeAt j c)
   pub trees : length (c .trees) ≤ treeLimit
   pub routes : length (c .routes) ≤ routeLimit
 
@@ -34,16 +34,16 @@ pub shape-holder : (u : ℕ) (t s : Tree) → shape t ≡ shape s → holder u t
 unfolding holder leadsOn notHeld shape withLabel
 shape-holder u t s e = ap (λ (x : Tree). holder u x) e
 
--- the upstream depends on the routes, and on all of the tree but its label
-pub upstream-same : (c d : Card) (t s : Tree) → c .routes ≡ d .routes → shape t ≡ shape s → upstreamOf c t ≡ upstreamOf d s
-unfolding upstreamOf routeOf routePlace holder leadsOn notHeld
-upstream-same c d t s e k = rw (e, shape-name t s k) (shape-holder _ t s k)
+-- for whom a tree is to hold a label depends on the routes, and on all of the tree but its label
+pub holder-same : (c d : Card) (t s : Tree) → c .routes ≡ d .routes → shape t ≡ shape s → holderOf c t ≡ holderOf d s
+unfolding holderOf routeOf routePlace holder leadsOn notHeld
+holder-same c d t s e k = rw (e, shape-name t s k) (shape-holder _ t s k)
 
 pub bare-empty : (a : List ℕ) → isEmpty (bare a) ≡ true
 unfolding isEmpty bare any isBranch
 bare-empty a = refl
 
-bare-held : (c : Card) (a : List ℕ) → useOf 0 c ≡ free → heldFor c (bare a) ≡ noRoute
+bare-held : (c : Card) (a : List ℕ) → useOf 0 c ≡ free → heldFor c (bare a) ≡ nobody
 unfolding heldFor bare mappedTo
 bare-held c a z = ap mappedTo z
 
@@ -62,15 +62,15 @@ empty-leads u t e =
     (λ k. let z : false ≡ true = rw k at e in cc)
     (λ k. rw (any-set-zero (t .branches) u k) (not-true (t .leaf) (rw k at e)))
 
-pub empty-asked : (c : Card) (t : Tree) → isEmpty t ≡ true → upstreamOf c t ≡ noRoute
-unfolding upstreamOf holder
+pub empty-asked : (c : Card) (t : Tree) → isEmpty t ≡ true → holderOf c t ≡ nobody
+unfolding holderOf holder
 empty-asked c t e = rw (empty-leads _ t e) refl
 
-bare-asked : (c : Card) (a : List ℕ) → upstreamOf c (bare a) ≡ noRoute
+bare-asked : (c : Card) (a : List ℕ) → holderOf c (bare a) ≡ nobody
 bare-asked c a = empty-asked c (bare a) (bare-empty a)
 
 -- by name
-pub held-named : (c : Card) (gs : List Given) → Sound c gs → Ruled c → (a : List ℕ) → heldFor c (treeOf a c) ≡ upstreamOf c (treeOf a c)
+pub held-named : (c : Card) (gs : List Given) → Sound c gs → Ruled c → (a : List ℕ) → heldFor c (treeOf a c) ≡ holderOf c (treeOf a c)
 held-named c gs S R a =
     by-test (ltb (treePlace a c) (length (c .trees)))
     (λ e. rw (standing-at c a (ltb-true _ _ e)) (R .held (treePlace a c) (ltb-true _ _ e)))
@@ -104,7 +104,7 @@ own-for : (r : List ℕ) (via : ℕ) → isFor r (record { root = r; via = via }
 unfolding isFor
 own-for r via = same-refl r
 
-module _ (c : Card) (gs : List Given) (S : Sound c gs) (R : Ruled c) (r : List ℕ) (via : ℕ) (near : eqb (upstream via) noRoute ≡ false → upstream via < 16) (enough : needAll r (upstream via) c ≤ freeLabels c) where
+module _ (c : Card) (gs : List Given) (S : Sound c gs) (R : Ruled c) (r : List ℕ) (via : ℕ) (near : eqb (upstream via) nobody ≡ false → upstream via < 16) (enough : needAll r (upstream via) c ≤ freeLabels c) where
   abbrev pub routed : Card
   routed = withRoutes (routesWith c r via) (moveAll r (upstream via) c .card)
 
@@ -151,12 +151,12 @@ module _ (c : Card) (gs : List Given) (S : Sound c gs) (R : Ruled c) (r : List �
   moved-now : Kept c gs (moveAll r (upstream via) c)
   moved-now = all-kept r (upstream via) near c gs S enough
 
-  asked : (j : ℕ) → j < length (c .trees) → pick (ofRoot r (treeAt j c)) (holder (upstream via) (treeAt j c)) (heldFor c (treeAt j c)) ≡ upstreamOf routed (treeAt j c)
-  unfolding upstreamOf ofRoot
+  asked : (j : ℕ) → j < length (c .trees) → pick (ofRoot r (treeAt j c)) (holder (upstream via) (treeAt j c)) (heldFor c (treeAt j c)) ≡ holderOf routed (treeAt j c)
+  unfolding holderOf ofRoot
   asked j k =
       by-test (same (rootIn (treeAt j c .name)) r)
       (λ e. rw e (ap (λ (q : ℕ). holder (upstream q) (treeAt j c)) (sym (ap (λ (q : List ℕ). routeOf q routed) (same-eq _ r e) ∙ own-route))))
-      (λ e. rw e (R .held j k ∙ unfold upstreamOf in ap (λ (q : ℕ). holder (upstream q) (treeAt j c)) (sym (other-route _ (same-flip _ r e)))))
+      (λ e. rw e (R .held j k ∙ unfold holderOf in ap (λ (q : ℕ). holder (upstream q) (treeAt j c)) (sym (other-route _ (same-flip _ r e)))))
 
   within : (j : ℕ) → j < length (routed .trees) → j < length (c .trees)
   unfolding withRoutes
@@ -174,7 +174,7 @@ module _ (c : Card) (gs : List Given) (S : Sound c gs) (R : Ruled c) (r : List �
   route-ruled full = record {
     roots = unfold withRoutes in new-roots;
     full = λ j h. shape-empty _ _ (at-same j) ∙ R .full j (within j h);
-    held = λ j h. held-same j ∙ all-held r (upstream via) near c gs S enough j (within j h) ∙ asked j (within j h) ∙ upstream-same routed routed (treeAt j c) (treeAt j routed) refl (sym (at-same j));
+    held = λ j h. held-same j ∙ all-held r (upstream via) near c gs S enough j (within j h) ∙ asked j (within j h) ∙ holder-same routed routed (treeAt j c) (treeAt j routed) refl (sym (at-same j));
     trees = unfold withRoutes in rw (moved-now .size) (R .trees);
     routes = unfold withRoutes in few-routes full;
   }

@@ -10,8 +10,8 @@ use lib.Dec.{eqb, ltb}
 use borrow.Author.Tests.{eq-eqb, ne-eqb, ltb-true, ltb-false, le-ltb}
 use Rattle.meaning.specs.Octets.{pick, count, any, _when_else_}
 use Rattle.meaning.specs.Wire.{rootIn, elementRefusal, mapping, withdraw, release, Message, messageIn, messageRefusal, Sent}
-use Rattle.meaning.specs.Card.{withTrees, named, treeAt, useOf, routeOf, Tree, Card, noRoute, withBranch, withLeaf, isFor, treePlace, treeOf, stands, bare, isBranch, isEmpty, notHeld, leadsOn, heldFor, freeLabels}
-use Rattle.meaning.specs.Events.{taken, unless, Moved, still, upstream, holder, tell, relabel, entered, swept, needMove, need, labelsShort, upstreamOf, treesFull, treeRefusal, enter, become, branch, lessBranch, onWithdraw, onMessage, noNeighbour, onOctets, notLeaf, onLeave, receive, leave, outcome}
+use Rattle.meaning.specs.Card.{withTrees, named, treeAt, useOf, routeOf, Tree, Card, nobody, withBranch, withLeaf, isFor, treePlace, treeOf, stands, bare, isBranch, isEmpty, notHeld, leadsOn, heldFor, freeLabels}
+use Rattle.meaning.specs.Events.{taken, unless, Moved, still, upstream, holder, tell, relabel, entered, swept, needMove, need, labelsShort, holderOf, treesFull, treeRefusal, enter, become, branch, lessBranch, onWithdraw, onMessage, noNeighbour, onOctets, notLeaf, onLeave, receive, leave, outcome}
 use Rattle.meaning.specs.Standing.{standing-at, not-standing}
 use Rattle.promise.specs.Promise.{Given, Step, history}
 use Rattle.meaning.specs.Lists.{by-test, picked}
@@ -45,7 +45,7 @@ stands-exactly base steps a = standing (history base steps .card) (history-uphel
         (λ k. rw (k, not-standing c a (ltb-false _ _ k), bare-empty a) refl)
 
 -- A tree holds a label exactly while its root's route is a neighbour and it has a leaf or a branch from another, for that neighbour.
-pub holds-exactly : (base : ℕ) (steps : List Step) (a : List ℕ) → heldFor (history base steps .card) (treeOf a (history base steps .card)) ≡ upstreamOf (history base steps .card) (treeOf a (history base steps .card))
+pub holds-exactly : (base : ℕ) (steps : List Step) (a : List ℕ) → heldFor (history base steps .card) (treeOf a (history base steps .card)) ≡ holderOf (history base steps .card) (treeOf a (history base steps .card))
 holds-exactly base steps a = let u = history-upheld base steps in held-named (history base steps .card) _ (u .sound) (u .ruled) a
 
 -- ---- a tree that goes on standing, or stays away, sends nothing of its own
@@ -62,16 +62,16 @@ same-held : (c : Card) (t s : Tree) → t .label ≡ s .label → heldFor c t �
 unfolding heldFor
 same-held c t s e = rw e refl
 
-same-up : (c : Card) (t : Tree) → ((u : ℕ) → leadsOn u t ≡ leadsOn u (treeOf (t .name) c)) → upstreamOf c (treeOf (t .name) c) ≡ upstreamOf c t
-unfolding upstreamOf holder treeOf
+same-up : (c : Card) (t : Tree) → ((u : ℕ) → leadsOn u t ≡ leadsOn u (treeOf (t .name) c)) → holderOf c (treeOf (t .name) c) ≡ holderOf c t
+unfolding holderOf holder treeOf
 same-up c t e = rw (tree-name (t .name) c) (rw (e _) refl)
 
 -- an event that leaves it as it was whether the tree leads on
 pub nothing-moves : (c : Card) (gs : List Given) → Sound c gs → Ruled c → (t : Tree) → t .label ≡ treeOf (t .name) c .label → ((u : ℕ) → leadsOn u t ≡ leadsOn u (treeOf (t .name) c))
-    → relabel (treePlace (t .name) c) (upstreamOf c t) (entered c t) ≡ still (entered c t)
+    → relabel (treePlace (t .name) c) (holderOf c t) (entered c t) ≡ still (entered c t)
 unfolding relabel
 nothing-moves c gs S R t l e =
-    rw (eq-eqb (heldFor (entered c t) (treeAt (treePlace (t .name) c) (entered c t))) (upstreamOf c t)
+    rw (eq-eqb (heldFor (entered c t) (treeAt (treePlace (t .name) c) (entered c t))) (holderOf c t)
     (ap (heldFor (entered c t)) (entered-at c t) ∙ entered-held c t ∙ same-held c t (treeOf (t .name) c) l ∙ held-named c gs S R (t .name) ∙ same-up c t e)) refl
 
 -- ---- a Withdraw is always answered
@@ -133,13 +133,13 @@ module _ (c : Card) (gs : List Given) (S : Sound c gs) (R : Ruled c) (a : List �
       (λ k. let z : false ≡ true = sym (fewer up k) ∙ e in cc)
 
   -- it needs no label
-  rest-need : need c rest (upstreamOf c rest) ≡ 0
+  rest-need : need c rest (holderOf c rest) ≡ 0
   unfolding need leadsOn any notHeld
   rest-need =
       by-test (leadsOn up rest)
-      (λ e. let same-up : upstreamOf c (treeOf a c) ≡ upstreamOf c rest = unfold upstreamOf holder in rw (named-so, tree-name a c) (rw (e, led-on e) refl) in
-      rw (eq-eqb (heldFor c rest) (upstreamOf c rest) (same-held c rest (treeOf a c) labelled-so ∙ held-named c gs S R a ∙ same-up)) refl)
-      (λ e. let none : upstreamOf c rest ≡ noRoute = unfold upstreamOf holder in rw named-so (rw e refl) in rw none (picked (λ (k : ℕ). k ≡ 0) (eqb (heldFor c rest) noRoute) (λ _. refl) (λ _. unfold needMove in refl)))
+      (λ e. let same-up : holderOf c (treeOf a c) ≡ holderOf c rest = unfold holderOf holder in rw (named-so, tree-name a c) (rw (e, led-on e) refl) in
+      rw (eq-eqb (heldFor c rest) (holderOf c rest) (same-held c rest (treeOf a c) labelled-so ∙ held-named c gs S R a ∙ same-up)) refl)
+      (λ e. let none : holderOf c rest ≡ nobody = unfold holderOf holder in rw named-so (rw e refl) in rw none (picked (λ (k : ℕ). k ≡ 0) (eqb (heldFor c rest) nobody) (λ _. refl) (λ _. unfold needMove in refl)))
 
   -- neither 11 nor 12 applies
   rest-fits : treeRefusal c rest ≡ 0
@@ -174,7 +174,7 @@ enter-taken : (c : Card) (first : List Sent) (t : Tree) → (ms : List Sent) × 
 unfolding enter
 enter-taken c first t =
     let i : ℕ = treePlace (t .name) c in
-    let m : Moved = relabel i (upstreamOf c t) (entered c t) in
+    let m : Moved = relabel i (holderOf c t) (entered c t) in
     (m .sent, swept i (m .card), refl)
 
 -- After any history, a Withdraw that 1 to 9 pass is answered by the Release that it names, whatever stands.

@@ -10,7 +10,7 @@ use borrow.Author.Tests.{eqb-true, eqb-false, le-leb, ltb-false}
 use Rattle.meaning.specs.Octets.{put, cut, all}
 use Rattle.meaning.specs.Wire.{mapping, withdraw, release, Message, messageIn, elementRefusal, Sent, records, nextId, idsAfter}
 use Rattle.meaning.specs.Card.{noRoute, Tree, free, Card, withNext, withRoutes, withTrees, withLabels, treePlace, routeOf, routePlace}
-use Rattle.meaning.specs.Events.{Out, Outcome, refused, taken, unless, refuse, accept, roomShort, finish, Moved, setUse, relabel, upstreamOf, entered, swept, enter, become, onMapping, onWithdraw, onRelease, onMessage, noNeighbour, onOctets, onJoin, onLeave, routesWith, notRoute, notRoot, reRoute, onRoute, Event, receive, join, leave, route, outcome, event}
+use Rattle.meaning.specs.Events.{Out, Outcome, refused, taken, unless, refuse, accept, roomShort, finish, Moved, setUse, relabel, holderOf, entered, swept, enter, become, onMapping, onWithdraw, onRelease, onMessage, noNeighbour, onOctets, onJoin, onLeave, routesWith, notRoute, notRoot, reRoute, onRoute, Event, receive, join, leave, route, outcome, event}
 use Rattle.meaning.specs.Lists.{by-test, picked, no-when}
 use Rattle.meaning.specs.RoundTrip.{Heard, heard, Sendable, AllSendable}
 use Rattle.meaning.specs.RoutesStay.{relabel-routes}
@@ -64,8 +64,8 @@ module _ (c : Card) (good : all isRoute (c .routes) ≡ true) (e : Event) (passe
   unfolding enter Goes
   enter-goes first t =
       let i : ℕ = treePlace (t .name) c in
-      let m : Moved = relabel i (upstreamOf c t) (entered c t) in
-      let same-routes : swept i (m .card) .routes ≡ c .routes = swept-routes (m .card) i ∙ relabel-routes i (upstreamOf c t) (entered c t) ∙ unfold entered withTrees in refl in
+      let m : Moved = relabel i (holderOf c t) (entered c t) in
+      let same-routes : swept i (m .card) .routes ≡ c .routes = swept-routes (m .card) i ∙ relabel-routes i (holderOf c t) (entered c t) ∙ unfold entered withTrees in refl in
       (rw same-routes good, passed)
 
   become-goes : (first : List Sent) (t : Tree) → Goes e (become c first t)

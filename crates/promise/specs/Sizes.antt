@@ -8,7 +8,7 @@ use lib.ListN.{length, length-append}
 use lib.Dec.{eqb}
 use Rattle.meaning.specs.Octets.{two}
 use Rattle.meaning.specs.Wire.{Sent, recordOf, nextId, records, recordLimit}
-use Rattle.meaning.specs.Card.{Card, noRoute, treeLimit, routeLimit, labelCount, treeAt, routeOf, sentLimit}
+use Rattle.meaning.specs.Card.{Card, nobody, treeLimit, routeLimit, labelCount, treeAt, routeOf, sentLimit}
 use Rattle.meaning.specs.Events.{Outcome, refused, taken, unless, refuse, accept, roomShort, finish, Moved, still, followedBy, giveUp, give, letGo, takeUp, moveLabel, upstream, holder, ofRoot, moveOne, moveFrom, moveAll, reRoute, onRoute, Event, route, outcome, event}
 use Rattle.meaning.specs.Lists.{by-test, picked}
 use Rattle.meaning.specs.RoundTrip.{AllSendable, Sendable, message-length, name-fits}
@@ -55,7 +55,7 @@ let-go-one i c = picked (λ (m : Moved). length (m .sent) ≤ 1) (eqb (treeAt i 
 
 take-up-one : (i u : ℕ) (c : Card) → length (takeUp i u c .sent) ≤ 1
 unfolding takeUp still give
-take-up-one i u c = picked (λ (m : Moved). length (m .sent) ≤ 1) (eqb u noRoute) (λ _. omega arith) (λ _. omega arith)
+take-up-one i u c = picked (λ (m : Moved). length (m .sent) ≤ 1) (eqb u nobody) (λ _. omega arith) (λ _. omega arith)
 
 one-two : (r : List ℕ) (u i : ℕ) (c : Card) → length (moveOne r u i c .sent) ≤ 2
 unfolding moveOne moveLabel followedBy still

@@ -13,7 +13,7 @@ use Rattle.meaning.specs.Octets.{any, same, all}
 use Rattle.meaning.specs.Lists.{getD-same}
 use Rattle.meaning.specs.Wire.{rootIn}
 use Rattle.meaning.specs.Card.{Route, Tree, Use, Card, treeAt, bare, isBranch, isEmpty, isFor, named, routeOf, heldFor, labelCount}
-use Rattle.meaning.specs.Events.{notRoot, upstream, upstreamOf, holder}
+use Rattle.meaning.specs.Events.{notRoot, upstream, holderOf, holder}
 use Rattle.meaning.specs.Save.{isName, onceEach, isRoute, sameRoot, isBranchLabel, isTree, sameName, isCarried, allCarried, holdsRight}
 use Rattle.octets.proofs.Tab.{tab-get}
 use Rattle.memory.specs.Memory.{baseIn, routeCount, treeCount, rootName, routeIn, labelIn, cardOf}
@@ -192,7 +192,7 @@ module _ (t : Tree) where
   name-like a l e = rw e refl
 
   pub holds : (c : Card) (u h k : ℕ) (a : List ℕ) → a ≡ t .name → u ≡ upstream (routeOf (rootIn a) c) → h ≡ heldFor c t → k ≡ holder u t → eqb h k ≡ holdsRight c t
-  unfolding holdsRight upstreamOf
+  unfolding holdsRight holderOf
   holds c u h k a ea eu eh ek = rw (eh, ek, eu, ea) refl
 
 -- one test after the other: b is what the code says of the first
