@@ -55,15 +55,15 @@ noteTaken (route r via) gs = gs
 -- ---- branches and leaf of a tree, from the accepted events alone, the latest first
 
 -- labels, without those that are l
-unfoldable pub without : ℕ → List ℕ → List ℕ
-without l [] = []
-without l (k ∷ ks) = let others = without l ks in pick (eqb k l) others (k ∷ others)
+unfoldable pub withoutLabel : ℕ → List ℕ → List ℕ
+withoutLabel l [] = []
+withoutLabel l (k ∷ ks) = let others = withoutLabel l ks in pick (eqb k l) others (k ∷ others)
 
 -- What a neighbour's message makes of the labels of its branches: a Mapping adds its label (the same label is the same branch), a Withdraw ends the one under its label.
 unfoldable pub saidBy : Message → List ℕ → List ℕ
 saidBy m ls =
-    pick (eqb (m .kind) mapping) (m .label ∷ without (m .label) ls)
-    (pick (eqb (m .kind) withdraw) (without (m .label) ls) ls)
+    pick (eqb (m .kind) mapping) (m .label ∷ withoutLabel (m .label) ls)
+    (pick (eqb (m .kind) withdraw) (withoutLabel (m .label) ls) ls)
 
 -- THE BRANCHES of the tree a to neighbour n: the labels of n's accepted Mappings for a that no accepted Withdraw under that label has since ended
 unfoldable pub branchesSaid : List ℕ → ℕ → List Event → List ℕ
@@ -198,14 +198,14 @@ pub record Promise (p : Past) : Type 0 where
   pub one : (l : ℕ) → count (ofLabel l) (p .live) ≤ 1
   -- No live label is given out again.
   pub anew : (s : Step) → NoneLive (sends (p .card) s) (liveAt p s)
-  -- A tree has at most one branch to a neighbour.
-  pub single : (a : List ℕ) (n : ℕ) → length (branchesSaid a n (p .accepted)) ≤ 1
   -- While mapped it leads exactly to the leaf, if joined, and the branches, those held left out, whose accepted Mapping no accepted Withdraw has since ended under its label; once withdrawn, to nobody.
   pub leads : Each (Leads p) (p .live)
   -- (any other number leads to nobody)
   pub others : (l : ℕ) → count (ofLabel l) (p .live) ≡ 0 → lookupLabel l (p .card) ≡ nothing
   -- (by name a tree leads there whether or not it holds a label; octets that name none lead to nobody)
   pub byName : (a : List ℕ) → lookupName a (p .card) ≡ feedBy a (p .accepted)
+  -- A tree has at most one branch to a neighbour.
+  pub single : (a : List ℕ) (n : ℕ) → length (branchesSaid a n (p .accepted)) ≤ 1
   -- Live and free labels make 256.
   pub sum : length (p .live) + freeLabels (p .card) ≡ 256
   -- A neighbour's message naming one tree touches no other tree's entry.

@@ -10,7 +10,7 @@ use Rattle.meaning.specs.Card.{sentLimit}
 use Rattle.meaning.specs.Events.{Event, route}
 use Rattle.meaning.specs.Computing.{computing}
 use Rattle.meaning.specs.Examples.{A, heard, flat, feed}
-use Rattle.promise.specs.Promise.{Given, isAbout, mark, remove, noteSent, noteAll, noteTaken, without, saidBy, branchesSaid, leafBy, branchesTo, branchesBy, routeBy, feedBy, Step, answerTo, sends, isTaken, liveAt, acceptedAt, thenStep, thenSteps, history}
+use Rattle.promise.specs.Promise.{Given, isAbout, mark, remove, noteSent, noteAll, noteTaken, withoutLabel, saidBy, branchesSaid, leafBy, branchesTo, branchesBy, routeBy, feedBy, Step, answerTo, sends, isTaken, liveAt, acceptedAt, thenStep, thenSteps, history}
 
 abbrev pub withRoom : Event → Step
 withRoom e = record { room = sentLimit; does = e }
@@ -37,5 +37,5 @@ ledger (g ∷ gs) = g .to ∷ g .label ∷ pick (g .withdrawn) 1 0 ∷ ledger gs
 
 -- 16 is live at 3, 17 at 0 and withdrawn; A leads to neighbour 1 under 300
 pub seven-shown : T (same (ledger (history 16 seven .live)) (3 ∷ 16 ∷ 0 ∷ 0 ∷ 17 ∷ 1 ∷ []) && same (feed (feedBy A (history 16 seven .accepted))) (1 ∷ 300 ∷ []))
-unfolding computing ledger seven A heard flat feed thenSteps thenStep history answerTo sends isTaken liveAt acceptedAt noteAll noteSent noteTaken mark remove isAbout without saidBy branchesSaid leafBy branchesTo branchesBy routeBy feedBy
+unfolding computing ledger seven A heard flat feed thenSteps thenStep history answerTo sends isTaken liveAt acceptedAt noteAll noteSent noteTaken mark remove isAbout withoutLabel saidBy branchesSaid leafBy branchesTo branchesBy routeBy feedBy
 seven-shown = tt

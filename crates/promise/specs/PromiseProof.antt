@@ -14,7 +14,7 @@ use Rattle.meaning.specs.Octets.{pick, place, count, same}
 use Rattle.meaning.specs.Wire.{rootIn, mapping, withdraw, Message, messageIn, Sent, records, recordsF, recordsIn, elementRefusal}
 use Rattle.meaning.specs.Card.{Tree, Use, free, mapped, awaiting, Card, fresh, withNext, withBranch, withLeaf, withLabel, bare, treePlace, treeOf, treeAt, isFree, isAwaiting, mappedTo, notHeld, leadsOn, useOf, freeLabels, heldFor, routeOf, routePlace, branchesFrom, feedOf, carries, carrier, feedOfUse, lookupLabel, isBranch, nothing, lookupName}
 use Rattle.meaning.specs.Events.{Out, Outcome, refused, taken, refuse, accept, roomShort, finish, upstream, holder, holderOf, branch, lessBranch, Event, receive, join, leave, route, outcome, event, baseOutside, start, otherLabel}
-use Rattle.promise.specs.Promise.{Given, ofLabel, isAbout, isWithdrawn, Demand3, noteAll, noteTaken, leafBy, branchesBy, routeBy, feedBy, Step, Past, answerTo, sends, thenStep, thenSteps, history, Each, NoneLive, Leads, Promise, without, saidBy, branchesSaid, branchesTo, isTaken, liveAt, acceptedAt, Untouched, begun}
+use Rattle.promise.specs.Promise.{Given, ofLabel, isAbout, isWithdrawn, Demand3, noteAll, noteTaken, leafBy, branchesBy, routeBy, feedBy, Step, Past, answerTo, sends, thenStep, thenSteps, history, Each, NoneLive, Leads, Promise, without, saidBy, branchesSaid, branchesTo, isTaken, liveAt, acceptedAt, Untouched, begun, withoutLabel}
 use Rattle.meaning.specs.Lists.{getD-same, by-test, picked, place-finds, place-count, same-eq, same-refl, getD-out, getD-all, count-some, set-replicate}
 use Rattle.meaning.specs.RoundTrip.{both, AllSendable, records-back}
 use Rattle.meaning.specs.Refusals.{refusal-keeps}
@@ -73,13 +73,13 @@ message-rest n m t =
     (λ _. (refl, refl)))
 
 -- a label ends: the one that stands, or none
-without-same : (l : ℕ) → without l (listed l) ≡ []
-unfolding without listed
-without-same l = picked (λ (x : List ℕ). without l x ≡ []) (isBranch l) (λ _. unfold without in rw (eq-eqb l l refl) refl) (λ _. unfold without in refl)
+without-same : (l : ℕ) → withoutLabel l (listed l) ≡ []
+unfolding withoutLabel listed
+without-same l = picked (λ (x : List ℕ). withoutLabel l x ≡ []) (isBranch l) (λ _. unfold withoutLabel in rw (eq-eqb l l refl) refl) (λ _. unfold withoutLabel in refl)
 
-without-other : (l b : ℕ) → eqb b l ≡ false → without l (listed b) ≡ listed b
-unfolding without listed
-without-other l b e = picked (λ (x : List ℕ). without l x ≡ x) (isBranch b) (λ _. unfold without in rw e refl) (λ _. unfold without in refl)
+without-other : (l b : ℕ) → eqb b l ≡ false → withoutLabel l (listed b) ≡ listed b
+unfolding withoutLabel listed
+without-other l b e = picked (λ (x : List ℕ). withoutLabel l x ≡ x) (isBranch b) (λ _. unfold withoutLabel in rw e refl) (λ _. unfold withoutLabel in refl)
 
 -- where no other label stands, what a message says is what it makes of the place
 new-said : (m : Message) (b : ℕ) → 16 ≤ m .label → (m .kind ≡ mapping → (eqb b 0 || eqb b (m .label)) ≡ true) → saidBy m (listed b) ≡ listed (newBranch m b)
@@ -87,11 +87,11 @@ unfolding saidBy newBranch
 new-said m b low none =
     by-test (eqb (m .kind) mapping)
     (λ e. rw e (rw (listed-some (m .label) low) (ap (λ (x : List ℕ). m .label ∷ x) (by-test (eqb b 0)
-    (λ z. ap (λ (x : ℕ). without (m .label) (listed x)) (eqb-true b 0 z) ∙ unfold listed isBranch without in refl)
-    (λ z. ap (λ (x : ℕ). without (m .label) (listed x)) (eqb-true b (m .label) (rw z at (none (eqb-true _ _ e)))) ∙ without-same (m .label))))))
+    (λ z. ap (λ (x : ℕ). withoutLabel (m .label) (listed x)) (eqb-true b 0 z) ∙ unfold listed isBranch withoutLabel in refl)
+    (λ z. ap (λ (x : ℕ). withoutLabel (m .label) (listed x)) (eqb-true b (m .label) (rw z at (none (eqb-true _ _ e)))) ∙ without-same (m .label))))))
     (λ e. by-test (eqb (m .kind) withdraw)
     (λ k. by-test (eqb b (m .label))
-    (λ q. rw (e, k, q) (ap (λ (x : ℕ). without (m .label) (listed x)) (eqb-true b (m .label) q) ∙ without-same (m .label) ∙ unfold listed isBranch in refl))
+    (λ q. rw (e, k, q) (ap (λ (x : ℕ). withoutLabel (m .label) (listed x)) (eqb-true b (m .label) q) ∙ without-same (m .label) ∙ unfold listed isBranch in refl))
     (λ q. rw (e, k, q) (without-other (m .label) b q)))
     (λ k. rw (e, k) refl))
 

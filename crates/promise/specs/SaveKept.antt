@@ -18,7 +18,7 @@ use Rattle.meaning.specs.Save.{isName, isBranchLabel, isTree, isUse, isCarried,
 use Rattle.meaning.specs.SaveFields.{all-cons}
 use Rattle.meaning.specs.SaveRules.{all-of, Rules, rules-kept}
 use Rattle.meaning.specs.SaveLaws.{restored}
-use Rattle.promise.specs.Promise.{Given, ofLabel, without, saidBy, branchesSaid, Step, Past, thenSteps, begun, history, Each, Promise}
+use Rattle.promise.specs.Promise.{Given, ofLabel, withoutLabel, saidBy, branchesSaid, Step, Past, thenSteps, begun, history, Each, Promise}
 use Rattle.promise.specs.LiveLaws.{isMapped, only, givens, Books}
 use Rattle.promise.specs.CardLaws.{Proper, at-proper, at-named}
 use Rattle.promise.specs.PromiseProof.{listed, Upheld, steps-upheld, started, history-upheld, kept}
@@ -30,8 +30,8 @@ label-good : (l : ℕ) → 16 ≤ l → l ≤ 1048575 → isBranchLabel l ≡ tr
 unfolding isBranchLabel
 label-good l low high = by-test (eqb l 0) (λ e. rw e refl) (λ e. rw (e, le-leb 16 l low, le-leb l 1048575 high) refl)
 
-all-without : (t : ℕ → Bool) (l : ℕ) (ls : List ℕ) → all t ls ≡ true → all t (without l ls) ≡ true
-unfolding all without
+all-without : (t : ℕ → Bool) (l : ℕ) (ls : List ℕ) → all t ls ≡ true → all t (withoutLabel l ls) ≡ true
+unfolding all withoutLabel
 all-without t l [] h = refl
 all-without t l (k ∷ ks) h =
     let r = all-cons t k ks h in
@@ -43,7 +43,7 @@ said-good a n [] h = refl
 said-good a n (receive from s ∷ es) h =
     let before = said-good a n es (h .1) in
     let good : List ℕ → Type 0 = λ ls. all isBranchLabel ls ≡ true in
-    let ended : good (without (messageIn s .label) (branchesSaid a n es)) = all-without isBranchLabel (messageIn s .label) (branchesSaid a n es) before in
+    let ended : good (withoutLabel (messageIn s .label) (branchesSaid a n es)) = all-without isBranchLabel (messageIn s .label) (branchesSaid a n es) before in
     picked good (eqb from n && same (messageIn s .name) a)
     (λ _. picked good (eqb (messageIn s .kind) mapping)
     (λ _. rw (label-good (messageIn s .label) (h .0 .low) (h .0 .high)) ended)

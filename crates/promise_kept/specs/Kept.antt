@@ -76,14 +76,14 @@ pub record KeptByCode (ks : List Done) (ns os : List ℕ) : Type 0 where
   pub one : (l : ℕ) → count (ofLabel l) (liveBy ks) ≤ 1
   -- No live label is given out again.
   pub anew : {k : Call} {ns′ os′ : List ℕ} → Called ns os k ns′ os′ → NoneLive (recordsIn (k .part)) (liveFor k (liveBy ks))
-  -- A tree has at most one branch to a neighbour.
-  pub single : (a : List ℕ) (n : ℕ) → length (branchesSaid a n (acceptedBy ks)) ≤ 1
   -- What a lookup of a live label gives back: while mapped exactly the leaf, if joined, and the branches, those held left out, whose accepted Mapping no accepted Withdraw has since ended under its label; once withdrawn, nobody.
   pub leads : Each (λ g. (branches : List ℕ) (leaf : Bool) → LookedUp ns (g .label) branches leaf → feedIn branches leaf ≡ pick (g .withdrawn) nothing (feedBy (g .tree) (acceptedBy ks))) (liveBy ks)
   -- (of any other number, nobody)
   pub others : (l : ℕ) → count (ofLabel l) (liveBy ks) ≡ 0 → (branches : List ℕ) (leaf : Bool) → LookedUp ns l branches leaf → feedIn branches leaf ≡ nothing
   -- (by name, the same)
   pub byName : (a branches : List ℕ) (leaf : Bool) → NameLookedUp ns os a branches leaf → feedIn branches leaf ≡ feedBy a (acceptedBy ks)
+  -- A tree has at most one branch to a neighbour.
+  pub single : (a : List ℕ) (n : ℕ) → length (branchesSaid a n (acceptedBy ks)) ≤ 1
   -- Live labels and the number of free ones that is given back make 256.
   pub sum : (n : ℕ) → Counted ns n → length (liveBy ks) + n ≡ 256
   -- A neighbour's message naming one tree touches no other tree's entry.
