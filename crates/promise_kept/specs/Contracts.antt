@@ -1,6 +1,9 @@
 -- The calls of the code by their contracts, and nothing more: each constructor takes what a caller learns of one call (`Learnt`), and says of it what went in and what came back.
--- a are the call's arguments, r is its result, and s are its parameters as they are right after it, in the order of the source.
--- `made`, `told`, `kept`, .. are the statements in the words of `meaning`. Assumes nothing.
+-- a are the call's arguments, r is its result, and s are its parameters as they are right after it, in the order of the source (`.0`, `.1 .0`, `.1 .1 .0`, ..):
+-- start: numbers, base. receive: numbers, names, neighbour, message, out, answer. join, leave: numbers, names, element, out, answer. route: numbers, names, root, via, out, answer.
+-- notice: numbers, neighbour, number, octets, out, answer. save: numbers, names, out, answer. restore: numbers, names, octets.
+-- lookup by label: numbers, label, and in a core or for C the branches; by name: numbers, names, element, and the branches likewise. The cores and the calls for C have the order of the call.
+-- The law behind each type (`made`, `told`, ..) is its statement in the words of `meaning`. Assumes nothing.
 use Prim.Native.Nat.{ℕ}
 use mathlib.Core.Path.{_≡_}
 use mathlib.Core.Bool.{Bool}
