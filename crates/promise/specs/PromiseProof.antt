@@ -14,14 +14,15 @@ use Rattle.meaning.specs.Octets.{pick, place, count, same}
 use Rattle.meaning.specs.Wire.{rootIn, mapping, withdraw, Message, messageIn, Sent, records, recordsF, recordsIn, elementRefusal}
 use Rattle.meaning.specs.Card.{Tree, Use, free, mapped, awaiting, Card, fresh, withNext, withBranch, withLeaf, withLabel, bare, treePlace, treeOf, treeAt, isFree, isAwaiting, mappedTo, notHeld, leadsOn, useOf, freeLabels, heldFor, routeOf, routePlace, branchesFrom, feedOf, carries, carrier, feedOfUse, lookupLabel, isBranch, nothing, lookupName}
 use Rattle.meaning.specs.Events.{Out, Outcome, refused, taken, refuse, accept, roomShort, finish, upstream, holder, holderOf, branch, lessBranch, Event, receive, join, leave, route, outcome, event, baseOutside, start, otherLabel}
-use Rattle.promise.specs.Promise.{Given, ofLabel, isAbout, isWithdrawn, Demand3, noteAll, noteTaken, leafBy, branchesBy, routeBy, feedBy, Step, Past, answerTo, sends, thenStep, thenSteps, history, Each, NoneLive, Leads, Promise, without, saidBy, branchesSaid, branchesTo, isTaken, liveAt, acceptedAt, Untouched, begun, withoutLabel}
+use Rattle.promise.specs.Promise.{Given, ofLabel, isAbout, isWithdrawn, Demand3, noteAll, noteTaken, leafBy, branchesBy, routeBy, feedBy, Step, Past, answerTo, sends, thenStep, thenSteps, history, Each, NoneLive, Leads, Promise, saidBy, branchesSaid, branchesTo, isTaken, liveAt, acceptedAt, Untouched, begun, withoutLabel}
 use Rattle.meaning.specs.Lists.{getD-same, by-test, picked, place-finds, place-count, same-eq, same-refl, getD-out, getD-all, count-some, set-replicate}
 use Rattle.meaning.specs.RoundTrip.{both, AllSendable, records-back}
 use Rattle.meaning.specs.Refusals.{refusal-keeps}
+use Rattle.meaning.specs.Standing.{standing-at, not-standing}
 use Rattle.promise.specs.LiveLaws.{isMapped, mapped-near, stray, Linked, mapped-one, mapped-not-free, Books, only, givens, count-only, books-one, books-none, each-only}
 use Rattle.promise.specs.CardLaws.{shape, tree-name, tree-sized, Proper, Tidy, AllProper, at-proper, at-named, untouched-same}
 use Rattle.promise.specs.LabelLaws.{Sound}
-use Rattle.promise.specs.RuleLaws.{Ruled, held-named, standing-at, not-standing}
+use Rattle.promise.specs.RuleLaws.{Ruled, held-named}
 use Rattle.promise.specs.RouteLaws.{routeNow, Routed, event-routed}
 use Rattle.promise.specs.EventLaws.{Awaited, heard-awaited, awaiting-eq, byMessage, became, Apart, Keeps, event-keeps, Admits, Meets, event-meets}
 
