@@ -1,1 +1,1 @@
-mod Withdraw
+mod Withdrawn

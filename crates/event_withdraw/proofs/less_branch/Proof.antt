@@ -1,4 +1,4 @@
-use Rattle.event_withdraw.proofs.Withdraw.{less-gone, less-kept}
+use Rattle.event_withdraw.proofs.Withdrawn.{less-gone, less-kept}
 use borrow.Author.Needs.{needs}
 use Rattle.event_withdraw.proofs.less_branch.Statement.{statement}
 use Rattle.event_withdraw.proofs.less_branch.Tie as tie

@@ -1,5 +1,5 @@
 use Rattle.memory.proofs.Trees.{branches-length}
-use Rattle.event_withdraw.proofs.Withdraw.{leaf-left, none-left}
+use Rattle.event_withdraw.proofs.Withdrawn.{leaf-left, none-left}
 use mathlib.Core.Path.{sym, _∙_}
 use borrow.Author.Needs.{needs}
 use Rattle.event_withdraw.proofs.less_empty.Statement.{statement}

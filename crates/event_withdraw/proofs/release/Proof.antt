@@ -1,5 +1,5 @@
 use mathlib.Core.Path.{sym, _∙_}
-use Rattle.event_withdraw.proofs.Withdraw.{release-taken, release-none}
+use Rattle.event_withdraw.proofs.Withdrawn.{release-taken, release-none}
 use borrow.Author.Needs.{needs}
 use Rattle.event_withdraw.proofs.release.Statement.{statement}
 use Rattle.event_withdraw.proofs.release.Tie as tie

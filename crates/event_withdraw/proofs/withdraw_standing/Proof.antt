@@ -1,5 +1,5 @@
 use Rattle.event_tree.proofs.Standing.{branch-stands, standing-refused, standing-taken, first-fits, settle-ready}
-use Rattle.event_withdraw.proofs.Withdraw.{withdraw-standing, release-size, sent-length, withdraw-ends}
+use Rattle.event_withdraw.proofs.Withdrawn.{withdraw-standing, release-size, sent-length, withdraw-ends}
 use mathlib.Core.Path.{sym, ap, _∙_}
 use mathlib.Core.List.{List, [], _∷_}
 use native.Mathlib.Omega.{arith}

@@ -3,7 +3,7 @@ use native.Mathlib.Omega.{arith}
 use Rattle.memory.specs.Memory.{cardOf}
 use Rattle.memory.proofs.Memory.{trees-length}
 use Rattle.event_tree.proofs.Found.{zero-free}
-use Rattle.event_withdraw.proofs.Withdraw.{unknown-room, unknown-done}
+use Rattle.event_withdraw.proofs.Withdrawn.{unknown-room, unknown-done}
 use borrow.Author.Needs.{needs}
 use Rattle.event_withdraw.proofs.withdraw_unknown.Statement.{statement}
 use Rattle.event_withdraw.proofs.withdraw_unknown.Tie as tie

@@ -9,7 +9,7 @@ use lib.ListN.{getD, length, set, length-set}
 use lib.Seq.{set-out}
 use lib.Dec.{eqb}
 use borrow.Author.Tests.{eq-eqb, ne-eqb}
-use Rattle.meaning.specs.Octets.{pick, any}
+use Rattle.meaning.specs.Octets.{pick, any, _when_else_}
 use Rattle.meaning.specs.Lists.{by-test}
 use Rattle.meaning.specs.Wire.{Sent, recordOf, nextId, records, idsAfter, release, recordSize}
 use Rattle.meaning.specs.Card.{Tree, Card, free, withNext, withTrees, withLabels, withBranch, bare, treePlace, treeAt, isBranch, isEmpty, isAwaiting, useOf}
