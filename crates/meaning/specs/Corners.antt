@@ -1,13 +1,13 @@
 -- The corners of document 01's rules, as docs/DECISIONS.md reads them: tables as that of `Examples`, one for each card to begin with.
 -- Assumes nothing.
-use Prim.Native.Nat.{ℕ, zero, suc, _+_}
+use Prim.Native.Nat.{ℕ, zero, suc, _+_, _-_}
 use mathlib.Core.Bool.{Bool, true, _&&_}
 use mathlib.Core.List.{List, [], _∷_, _++_}
 use lib.ListN.{length, replicate}
 use lib.Dec.{T, eqb}
 use Rattle.meaning.specs.Octets.{same, two, four}
 use Rattle.meaning.specs.Wire.{rootIn, element, tlv, mapping, withdraw, release, recordOf}
-use Rattle.meaning.specs.Card.{Route, Tree, Use, free, mapped, awaiting, Card, withNext, withTrees, withLabels, freeLabels, lookupName}
+use Rattle.meaning.specs.Card.{treeLimit, labelCount, Route, Tree, Use, free, mapped, awaiting, Card, withNext, withTrees, withLabels, freeLabels, lookupName}
 use Rattle.meaning.specs.Events.{tell, Event, receive, join, leave, route, event, start}
 use Rattle.meaning.specs.Computing.{computing}
 use Rattle.meaning.specs.Examples.{Row, anew, then, enough, flat, feed, agrees, wrong, NoneWrong, A, wide, firstCard, heard, wrote}
@@ -236,22 +236,22 @@ scarce n (awaiting k a ∷ us) = awaiting k a ∷ scarce n us
 unfoldable pub left : ℕ → Card → Card
 left n c = withLabels (scarce n (c .labels)) c
 
--- 64 trees of A's root, each with a leaf and a label mapped to neighbour 0; the other labels await release
+-- as many trees as may stand, of A's root, each with a leaf and a label mapped to neighbour 0; the other labels await release
 unfoldable pub crowd : ℕ → ℕ → List Tree
 crowd zero k = []
 crowd (suc n) k = record { name = kin k; branches = replicate 16 0; leaf = true; label = 16 + k } ∷ crowd n (suc k)
 
 unfoldable pub usedBy : List Tree → List Use
-usedBy [] = replicate 192 (awaiting 9 [])
+usedBy [] = replicate (labelCount - treeLimit) (awaiting 9 [])
 usedBy (t ∷ ts) = mapped 0 (t .name) ∷ usedBy ts
 
 unfoldable pub fullCard : Card
-fullCard = let ts = crowd 64 0 in withTrees ts (withLabels (usedBy ts) firstCard)
+fullCard = let ts = crowd treeLimit 0 in withTrees ts (withLabels (usedBy ts) firstCard)
 
 unfoldable pub fullRows : List Row
 fullRows =
     -- 11, not 12: a new tree; and even where it needs no label
-    anew (join (kin 64)) 11 [] 0 16 (1 ∷ []) ∷
+    anew (join (kin treeLimit)) 11 [] 0 16 (1 ∷ []) ∷
     anew (join other) 11 [] 0 16 (1 ∷ []) ∷
     -- a further branch to a standing tree is taken; a Withdraw of an unknown tree is answered (reading 5)
     anew (heard 5 mapping (kin 0) 100) 0 [] 0 16 (5 ∷ 100 ∷ 1 ∷ []) ∷
