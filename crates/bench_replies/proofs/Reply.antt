@@ -13,7 +13,7 @@ use Rattle.meaning.specs.Wire.{records}
 use Rattle.meaning.specs.Card.{Card, Feed, sentLimit}
 use Rattle.meaning.specs.Events.{Out, Outcome, refused, taken, refuse, accept, roomShort, noNeighbour, finish, Event, outcome, event}
 use Rattle.meaning.specs.Notice.{noticeDue, noticeRecord, notice}
-use Rattle.meaning.specs.Save.{saved, save, saveLimit}
+use Rattle.meaning.specs.Save.{saved, save, fitsSave, saveLimit}
 use Rattle.meaning.specs.Calls.{Hands}
 use Rattle.bench_words.specs.Words.{Puts}
 use Rattle.bench_orders.specs.Tells.{meant, Lies, SaveLies, InLine}
@@ -50,9 +50,11 @@ notice-fits room c n number s =
 pub save-fits : (room : ℕ) (c : Card) → length (save room c .octets) ≤ room
 unfolding save refuse roomShort
 save-fits room c =
-    by-test (roomShort room (saved c))
-    (λ e. rw e (omega arith))
-    (λ e. rw e (ltb-false room (length (saved c)) e))
+    by-test (fitsSave c)
+    (λ s. by-test (roomShort room (saved c))
+    (λ e. rw (s, e) (omega arith))
+    (λ e. rw (s, e) (ltb-false room (length (saved c)) e)))
+    (λ s. rw s (omega arith))
 
 -- of a part that a call handed back
 pub part-fits : {o : Out} {a : ℕ} {part : List ℕ} {card : Card} (room most : ℕ) → Hands o a part card → length (o .octets) ≤ room → room ≤ most → length part ≤ most

@@ -55,13 +55,13 @@ fn kind_of(turn: u64) -> u64 {
 
 // Neighbours from 1 to 65535, labels from 16 to 1048575, and identifiers on both sides of 4294967295.
 fn nth(turn: u64) -> Sent
-    requires { ⌜ turn < 32 ⌝ }
+    requires { ⌜ turn < opaqueLimit ⌝ }
 {
     Sent {
-        to: 1 + turn * 65534 / 31,
+        to: 1 + turn * 65534 / 127,
         kind: kind_of(turn),
         id: std::num::wrapping_add_u32(4294967280, turn as u32),
-        label: 16 + turn * 1048559 / 31,
+        label: 16 + turn * 1048559 / 127,
     }
 }
 
@@ -157,7 +157,7 @@ fn is_kept_at(family: u8, root: u8, opaque: u8) -> bool
     is_kept(nth(opaque as u64 - 1), &name[0..n])
 }
 
-// Of the opaque lengths 1 to 32, how many are read back.
+// Of the opaque lengths 1 to 128, how many are read back.
 fn count(family: u8, root: u8) -> u64
     requires { ⌜ root ≤ rootLimit ⌝ }
     ensures { λ r. ⌜ r ≤ opaqueLimit ⌝ }
@@ -179,7 +179,7 @@ fn report(family: u8, root: u8)
     io::print_decimal(STDOUT_FILENO, root as u64);
     io::write_all(STDOUT_FILENO, b"-octet root: ");
     io::print_decimal(STDOUT_FILENO, count(family, root));
-    io::write_all(STDOUT_FILENO, b" of 32 read back\n");
+    io::write_all(STDOUT_FILENO, b" of 128 read back\n");
 }
 
 fn main() {

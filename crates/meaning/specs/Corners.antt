@@ -88,9 +88,9 @@ readings =
     refuses (said (fec (odd 6 1 16 7 (replicate 7 7)) (label 100 []))) 6 ∷
     refuses (said (fec (A ++ A) (label 100 []))) 6 ∷
     refuses (said (fec (A ++ (0 ∷ [])) (label 100 []))) 6 ∷
-    -- 6 and 7 (reading 3): an opaque length of 33 that fills is 7, one that does not is 6; 0 likewise
-    refuses (said (fec (odd 6 1 4 33 (replicate 33 7)) (label 100 []))) 7 ∷
-    refuses (said (fec (odd 6 1 4 33 (replicate 7 7)) (label 100 []))) 6 ∷
+    -- 6 and 7 (reading 3): an opaque length of 129 that fills is 7, one that does not is 6; 0 likewise
+    refuses (said (fec (odd 6 1 4 129 (replicate 129 7)) (label 100 []))) 7 ∷
+    refuses (said (fec (odd 6 1 4 129 (replicate 7 7)) (label 100 []))) 6 ∷
     refuses (said (fec (odd 6 1 4 0 []) (label 100 []))) 7 ∷
     refuses (said (fec (odd 6 1 4 0 (replicate 7 7)) (label 100 []))) 6 ∷
     -- 7 before 8
@@ -145,7 +145,7 @@ readings =
     -- leaf orders begin at 6
     refuses (join (1 ∷ [])) 6 ∷
     refuses (join (wide 0)) 7 ∷
-    refuses (leave (wide 33)) 7 ∷
+    refuses (leave (wide 129)) 7 ∷
     -- a route order: 1 before 6; 6; no route for an unknown root is the route that it has (reading 6)
     refuses (route (1 ∷ []) 18) 1 ∷
     refuses (route (1 ∷ []) 17) 6 ∷

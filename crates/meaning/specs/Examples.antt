@@ -122,8 +122,8 @@ cases =
     anew (receive 1 (4 ∷ 0 ∷ 0 ∷ 3 ∷ 0 ∷ 0 ∷ 0 ∷ [])) 2 [] 256 16 [] ∷
     anew (receive 1 (4 ∷ 0 ∷ 0 ∷ 4 ∷ 0 ∷ 0 ∷ 0 ∷ 1 ∷ [])) 5 [] 256 16 [] ∷
     -- 10
-    anew (heard 1 mapping (wide 32) 100) 0 (recordOf 1 (tell 0 mapping (wide 32) 16)) 255 16 (1 ∷ 100 ∷ []) ∷
-    anew (heard 1 mapping (wide 33) 100) 7 [] 256 16 [] ∷
+    anew (heard 1 mapping (wide 128) 100) 0 (recordOf 1 (tell 0 mapping (wide 128) 16)) 255 16 (1 ∷ 100 ∷ []) ∷
+    anew (heard 1 mapping (wide 129) 100) 7 [] 256 16 [] ∷
     anew (receive 1 notFilled) 6 [] 256 16 [] ∷
     []
 

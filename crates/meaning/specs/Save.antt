@@ -101,9 +101,25 @@ usesSaved l (u ∷ us) = useSaved l u ++ usesSaved (suc l) us
 unfoldable pub saved : Card → List ℕ
 saved c = headSaved c ++ (routesSaved (c .routes) ++ (treesSaved (c .trees) ++ usesSaved (c .base) (c .labels)))
 
--- The call, with the room that the output has: 16, with nothing written, or the save. The table stays as it is.
+-- a name whose opaque value has its space in a save
+unfoldable pub isShort : List ℕ → Bool
+isShort a = leb (length (opaqueIn a)) savedOpaque
+
+unfoldable pub isShortTree : Tree → Bool
+isShortTree t = isShort (t .name)
+
+unfoldable pub isShortUse : Use → Bool
+isShortUse free = true
+isShortUse (mapped n a) = isShort a
+isShortUse (awaiting n a) = isShort a
+
+-- what 19 asks of a table that is to be saved
+unfoldable pub fitsSave : Card → Bool
+fitsSave c = all isShortTree (c .trees) && all isShortUse (c .labels)
+
+-- The call, with the room that the output has: 19 or 16, with nothing written, or the save. The table stays as it is.
 unfoldable pub save : ℕ → Card → Out
-save room c = pick (roomShort room (saved c)) (refuse 16 c) (record { answer = 0; octets = saved c; card = c })
+save room c = pick (fitsSave c) (pick (roomShort room (saved c)) (refuse 16 c) (record { answer = 0; octets = saved c; card = c })) (refuse 19 c)
 
 -- ---- reading
 

@@ -11,7 +11,7 @@ use Rattle.meaning.specs.Card.{Card, fresh}
 use Rattle.meaning.specs.Events.{Out, Event, join, route, event, start}
 use Rattle.meaning.specs.Computing.{computing}
 use Rattle.meaning.specs.Examples.{enough, A, heard}
-use Rattle.meaning.specs.Save.{padded, spaced, nameSaved, marked, headSaved, routeSaved, foursOf, treeSaved, useSaved, routesSaved, treesSaved, usesSaved, saved, save, spacedIn, nameIn, routeRead, foursIn, treeRead, useRead, routesRead, treesRead, usesRead, isMappedFor, labelled, allLabelled, tableIn, isName, onceEach, isRoute, sameRoot, isBranchLabel, isTree, sameName, isUse, isCarried, allCarried, carriesOwn, holdsRight, keepsRules, isSave, restore}
+use Rattle.meaning.specs.Save.{padded, spaced, nameSaved, marked, headSaved, routeSaved, foursOf, treeSaved, useSaved, routesSaved, treesSaved, usesSaved, saved, save, spacedIn, nameIn, routeRead, foursIn, treeRead, useRead, routesRead, treesRead, usesRead, isMappedFor, labelled, allLabelled, tableIn, isName, onceEach, isRoute, sameRoot, isBranchLabel, isTree, sameName, isUse, isCarried, allCarried, carriesOwn, holdsRight, keepsRules, isSave, restore, fitsSave, isShortTree, isShort, isShortUse}
 
 -- as `computing`, for the definitions of saves
 unfoldable pub computingSaves : ℕ
@@ -155,5 +155,5 @@ savesRight =
     && agrees (save 14 (fresh 16)) 16 [] (saved (fresh 16)) && agrees (save 15 (fresh 16)) 0 (saved (fresh 16)) (saved (fresh 16))
 
 pub room-shown : savesRight ≡ true
-unfolding computingSaves computing agrees savesRight B after swapped headOf routeA treeA treeB label16 label17 example A heard
+unfolding computingSaves fitsSave isShortTree isShort isShortUse computing agrees savesRight B after swapped headOf routeA treeA treeB label16 label17 example A heard
 room-shown = refl

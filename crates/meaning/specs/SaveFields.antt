@@ -70,12 +70,11 @@ module _ (a : List ℕ) (ok : elementRefusal a ≡ 0) where
   pub root-fits : length (rootIn a) ≤ rootLimit
   root-fits = rw root-long (whole a ok .family .1)
 
-  pub name-back : (rest : List ℕ) → nameIn (nameSaved a ++ rest) ≡ a
+  pub name-back : length (opaqueIn a) ≤ savedOpaque → (rest : List ℕ) → nameIn (nameSaved a ++ rest) ≡ a
   unfolding nameIn nameSaved
-  name-back rest =
-      let w : Whole a = whole a ok in
+  name-back short rest =
       rw append-assoc
-      (rw (spaced-back rootLimit (rootIn a) root-fits (spaced savedOpaque (opaqueIn a) ++ rest), drop-at (spaced rootLimit (rootIn a)) (spaced savedOpaque (opaqueIn a) ++ rest) (1 + rootLimit) (spaced-length rootLimit (rootIn a)), spaced-back savedOpaque (opaqueIn a) (w .fits) rest)
+      (rw (spaced-back rootLimit (rootIn a) root-fits (spaced savedOpaque (opaqueIn a) ++ rest), drop-at (spaced rootLimit (rootIn a)) (spaced savedOpaque (opaqueIn a) ++ rest) (1 + rootLimit) (spaced-length rootLimit (rootIn a)), spaced-back savedOpaque (opaqueIn a) short rest)
       (ap (λ (f : ℕ). element f (rootIn a) (opaqueIn a)) (rw root-long (unfold rootLength in family-back (familyIn a) (unfold rootLength in some-root))) ∙ sym (element-parts a ok)))
 
 -- ---- a route: 21 octets
@@ -116,13 +115,13 @@ module _ (t : Tree) (sixteen : length (t .branches) ≡ 16) where
   tree-length = simp length-append (omega (arith, name-length (t .name), fours-length (t .branches)))
 
   -- all but its label
-  pub tree-back : elementRefusal (t .name) ≡ 0 → (rest : List ℕ) → all isBranchLabel (t .branches) ≡ true → treeRead (treeSaved t ++ rest) ≡ withLabel 0 t
+  pub tree-back : elementRefusal (t .name) ≡ 0 → length (opaqueIn (t .name)) ≤ savedOpaque → (rest : List ℕ) → all isBranchLabel (t .branches) ≡ true → treeRead (treeSaved t ++ rest) ≡ withLabel 0 t
   unfolding treeRead treeSaved marked withLabel
-  tree-back ok rest h =
+  tree-back ok short rest h =
       let name : List ℕ = nameSaved (t .name) in
       let more : List ℕ = pick (t .leaf) 1 0 ∷ (foursOf (t .branches) ++ rest) in
       let long : length name ≡ nameSize = name-length (t .name) in
-      let its-name : nameIn (name ++ more) ≡ t .name = name-back (t .name) ok more in
+      let its-name : nameIn (name ++ more) ≡ t .name = name-back (t .name) ok short more in
       let its-leaf : getD (name ++ more) nameSize 0 ≡ pick (t .leaf) 1 0 = getD-at name (pick (t .leaf) 1 0) (foursOf (t .branches) ++ rest) 0 nameSize long in
       let after : drop (nameSize + 1) (name ++ more) ≡ foursOf (t .branches) ++ rest = sym (drop-drop 1 nameSize (name ++ more)) ∙ ap (drop 1) (drop-at name more nameSize long) in
       let its-branches : foursIn 16 (drop (nameSize + 1) (name ++ more)) ≡ t .branches = ap (foursIn 16) after ∙ subst (λ (n : ℕ). foursIn n (foursOf (t .branches) ++ rest) ≡ t .branches) sixteen (fours-back (t .branches) rest h) in
@@ -151,6 +150,6 @@ module _ (l state n : ℕ) (a : List ℕ) where
     pub use-after : drop useSize (useRecord l state n a ++ rest) ≡ rest
     use-after = drop-at (useRecord l state n a) rest useSize use-length
 
-    pub use-back : elementRefusal a ≡ 0 → n < 16 → useRead (useRecord l state n a ++ rest) ≡ pick (eqb state 1) (mapped n a) (awaiting n a)
+    pub use-back : elementRefusal a ≡ 0 → length (opaqueIn a) ≤ savedOpaque → n < 16 → useRead (useRecord l state n a ++ rest) ≡ pick (eqb state 1) (mapped n a) (awaiting n a)
     unfolding useRead useRecord marked four
-    use-back ok near = let same : n % 16 ≡ n = omega arith in ap₂ (λ (m : ℕ) (b : List ℕ). pick (eqb state 1) (mapped m b) (awaiting m b)) same (name-back a ok rest)
+    use-back ok short near = let same : n % 16 ≡ n = omega arith in ap₂ (λ (m : ℕ) (b : List ℕ). pick (eqb state 1) (mapped m b) (awaiting m b)) same (name-back a ok short rest)

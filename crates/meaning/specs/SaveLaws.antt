@@ -1,22 +1,24 @@
 -- The save: what is written is read back as it was, octets that are taken are the save of the table that they give, and how long a save is.
 -- Assumes nothing.
-use Prim.Native.Nat.{ℕ, _+_, _*_, _-_, _≤_, _<_}
+use Prim.Native.Nat.{ℕ, zero, suc, _+_, _*_, _-_, _/_, _%_, _≤_, _<_}
 use native.Mathlib.Omega.{arith}
 use mathlib.Core.Logic.{_↔_}
 use mathlib.Core.Path.{_≡_, refl, sym, ap, _∙_, subst}
 use mathlib.Core.Bool.{true, false}
-use mathlib.Core.List.{List, [], _++_}
-use lib.ListN.{drop, getD, length, replicate, length-append}
+use mathlib.Core.List.{List, [], _∷_, _++_}
+use lib.ListN.{take, drop, getD, length, set, replicate, length-append, length-take, length-drop}
 use lib.Seq.{drop-at, drop-drop}
 use lib.Dec.{eqb, leb, ltb}
-use borrow.Author.Tests.{eqb-true, ltb-true, ltb-false, lt-ltb, le-ltb}
-use Rattle.meaning.specs.Octets.{place, count, same, two, four, twoAt, fourAt}
-use Rattle.meaning.specs.Lists.{by-test, getD-same, getD-out, place-finds, place-count, place-only, count-some, same-eq, same-refl}
-use Rattle.meaning.specs.Card.{Tree, Use, free, mapped, awaiting, Card, labelCount, named, bare, treePlace, treeOf, treeAt, useOf, freeLabels}
+use borrow.Author.Tests.{eqb-true, ltb-true, ltb-false, lt-ltb, le-ltb, le-leb}
+use Rattle.meaning.specs.Octets.{place, count, same, two, four, twoAt, fourAt, all}
+use Rattle.meaning.specs.Lists.{by-test, picked, getD-same, getD-out, place-finds, place-count, place-only, count-some, same-eq, same-refl}
+use Rattle.meaning.specs.Card.{Tree, Use, free, mapped, awaiting, Card, labelCount, withLabel, named, bare, treePlace, treeOf, treeAt, useOf, freeLabels}
+use Rattle.meaning.specs.Wire.{addressLength, familyIn, rootLength, opaqueIn, element, rootLimit}
 use Rattle.meaning.specs.Events.{refuse, roomShort}
 use Rattle.meaning.specs.RoundTrip.{both, two-back}
 use Rattle.meaning.specs.NoticeLaws.{four-back}
-use Rattle.meaning.specs.Save.{marked, headSaved, routesSaved, treesSaved, usesSaved, saved, save, routesRead, treesRead, usesRead, isMappedFor, allLabelled, tableIn, isCarried, isTree, carriesOwn, keepsRules, isSave, restore, headSize, routeSize, treeSize, useSize, saveLimit}
+use Rattle.meaning.specs.Save.{marked, headSaved, routesSaved, treesSaved, usesSaved, saved, save, routesRead, treesRead, usesRead, isMappedFor, allLabelled, tableIn, isCarried, isTree, carriesOwn, keepsRules, isSave, restore, isShort, isShortTree, isShortUse, fitsSave, spacedIn, nameIn, treeRead, useRead, labelled, savedOpaque, headSize, routeSize, treeSize, useSize, saveLimit}
+use Rattle.meaning.specs.SaveFields.{all-cons}
 use Rattle.meaning.specs.SaveRules.{all-at, Rules, rules}
 use Rattle.meaning.specs.SaveLists.{either, tree-ok, routes-length, routes-back, trees-length, trees-back, labelFor, labels-back, inUse, used-free, uses-length, uses-back}
 
@@ -43,6 +45,12 @@ module _ (c : Card) (many : length (c .labels) ≡ labelCount) where
   pub length-is : ((i : ℕ) → i < length (c .trees) → length (treeAt i c .branches) ≡ 16) → length (saved c) ≡ headSize + routeSize * length (c .routes) + treeSize * length (c .trees) + useSize * (labelCount - freeLabels c)
   unfolding saved headSaved marked four two treeAt
   length-is sixteen = simp length-append (omega (arith, routes-length (c .routes), trees-length (c .trees) sixteen, uses-length (c .base) (c .labels), used-count))
+
+-- ---- a table that its form has the space for
+
+short-parts : (c : Card) → fitsSave c ≡ true → (all isShortTree (c .trees) ≡ true) × (all isShortUse (c .labels) ≡ true)
+unfolding fitsSave
+short-parts c s = both (all isShortTree (c .trees)) (all isShortUse (c .labels)) s
 
 -- ---- a table that keeps the rules
 
@@ -119,26 +127,27 @@ module _ (c : Card) (R : Rules c) where
   its-routes : routesRead (length (c .routes)) (drop headSize (saved c)) ≡ c .routes
   its-routes = rw after-head (routes-back (c .routes) (treesSaved (c .trees) ++ usesSaved (c .base) (c .labels)) (R .routes))
 
-  its-labels : usesRead (c .base) (count inUse (c .labels)) (usesSaved (c .base) (c .labels)) (replicate labelCount free) ≡ c .labels
-  its-labels =
+  its-labels : all isShortUse (c .labels) ≡ true → usesRead (c .base) (count inUse (c .labels)) (usesSaved (c .base) (c .labels)) (replicate labelCount free) ≡ c .labels
+  its-labels s =
       let at : c .base + 0 ≡ c .base = omega arith in
       subst (λ (n : ℕ). usesRead (c .base) (count inUse (c .labels)) (usesSaved (c .base) (c .labels)) (replicate n free) ≡ c .labels) (R .many)
       (subst (λ (b : ℕ). usesRead (c .base) (count inUse (c .labels)) (usesSaved b (c .labels)) (replicate (length (c .labels)) free) ≡ c .labels) at
-      (uses-back (c .base) [] (c .labels) (R .uses) (omega (arith, R .high, R .many))))
+      (uses-back (c .base) [] (c .labels) (R .uses) s (omega (arith, R .high, R .many))))
 
-  its-trees : allLabelled (c .base) (c .labels) (treesRead (length (c .trees)) (treesSaved (c .trees) ++ usesSaved (c .base) (c .labels))) ≡ c .trees
-  its-trees = ap (allLabelled (c .base) (c .labels)) (trees-back (c .trees) (usesSaved (c .base) (c .labels)) (R .trees)) ∙ labels-back (c .base) (c .labels) (c .trees) (unfold treeAt in label-given)
+  its-trees : all isShortTree (c .trees) ≡ true → allLabelled (c .base) (c .labels) (treesRead (length (c .trees)) (treesSaved (c .trees) ++ usesSaved (c .base) (c .labels))) ≡ c .trees
+  its-trees s = ap (allLabelled (c .base) (c .labels)) (trees-back (c .trees) (usesSaved (c .base) (c .labels)) (R .trees) s) ∙ labels-back (c .base) (c .labels) (c .trees) (unfold treeAt in label-given)
 
-  table-back : tableIn (saved c) ≡ c
+  table-back : fitsSave c ≡ true → tableIn (saved c) ≡ c
   unfolding tableIn
-  table-back =
-      rw (head-base, head-next, head-routes, head-trees, head-labels, after-routes, after-trees, its-labels, its-routes, its-trees) refl
+  table-back s =
+      let p = short-parts c s in
+      rw (head-base, head-next, head-routes, head-trees, head-labels, after-routes, after-trees, its-labels (p .1), its-routes, its-trees (p .0)) refl
 
 -- ---- the laws
 
 -- Reading back what was written gives the same table.
-pub read-back : (c : Card) → keepsRules c ≡ true → tableIn (saved c) ≡ c
-read-back c h = table-back c (rules c h)
+pub read-back : (c : Card) → keepsRules c ≡ true → fitsSave c ≡ true → tableIn (saved c) ≡ c
+read-back c h s = table-back c (rules c h) s
 
 pub saved-length : (c : Card) → keepsRules c ≡ true → length (saved c) ≡ headSize + routeSize * length (c .routes) + treeSize * length (c .trees) + useSize * (labelCount - freeLabels c)
 saved-length c h = let R = rules c h in length-is c (R .many) (sixteen-each c R)
@@ -146,20 +155,25 @@ saved-length c h = let R = rules c h in length-is c (R .many) (sixteen-each c R)
 pub saved-short : (c : Card) → keepsRules c ≡ true → length (saved c) ≤ saveLimit
 saved-short c h = let R = rules c h in omega (arith, saved-length c h, R .few-routes, R .few-trees)
 
--- A save with too little room is refused 16; otherwise it is written whole.
-module _ (room : ℕ) (c : Card) where
+-- A save with a value that is too long for its space is refused 19, whatever the room.
+pub save-long : (room : ℕ) (c : Card) → fitsSave c ≡ false → save room c ≡ refuse 19 c
+unfolding save
+save-long room c s = rw s refl
+
+-- Of the others one with too little room is refused 16; otherwise it is written whole.
+module _ (room : ℕ) (c : Card) (s : fitsSave c ≡ true) where
   pub save-short : room < length (saved c) → save room c ≡ refuse 16 c
   unfolding save roomShort
-  save-short h = rw (lt-ltb room (length (saved c)) h) refl
+  save-short h = rw (s, lt-ltb room (length (saved c)) h) refl
 
   pub save-whole : length (saved c) ≤ room → save room c ≡ record { answer = 0; octets = saved c; card = c }
   unfolding save roomShort
-  save-whole h = rw (le-ltb room (length (saved c)) h) refl
+  save-whole h = rw (s, le-ltb room (length (saved c)) h) refl
 
 -- What a table that keeps the rules writes is taken, and nothing else is.
-pub save-taken : (c : Card) → keepsRules c ≡ true → isSave (saved c) ≡ true
+pub save-taken : (c : Card) → keepsRules c ≡ true → fitsSave c ≡ true → isSave (saved c) ≡ true
 unfolding isSave
-save-taken c h = rw (read-back c h, h, same-refl (saved c)) refl
+save-taken c h s = rw (read-back c h s, h, same-refl (saved c)) refl
 
 pub taken-is-save : (o : List ℕ) → isSave o ≡ true → (keepsRules (tableIn o) ≡ true) × (saved (tableIn o) ≡ o)
 unfolding isSave
@@ -170,22 +184,82 @@ pub one-form : (o s : List ℕ) → isSave o ≡ true → isSave s ≡ true → 
 one-form o s h k e = sym (taken-is-save o h .1) ∙ ap saved e ∙ taken-is-save s k .1
 
 -- And a form has one table.
-pub one-table : (c d : Card) → keepsRules c ≡ true → keepsRules d ≡ true → saved c ≡ saved d → c ≡ d
-one-table c d h k e = sym (read-back c h) ∙ ap tableIn e ∙ read-back d k
+pub one-table : (c d : Card) → keepsRules c ≡ true → keepsRules d ≡ true → fitsSave c ≡ true → fitsSave d ≡ true → saved c ≡ saved d → c ≡ d
+one-table c d h k s z e = sym (read-back c h s) ∙ ap tableIn e ∙ read-back d k z
 
 -- Over a card swap the table is the same, whatever stood.
-pub restored : (c : Card) → keepsRules c ≡ true → (d : Card) → restore (saved c) d ≡ record { answer = 0; octets = []; card = c }
+pub restored : (c : Card) → keepsRules c ≡ true → fitsSave c ≡ true → (d : Card) → restore (saved c) d ≡ record { answer = 0; octets = []; card = c }
 unfolding restore
-restored c h d = rw (save-taken c h, read-back c h) refl
+restored c h s d = rw (save-taken c h s, read-back c h s) refl
 
 -- Other octets are refused by 19, and the standing table stays.
 pub not-restored : (o : List ℕ) (d : Card) → isSave o ≡ false → restore o d ≡ refuse 19 d
 unfolding restore
 not-restored o d h = rw h refl
 
+-- ---- what is read has its space in a save, whatever the octets are
+
+spaced-in : (n : ℕ) (o : List ℕ) → length (spacedIn n o) ≤ n
+unfolding spacedIn
+spaced-in n o = omega (arith, length-take (getD o 0 0) (take n (drop 1 o)), length-take n (drop 1 o))
+
+first-length : (root q : List ℕ) → length root ≡ 4 → length q ≤ savedOpaque → length (opaqueIn (element 1 root q)) ≤ savedOpaque
+unfolding opaqueIn rootLength familyIn addressLength twoAt element two
+first-length root q e h = rw length-drop (omega (arith, length-append root (length q / 256 % 256 ∷ length q % 256 ∷ q)))
+
+second-length : (root q : List ℕ) → length root ≤ rootLimit → length q ≤ savedOpaque → length (opaqueIn (element 2 root q)) ≤ savedOpaque
+unfolding opaqueIn rootLength familyIn addressLength twoAt element two
+second-length root q e h = rw length-drop (omega (arith, length-append root (length q / 256 % 256 ∷ length q % 256 ∷ q)))
+
+short-by : (a : List ℕ) → length (opaqueIn a) ≤ savedOpaque → isShort a ≡ true
+unfolding isShort
+short-by a h = le-leb _ _ h
+
+name-read : (o : List ℕ) → isShort (nameIn o) ≡ true
+unfolding nameIn
+name-read o =
+    by-test (eqb (length (spacedIn rootLimit o)) 4)
+    (λ e. rw e (short-by _ (first-length (spacedIn rootLimit o) (spacedIn savedOpaque (drop (1 + rootLimit) o)) (eqb-true _ _ e) (spaced-in savedOpaque (drop (1 + rootLimit) o)))))
+    (λ e. rw e (short-by _ (second-length (spacedIn rootLimit o) (spacedIn savedOpaque (drop (1 + rootLimit) o)) (spaced-in rootLimit o) (spaced-in savedOpaque (drop (1 + rootLimit) o)))))
+
+tree-short : (o : List ℕ) (base : ℕ) (us : List Use) → isShortTree (labelled base us (treeRead o)) ≡ true
+unfolding isShortTree labelled withLabel treeRead
+tree-short o base us = name-read (drop 3 o)
+
+trees-short : (n : ℕ) (o : List ℕ) (base : ℕ) (us : List Use) → all isShortTree (allLabelled base us (treesRead n o)) ≡ true
+unfolding treesRead allLabelled all
+trees-short zero o base us = refl
+trees-short (suc n) o base us = rw (tree-short o base us) (trees-short n (drop treeSize o) base us)
+
+use-short : (o : List ℕ) → isShortUse (useRead o) ≡ true
+unfolding useRead
+use-short o = picked (λ (u : Use). isShortUse u ≡ true) (eqb (getD o 7 0) 1) (λ _. unfold isShortUse in name-read (drop 9 o)) (λ _. unfold isShortUse in name-read (drop 9 o))
+
+set-short : (us : List Use) (i : ℕ) (u : Use) → all isShortUse us ≡ true → isShortUse u ≡ true → all isShortUse (set us i u) ≡ true
+unfolding all
+set-short [] i u h k = refl
+set-short (x ∷ us) zero u h k = rw k (all-cons isShortUse x us h .1)
+set-short (x ∷ us) (suc i) u h k = let p = all-cons isShortUse x us h in rw (p .0) (set-short us i u (p .1) k)
+
+uses-short : (base n : ℕ) (o : List ℕ) (us : List Use) → all isShortUse us ≡ true → all isShortUse (usesRead base n o us) ≡ true
+unfolding usesRead
+uses-short base zero o us h = h
+uses-short base (suc n) o us h = uses-short base n (drop useSize o) _ (set-short us (fourAt o 3 - base) (useRead o) h (use-short o))
+
+free-short : (n : ℕ) → all isShortUse (replicate n free) ≡ true
+unfolding all isShortUse
+free-short zero = refl
+free-short (suc n) = free-short n
+
+pub read-fits : (o : List ℕ) → fitsSave (tableIn o) ≡ true
+unfolding fitsSave tableIn
+read-fits o =
+    let us : List Use = usesRead (fourAt o 3) (twoAt o 13) (drop (getD o 12 0 * treeSize) (drop (headSize + getD o 11 0 * routeSize) o)) (replicate labelCount free) in
+    rw (trees-short (getD o 12 0) (drop (headSize + getD o 11 0 * routeSize) o) (fourAt o 3) us, uses-short (fourAt o 3) (twoAt o 13) (drop (getD o 12 0 * treeSize) (drop (headSize + getD o 11 0 * routeSize) o)) (replicate labelCount free) (free-short labelCount)) refl
+
 -- 19 is given to octets that no table keeping the rules writes, and to no others.
-pub refused-exactly : (o : List ℕ) → isSave o ≡ false ↔ ((c : Card) → keepsRules c ≡ true → saved c ≡ o → ⊥)
+pub refused-exactly : (o : List ℕ) → isSave o ≡ false ↔ ((c : Card) → keepsRules c ≡ true → fitsSave c ≡ true → saved c ≡ o → ⊥)
 refused-exactly o = (
-  (λ h c k e. let z : true ≡ false = sym (save-taken c k) ∙ ap isSave e ∙ h in let z′ : _≡_ {A = ℕ} 0 1 = cc in omega arith),
-  (λ none. by-test (isSave o) (λ k. let p = taken-is-save o k in absurd (none (tableIn o) (p .0) (p .1))) (λ k. k)),
+  (λ h c k s e. let z : true ≡ false = sym (save-taken c k s) ∙ ap isSave e ∙ h in let z′ : _≡_ {A = ℕ} 0 1 = cc in omega arith),
+  (λ none. by-test (isSave o) (λ k. let p = taken-is-save o k in absurd (none (tableIn o) (p .0) (read-fits o) (p .1))) (λ k. k)),
 )

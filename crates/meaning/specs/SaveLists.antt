@@ -12,11 +12,11 @@ use lib.Dec.{eqb, leb, ltb}
 use borrow.Author.Tests.{eqb-true, leb-true, ltb-true, not-true, not-false}
 use Rattle.meaning.specs.Octets.{pick, place, count, all}
 use Rattle.meaning.specs.Lists.{by-test}
-use Rattle.meaning.specs.Wire.{elementRefusal, rootLimit}
+use Rattle.meaning.specs.Wire.{opaqueIn, elementRefusal, rootLimit}
 use Rattle.meaning.specs.Card.{Route, Tree, Use, free, mapped, awaiting, withLabel, bare, isFree, isEmpty}
 use Rattle.meaning.specs.Events.{notRoot}
 use Rattle.meaning.specs.RoundTrip.{both}
-use Rattle.meaning.specs.Save.{routeSaved, treeSaved, useSaved, routesSaved, treesSaved, usesSaved, routesRead, treesRead, usesRead, isMappedFor, labelled, allLabelled, isName, isRoute, isBranchLabel, isTree, isUse, routeSize, treeSize, useSize}
+use Rattle.meaning.specs.Save.{routeSaved, treeSaved, useSaved, routesSaved, treesSaved, usesSaved, routesRead, treesRead, usesRead, isMappedFor, labelled, allLabelled, isName, isRoute, isBranchLabel, isTree, isUse, isShort, isShortTree, isShortUse, savedOpaque, routeSize, treeSize, useSize}
 use Rattle.meaning.specs.SaveFields.{all-cons, route-length, route-back, tree-length, tree-back, useRecord, use-length, use-label, use-after, use-back}
 
 -- ---- what the tests of one record tell
@@ -89,15 +89,24 @@ unfoldable pub unlabelled : List Tree → List Tree
 unlabelled [] = []
 unlabelled (t ∷ ts) = withLabel 0 t ∷ unlabelled ts
 
-pub trees-back : (ts : List Tree) (rest : List ℕ) → all isTree ts ≡ true → treesRead (length ts) (treesSaved ts ++ rest) ≡ unlabelled ts
+short-ok : (a : List ℕ) → isShort a ≡ true → length (opaqueIn a) ≤ savedOpaque
+unfolding isShort
+short-ok a h = leb-true _ _ h
+
+short-tree : (t : Tree) → isShortTree t ≡ true → length (opaqueIn (t .name)) ≤ savedOpaque
+unfolding isShortTree
+short-tree t h = short-ok (t .name) h
+
+pub trees-back : (ts : List Tree) (rest : List ℕ) → all isTree ts ≡ true → all isShortTree ts ≡ true → treesRead (length ts) (treesSaved ts ++ rest) ≡ unlabelled ts
 unfolding treesSaved treesRead unlabelled
-trees-back [] rest h = refl
-trees-back (t ∷ ts) rest h =
+trees-back [] rest h k = refl
+trees-back (t ∷ ts) rest h k =
     let p = all-cons isTree t ts h in
+    let q = all-cons isShortTree t ts k in
     let ok = tree-ok t (p .0) in
     rw append-assoc
-    (ap₂ _∷_ (tree-back t (ok .sixteen) (ok .name) (treesSaved ts ++ rest) (ok .labels))
-    (rw (drop-at (treeSaved t) (treesSaved ts ++ rest) treeSize (tree-length t (ok .sixteen))) (trees-back ts rest (p .1))))
+    (ap₂ _∷_ (tree-back t (ok .sixteen) (ok .name) (short-tree t (q .0)) (treesSaved ts ++ rest) (ok .labels))
+    (rw (drop-at (treeSaved t) (treesSaved ts ++ rest) treeSize (tree-length t (ok .sixteen))) (trees-back ts rest (p .1) (q .1))))
 
 -- the label that the labels give to a tree
 unfoldable pub labelFor : ℕ → List Use → List ℕ → ℕ
@@ -140,29 +149,29 @@ further base before u us h =
     rw (n, e, f) at h
 
 -- the record of a label is read, and stored in its place
-one-read : (base k state n : ℕ) (a rest : List ℕ) (before after : List Use) → elementRefusal a ≡ 0 → n < 16 → base + length before < 4294967296
+one-read : (base k state n : ℕ) (a rest : List ℕ) (before after : List Use) → elementRefusal a ≡ 0 → length (opaqueIn a) ≤ savedOpaque → n < 16 → base + length before < 4294967296
     → usesRead base (suc k) (useRecord (base + length before) state n a ++ rest) (before ++ (free ∷ after)) ≡ usesRead base k rest (before ++ (pick (eqb state 1) (mapped n a) (awaiting n a) ∷ after))
 unfolding usesRead
-one-read base k state n a rest before after ok near h =
-    rw (use-after (base + length before) state n a rest, use-label (base + length before) state n a rest h, use-back (base + length before) state n a rest ok near, add-sub-cancel-left base (length before), set-append-seam before free after (pick (eqb state 1) (mapped n a) (awaiting n a))) refl
+one-read base k state n a rest before after ok short near h =
+    rw (use-after (base + length before) state n a rest, use-label (base + length before) state n a rest h, use-back (base + length before) state n a rest ok short near, add-sub-cancel-left base (length before), set-append-seam before free after (pick (eqb state 1) (mapped n a) (awaiting n a))) refl
 
-pub uses-back : (base : ℕ) (before us : List Use) → all isUse us ≡ true → base + length before + length us ≤ 4294967296
+pub uses-back : (base : ℕ) (before us : List Use) → all isUse us ≡ true → all isShortUse us ≡ true → base + length before + length us ≤ 4294967296
     → usesRead base (count inUse us) (usesSaved (base + length before) us) (before ++ replicate (length us) free) ≡ before ++ us
 unfolding usesSaved useSaved count inUse isFree
-uses-back base before [] h k = unfold usesRead in refl
-uses-back base before (free ∷ us) h k =
-    further base before free us (uses-back base (before ++ (free ∷ [])) us (all-cons isUse free us h .1) (rw length-append (omega arith)))
-uses-back base before (mapped n a ∷ us) h k =
+uses-back base before [] h s k = unfold usesRead in refl
+uses-back base before (free ∷ us) h s k =
+    further base before free us (uses-back base (before ++ (free ∷ [])) us (all-cons isUse free us h .1) (all-cons isShortUse free us s .1) (rw length-append (omega arith)))
+uses-back base before (mapped n a ∷ us) h s k =
     let p = all-cons isUse (mapped n a) us h in
-    mapped-read ∙ further base before (mapped n a) us (uses-back base (before ++ (mapped n a ∷ [])) us (p .1) (rw length-append (omega arith)))
+    mapped-read ∙ further base before (mapped n a) us (uses-back base (before ++ (mapped n a ∷ [])) us (p .1) (all-cons isShortUse (mapped n a) us s .1) (rw length-append (omega arith)))
   where
     mapped-read : usesRead base (suc (count inUse us)) (useSaved (base + length before) (mapped n a) ++ usesSaved (suc (base + length before)) us) (before ++ (free ∷ replicate (length us) free))
         ≡ usesRead base (count inUse us) (usesSaved (suc (base + length before)) us) (before ++ (mapped n a ∷ replicate (length us) free))
-    mapped-read = unfold useSaved useRecord in one-read base (count inUse us) 1 n a (usesSaved (suc (base + length before)) us) before (replicate (length us) free) (mapped-ok n a (all-cons isUse (mapped n a) us h .0) .1) (mapped-ok n a (all-cons isUse (mapped n a) us h .0) .0) (omega arith)
-uses-back base before (awaiting n a ∷ us) h k =
+    mapped-read = unfold useSaved useRecord in one-read base (count inUse us) 1 n a (usesSaved (suc (base + length before)) us) before (replicate (length us) free) (mapped-ok n a (all-cons isUse (mapped n a) us h .0) .1) (short-ok a (unfold isShortUse in all-cons isShortUse (mapped n a) us s .0)) (mapped-ok n a (all-cons isUse (mapped n a) us h .0) .0) (omega arith)
+uses-back base before (awaiting n a ∷ us) h s k =
     let p = all-cons isUse (awaiting n a) us h in
-    awaiting-read ∙ further base before (awaiting n a) us (uses-back base (before ++ (awaiting n a ∷ [])) us (p .1) (rw length-append (omega arith)))
+    awaiting-read ∙ further base before (awaiting n a) us (uses-back base (before ++ (awaiting n a ∷ [])) us (p .1) (all-cons isShortUse (awaiting n a) us s .1) (rw length-append (omega arith)))
   where
     awaiting-read : usesRead base (suc (count inUse us)) (useSaved (base + length before) (awaiting n a) ++ usesSaved (suc (base + length before)) us) (before ++ (free ∷ replicate (length us) free))
         ≡ usesRead base (count inUse us) (usesSaved (suc (base + length before)) us) (before ++ (awaiting n a ∷ replicate (length us) free))
-    awaiting-read = unfold useSaved useRecord in one-read base (count inUse us) 2 n a (usesSaved (suc (base + length before)) us) before (replicate (length us) free) (awaiting-ok n a (all-cons isUse (awaiting n a) us h .0) .1) (awaiting-ok n a (all-cons isUse (awaiting n a) us h .0) .0) (omega arith)
+    awaiting-read = unfold useSaved useRecord in one-read base (count inUse us) 2 n a (usesSaved (suc (base + length before)) us) before (replicate (length us) free) (awaiting-ok n a (all-cons isUse (awaiting n a) us h .0) .1) (short-ok a (unfold isShortUse in all-cons isShortUse (awaiting n a) us s .0)) (awaiting-ok n a (all-cons isUse (awaiting n a) us h .0) .0) (omega arith)

@@ -40,7 +40,7 @@ isElement e =
 
 -- the longest opaque value
 abbrev pub opaqueLimit : ℕ
-opaqueLimit = 32
+opaqueLimit = 128
 
 -- the longest root
 abbrev pub rootLimit : ℕ

@@ -1,6 +1,6 @@
 // The numbers of the definitions, for the lengths of arrays and the places in them: specs/Wire, Card and Save say the same, and the
 // proofs hold what is written here to them. A contract speaks of those.
-pub const OPAQUE_LIMIT: usize = 32;
+pub const OPAQUE_LIMIT: usize = 128;
 
 pub const ROOT_LIMIT: usize = 16;
 

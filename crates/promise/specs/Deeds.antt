@@ -9,7 +9,7 @@ use Rattle.meaning.specs.Octets.{two, four, twoAt}
 use Rattle.meaning.specs.Wire.{nextId, messageIn, recordsF, recordsIn}
 use Rattle.meaning.specs.Card.{Card, withNext, treeOf, treePlace, treeAt, useOf, heldFor, freeLabels, routeOf, routePlace}
 use Rattle.meaning.specs.Events.{Out, refuse, accept, roomShort, noNeighbour, holderOf, start}
-use Rattle.meaning.specs.Save.{saved, save, keepsRules, isSave, restore}
+use Rattle.meaning.specs.Save.{saved, save, keepsRules, isSave, restore, fitsSave}
 use Rattle.meaning.specs.Notice.{noticeDue, noticeRecord, notice}
 use Rattle.meaning.specs.Lists.{picked}
 use Rattle.meaning.specs.NoticeLaws.{spread, record-spread}
@@ -111,7 +111,8 @@ module _ (P : Past → Type 0) (p : Past) (small : p .card .next < 4294967296) (
 
 save-same : (room : ℕ) (c : Card) → save room c .card ≡ c
 unfolding save refuse
-save-same room c = picked (λ (o : Out). o .card ≡ c) (roomShort room (saved c)) (λ _. refl) (λ _. refl)
+save-same room c =
+    picked (λ (o : Out). o .card ≡ c) (fitsSave c) (λ _. picked (λ (o : Out). o .card ≡ c) (roomShort room (saved c)) (λ _. refl) (λ _. refl)) (λ _. refl)
 
 restore-same : (o : List ℕ) (c : Card) → (restore o c .answer ≡ 0 → ⊥) → restore o c .card ≡ c
 unfolding restore refuse

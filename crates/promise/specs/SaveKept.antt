@@ -9,12 +9,12 @@ use mathlib.Core.List.{List, [], _∷_}
 use lib.ListN.{getD, length}
 use lib.Dec.{eqb, ltb}
 use borrow.Author.Tests.{eqb-false, eq-eqb, le-leb, lt-ltb, ltb-false}
-use Rattle.meaning.specs.Octets.{same, all}
+use Rattle.meaning.specs.Octets.{same, all, pick}
 use Rattle.meaning.specs.Wire.{mapping, withdraw, messageIn, elementRefusal}
 use Rattle.meaning.specs.Card.{Tree, Use, free, mapped, awaiting, Card, fresh, withNext, bare, treeOf, treeAt, isBranch, isEmpty, useOf}
 use Rattle.meaning.specs.Events.{refuse, accept, Event, receive, join, leave, route, baseOutside, start}
 use Rattle.meaning.specs.Lists.{by-test, picked, same-refl}
-use Rattle.meaning.specs.Save.{isName, isBranchLabel, isTree, isUse, isCarried, isMappedFor, carriesOwn, keepsRules, saved, restore}
+use Rattle.meaning.specs.Save.{isName, isBranchLabel, isTree, isUse, isCarried, isMappedFor, carriesOwn, keepsRules, saved, restore, fitsSave}
 use Rattle.meaning.specs.SaveFields.{all-cons}
 use Rattle.meaning.specs.SaveRules.{all-of, Rules, rules-kept}
 use Rattle.meaning.specs.SaveLaws.{restored}
@@ -165,13 +165,17 @@ history-keeps-rules base steps = past-keeps-rules (history base steps) (history-
 
 -- ---- over a card swap
 
--- what goes on after the save of the last card is restored, with no event between, on a card where any table stands
+-- what goes on after the save of the last card is restored, with no event between, on a card where any table stands; where 19 refuses the
+-- save there is no swap
 unfoldable pub swapped : Past → Card → Past
-swapped p d = record { card = restore (saved (p .card)) d .card; live = p .live; accepted = p .accepted }
+swapped p d = record { card = pick (fitsSave (p .card)) (restore (saved (p .card)) d .card) (p .card); live = p .live; accepted = p .accepted }
 
 pub swapped-same : (p : Past) → keepsRules (p .card) ≡ true → (d : Card) → swapped p d ≡ p
 unfolding swapped
-swapped-same p h d = λ i. record { card = restored (p .card) h d i .card; live = p .live; accepted = p .accepted }
+swapped-same p h d =
+    by-test (fitsSave (p .card))
+    (λ e. rw (e, restored (p .card) h e d) refl)
+    (λ e. rw e refl)
 
 pub swap-upheld : (p : Past) → Upheld p → keepsRules (p .card) ≡ true → (d : Card) → Upheld (swapped p d)
 swap-upheld p u h d = rw (swapped-same p h d) u
@@ -185,8 +189,8 @@ pub promise-continues : (base : ℕ) (steps : List Step) (d : Card) (more : List
 promise-continues base steps d more = swap-kept (history base steps) (history-upheld base steps) (history-keeps-rules base steps) d more
 
 -- The save of a table after any history is read back as that table.
-pub history-restored : (base : ℕ) (steps : List Step) (d : Card) → restore (saved (history base steps .card)) d ≡ record { answer = 0; octets = []; card = history base steps .card }
-history-restored base steps d = restored (history base steps .card) (history-keeps-rules base steps) d
+pub history-restored : (base : ℕ) (steps : List Step) (d : Card) → fitsSave (history base steps .card) ≡ true → restore (saved (history base steps .card)) d ≡ record { answer = 0; octets = []; card = history base steps .card }
+history-restored base steps d s = restored (history base steps .card) (history-keeps-rules base steps) s d
 
 -- And what follows is what would have followed without the swap, so that swaps may be many.
 pub swap-goes-on : (base : ℕ) (steps : List Step) (d : Card) (more : List Step) → thenSteps (swapped (history base steps) d) more ≡ thenSteps (history base steps) more

@@ -3,15 +3,16 @@
 use Prim.Native.Nat.{ℕ, _+_, _≤_}
 use native.Mathlib.Omega.{arith}
 use mathlib.Core.Path.{_≡_, refl, sym, ap, _∙_, subst}
-use mathlib.Core.Bool.{Bool}
+use mathlib.Core.Bool.{Bool, true}
 use mathlib.Core.List.{List, [], _∷_, _++_}
 use lib.ListN.{length}
 use lib.Dec.{eqb}
 use Rattle.meaning.specs.Octets.{pick, count}
 use Rattle.meaning.specs.Wire.{release, messageIn, records, recordsIn}
-use Rattle.meaning.specs.Card.{Card, nothing}
-use Rattle.meaning.specs.Events.{Event, receive, refuse, roomShort, event}
-use Rattle.meaning.specs.Save.{saved, save, restore}
+use Rattle.meaning.specs.Card.{Card, nothing, treeOf, freeLabels, lookupLabel}
+use Rattle.meaning.specs.Events.{Event, receive, refuse, roomShort, event, start}
+use Rattle.meaning.specs.Save.{saved, save, restore, fitsSave}
+use Rattle.meaning.specs.Notice.{notice}
 use Rattle.meaning.specs.Calls.{Hands}
 use Rattle.meaning.specs.Lists.{by-test}
 use Rattle.promise.specs.Promise.{Given, ofLabel, noteAll, noteTaken, branchesSaid, feedBy, Step, Past, answerTo, sends, isTaken, liveAt, acceptedAt, thenStep, begun, Each, NoneLive, Leads, isWithdrawn, Untouched, Promise}
@@ -127,9 +128,18 @@ claimed-last p (x ∷ ds) d h k = (h .0, claimed-last (thenDeed p x) ds d (h .1)
 saved-is : (room : ℕ) (c d : Card) (o : List ℕ) → Hands (save room c) 0 o d → o ≡ saved c
 unfolding save refuse
 saved-is room c d o m =
-    by-test (roomShort room (saved c))
-    (λ e. let z : 0 ≡ 16 = rw e at (m .answers) in absurd (omega arith))
-    (λ e. rw e at (m .hands))
+    by-test (fitsSave c)
+    (λ s. by-test (roomShort room (saved c))
+    (λ e. let z : 0 ≡ 16 = rw (s, e) at (m .answers) in absurd (omega arith))
+    (λ e. rw (s, e) at (m .hands)))
+    (λ s. let z : 0 ≡ 19 = rw s at (m .answers) in absurd (omega arith))
+
+saved-fits : (room : ℕ) (c d : Card) (o : List ℕ) → Hands (save room c) 0 o d → fitsSave c ≡ true
+unfolding save refuse
+saved-fits room c d o m =
+    by-test (fitsSave c)
+    (λ s. s)
+    (λ s. let z : 0 ≡ 19 = rw s at (m .answers) in absurd (omega arith))
 
 -- each thing that was done is its deed
 module _ (ks : List Done) (ns os : List ℕ) where
@@ -147,7 +157,7 @@ module _ (ks : List Done) (ns os : List ℕ) where
 
   swapped-deed : (room answer : ℕ) (octets ms ps ns′ os′ : List ℕ) → Saved ns os room 0 octets → Restored ms ps octets answer ns′ os′ → pastOf (swap ms ps ∷ ks) ns′ os′ ≡ thenDeed (pastOf ks ns os) (swaps (cardOf ms ps))
   unfolding pastOf liveBy acceptedBy thenDeed Swap.swapped
-  swapped-deed room answer octets ms ps ns′ os′ m w = rw (read w .1, saved-is room (cardOf ns os) (cardOf ns os) octets (wrote m)) refl
+  swapped-deed room answer octets ms ps ns′ os′ m w = rw (read w .1, saved-is room (cardOf ns os) (cardOf ns os) octets (wrote m), saved-fits room (cardOf ns os) (cardOf ns os) octets (wrote m)) refl
 
   misread-deed : (answer : ℕ) (octets ns′ os′ : List ℕ) → Restored ns os octets answer ns′ os′ → pastOf (misread octets ∷ ks) ns′ os′ ≡ thenDeed (pastOf ks ns os) (restores octets)
   unfolding pastOf liveBy acceptedBy thenDeed

@@ -3,7 +3,7 @@ ghost use mathlib.Core.Path.{_≡_};
 ghost use Prim.Native.Nat.{_+_, _≤_};
 ghost use lib.ListN.{length, take};
 ghost use Rattle.meaning.specs.Wire.{opaqueIn};
-ghost use Rattle.meaning.specs.Save.{padded, spaced, nameSaved, nameSize};
+ghost use Rattle.meaning.specs.Save.{padded, spaced, nameSaved, isShort, nameSize};
 use meaning::NAME_SIZE;
 use meaning::ROOT_LIMIT;
 use meaning::SAVED_OPAQUE;
@@ -48,6 +48,13 @@ fn opaque_of(name: &[u8]) -> &[u8]
         return &name[0..0];
     }
     &name[n..]
+}
+
+// Whether the opaque value of a name finds its space in a save.
+pub fn is_short(name: &[u8]) -> bool
+    ensures { λ r. ⌜ r ≡ isShort (now (name .entry)) ⌝ }
+{
+    opaque_of(name).len() <= SAVED_OPAQUE
 }
 
 pub fn put_name(out: &mut [u8], name: &[u8])

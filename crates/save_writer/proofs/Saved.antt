@@ -7,7 +7,7 @@ use mathlib.Core.List.{List, _++_, append-assoc}
 use lib.ListN.{length, length-append}
 use borrow.Author.Tests.{lt-ltb, le-ltb}
 use Rattle.meaning.specs.Card.{Card, Use, isFree, treeAt, freeLabels, labelCount}
-use Rattle.meaning.specs.Save.{headSaved, routeSaved, treeSaved, useSaved, routesSaved, treesSaved, usesSaved, saved, save, headSize, routeSize, treeSize, useSize}
+use Rattle.meaning.specs.Save.{headSaved, routeSaved, treeSaved, useSaved, routesSaved, treesSaved, usesSaved, saved, save, fitsSave, headSize, routeSize, treeSize, useSize}
 use Rattle.meaning.specs.Events.{roomShort, refuse}
 use Rattle.meaning.specs.Calls.{over, Does}
 use Rattle.meaning.specs.SaveFields.{tree-length}
@@ -123,10 +123,14 @@ module _ (ns os xs : List ℕ) (fits : length (saved (cardOf ns os)) ≤ length 
 -- ---- the call
 
 module _ (c : Card) (out : List ℕ) (n : ℕ) (size : n ≡ length (saved c)) where
-  pub does-short : length out < n → Does (save (length out) c) 16 0 out out c
+  pub does-short : fitsSave c ≡ true → length out < n → Does (save (length out) c) 16 0 out out c
   unfolding save roomShort refuse over
-  does-short h = rw (lt-ltb (length out) (length (saved c)) (omega arith)) (record { answers = refl; counts = refl; writes = refl; leaves = refl })
+  does-short s h = rw (s, lt-ltb (length out) (length (saved c)) (omega arith)) (record { answers = refl; counts = refl; writes = refl; leaves = refl })
 
-  pub does-save : n ≤ length out → (out' : List ℕ) (r : ℕ) → (out' ≡ over (saved c) out) × (r ≡ length (saved c)) → Does (save (length out) c) 0 r out out' c
+  pub does-save : fitsSave c ≡ true → n ≤ length out → (out' : List ℕ) (r : ℕ) → (out' ≡ over (saved c) out) × (r ≡ length (saved c)) → Does (save (length out) c) 0 r out out' c
   unfolding save roomShort
-  does-save h out' r e = rw (le-ltb (length out) (length (saved c)) (omega arith)) (record { answers = refl; counts = e .1; writes = e .0; leaves = refl })
+  does-save s h out' r e = rw (s, le-ltb (length out) (length (saved c)) (omega arith)) (record { answers = refl; counts = e .1; writes = e .0; leaves = refl })
+
+pub does-long : (c : Card) (out : List ℕ) → fitsSave c ≡ false → Does (save (length out) c) 19 0 out out c
+unfolding save refuse over
+does-long c out s = rw s (record { answers = refl; counts = refl; writes = refl; leaves = refl })

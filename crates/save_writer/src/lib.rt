@@ -129,6 +129,10 @@ pub fn save_core(
     ensures { λ r. ⌜ (let c = cardOf (now (numbers .entry)) (now (names .entry)) in
         Does (save (length (now (out .entry))) c) (now (answer .exit)) r (now (out .entry)) (now (out .exit)) c) ⌝ }
 {
+    if !save_spaces::fits_save(numbers, names) {
+        *answer = 19;
+        return 0;
+    }
     if out.len() < saved_size(numbers) {
         *answer = 16;
         return 0;
