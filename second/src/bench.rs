@@ -100,7 +100,7 @@ fn read_number(word: &[u8]) -> Option<u32> {
     })
 }
 
-fn read_hex(word: &[u8]) -> Option<Vec<u8>> {
+pub fn read_hex(word: &[u8]) -> Option<Vec<u8>> {
     read_hex_to(word, LONGEST_HEX)
 }
 
@@ -124,7 +124,7 @@ pub fn to_hex(octets: &[u8]) -> String {
     octets.iter().map(|octet| format!("{octet:02x}")).collect()
 }
 
-fn hex_word(octets: &[u8]) -> String {
+pub fn hex_word(octets: &[u8]) -> String {
     if octets.is_empty() {
         "-".to_string()
     } else {

@@ -11,6 +11,7 @@ mod events;
 mod held_cases;
 mod held_events;
 mod notice;
+mod notice_records;
 mod odd_lines;
 mod refusal;
 mod rng;
@@ -22,7 +23,6 @@ mod save_rows;
 mod wire;
 mod world;
 
-use notice::Notice;
 use std::fs::File;
 use std::io::{self, BufReader, BufWriter, Write};
 use std::process::ExitCode;
@@ -35,6 +35,8 @@ const USAGE: &str = "usage: second run [FILE]
        second save-rows BASE SEED SAVES
        second refusals FILE
        second notices FILE
+       second notice-records SEED COUNT
+       second read-notices FILE
        second differ DAY OUTPUT
        second kinds";
 
@@ -85,7 +87,12 @@ fn obey(words: &[&str], output: &mut impl Write) -> io::Result<Option<ExitCode>>
         }
         ["differ", day, other] => return differ::show(open(day)?, open(other)?, output).map(Some),
         ["refusals", file] => refusals(open(file)?)?,
-        ["notices", file] => notices(open(file)?)?,
+        ["notices", file] => notice_records::in_run(open(file)?)?,
+        ["read-notices", file] => notice_records::in_lines(open(file)?)?,
+        ["notice-records", seed, count] => match (seed.parse(), count.parse()) {
+            (Ok(seed), Ok(count)) => notice_records::make(seed, count),
+            _ => return Ok(None),
+        },
         ["day", kind, seed, count] => return write_day(kind, seed, count, output),
         ["rows", base, seed, count, ref free @ ..] => match made_rows(base, seed, count, free) {
             Some(rows) => rows,
@@ -196,20 +203,5 @@ fn refusals(input: BufReader<File>) -> io::Result<Vec<String>> {
     })?;
     let mut lines: Vec<String> = (0..).zip(counts).map(|(n, c)| format!("{n} {c}")).collect();
     lines.push(format!("? {bad_lines}"));
-    Ok(lines)
-}
-
-/// What each Notification record of the run says.
-fn notices(input: BufReader<File>) -> io::Result<Vec<String>> {
-    let mut lines = Vec::new();
-    bench::replay(input, |number, _, answer| {
-        if let Some(octets) = bench::notice_record(&answer) {
-            let said = Notice::read(&octets).map_err(|refusal| {
-                io::Error::other(format!("line {number}: refused {}", refusal.number()))
-            })?;
-            lines.push(said.to_string());
-        }
-        Ok(())
-    })?;
     Ok(lines)
 }

@@ -100,7 +100,7 @@ impl fmt::Display for Notice {
     fn fmt(&self, out: &mut fmt::Formatter) -> fmt::Result {
         write!(
             out,
-            "to {}, identifier {}: status {:#04x} for message {} of type {:#06x}",
+            "{} {} {} {} {}",
             self.neighbour,
             self.identifier,
             self.status,
