@@ -1,12 +1,14 @@
 //! The line interface: orders read from lines, answers written as lines.
 
-use crate::card::{Card, Found};
+use crate::card::{Card, Found, MOST_TREES};
 use crate::refusal::Refusal;
 use crate::save::LONGEST_SAVE;
+use crate::wire::LONGEST_RECORD;
 use std::io::{self, BufRead, Write};
 
-/// What an event is lent at most; a save is lent more.
-pub const WHOLE_BUFFER: usize = 9984;
+/// What an event is lent at most, two records for each tree; a save is lent
+/// more.
+pub const WHOLE_BUFFER: usize = MOST_TREES * 2 * LONGEST_RECORD;
 pub const LONGEST_HEX: usize = 4096;
 pub const LONGEST_LINE: usize = 65536;
 

@@ -141,6 +141,11 @@ fn very_long_lines() {
 }
 
 #[test]
+fn sizes() {
+    assert_eq!(WHOLE_BUFFER, 22272);
+}
+
+#[test]
 fn room_stays_over_a_start() {
     let element = "06000104c0000201000101";
     let input = format!(

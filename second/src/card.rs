@@ -55,6 +55,15 @@ pub enum LabelUse {
     Awaiting(u32, Name),
 }
 
+impl LabelUse {
+    pub fn name(&self) -> Option<&Name> {
+        match self {
+            LabelUse::Free => None,
+            LabelUse::Mapped(_, name) | LabelUse::Awaiting(_, name) => Some(name),
+        }
+    }
+}
+
 /// What a lookup finds: the branches by rising neighbour and the leaf mark.
 #[derive(Clone, Debug, PartialEq, Eq)]
 pub struct Found {
@@ -293,6 +302,12 @@ impl Card {
     /// Each label of the block with its use, by rising label.
     pub fn labels(&self) -> impl Iterator<Item = (u32, &LabelUse)> {
         (self.base..).zip(&self.labels)
+    }
+
+    /// The name of each tree and of each label in use.
+    pub fn names(&self) -> impl Iterator<Item = &Name> {
+        let trees = self.trees.iter().map(|tree| &tree.name);
+        trees.chain(self.labels.iter().filter_map(LabelUse::name))
     }
 
     fn label_use(&self, label: u32) -> Option<&LabelUse> {

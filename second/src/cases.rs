@@ -1,7 +1,7 @@
 //! The thirteen cases of "Both sides of the edge" as a day, and more edges:
 //! the longest output, the most roots, and the notices of request [1].
 
-use crate::bench::Order;
+use crate::bench::{Order, WHOLE_BUFFER};
 use crate::card::{NO_ROUTE, THIS_NODE};
 use crate::wire::{self, Kind, TreeName};
 
@@ -33,9 +33,11 @@ pub fn day() -> Vec<String> {
 /// A route order that fills the whole buffer, and is refused one octet of it.
 pub fn longest_output() -> Vec<String> {
     let mut page = Page::new();
-    page.comment("64 trees with the longest names move: 9984 octets, refused 16 in room for 9983");
+    page.comment(
+        "64 trees with the longest names move: 22272 octets, refused 16 in room for 22271",
+    );
     page.comment("the room given before the start holds after it");
-    page.order(Order::Room(9983));
+    page.room(WHOLE_BUFFER - 1);
     page.order(Order::Start(1_048_320));
     let root = vec![255; 16];
     page.order(Order::Route(root.clone(), 15));
@@ -46,7 +48,7 @@ pub fn longest_output() -> Vec<String> {
     for _ in 0..2 {
         page.order(Order::Route(root.clone(), 0));
         page.ask(&[1_048_320, 1_048_384, 1_048_447], &names[63..]);
-        page.order(Order::Room(9984));
+        page.room(WHOLE_BUFFER);
     }
     page.lines
 }
@@ -147,6 +149,10 @@ impl Page {
 
     pub fn order(&mut self, order: Order) {
         self.lines.push(order.to_line());
+    }
+
+    pub fn room(&mut self, octets: usize) {
+        self.order(Order::Room(octets as u32));
     }
 
     /// A fresh card of base 16 with A's root behind neighbour 0.
@@ -250,12 +256,12 @@ impl Page {
     fn ten(&mut self) {
         self.case(
             10,
-            "opaque of 32 octets taken, 33 refused 7; length not filling the TLV refused 6",
+            "opaque of 128 octets taken, 129 refused 7; length not filling the TLV refused 6",
         );
-        let filled = [7; 33];
+        let filled = [7; wire::LONGEST_OPAQUE + 1];
         let elements = [
-            element_claiming(32, &filled[..32]),
-            element_claiming(33, &filled),
+            element_claiming(128, &filled[..128]),
+            element_claiming(129, &filled),
             element_claiming(6, &filled[..7]),
             element_claiming(8, &filled[..7]),
         ];
@@ -340,7 +346,7 @@ impl Page {
 
     fn refused_and_told(&mut self) {
         let element = wire::write_element(&tree_a());
-        let filled = [7; 33];
+        let filled = [7; wire::LONGEST_OPAQUE + 1];
         let no_tlv = |code, identifier| wire::write_frame(code, identifier, &[]);
         let cut_short = no_tlv(0x0400, 2)[..7].to_vec();
         self.told(2, cut_short);
@@ -350,7 +356,7 @@ impl Page {
         self.told(4, wire::write_frame(0x0400, 4, &[1, 0, 0, 1]));
         self.told(5, no_tlv(0x0400, 5));
         self.told(6, mapping(6, &element_claiming(6, &filled[..7]), 100, &[]));
-        self.told(7, mapping(7, &element_claiming(33, &filled), 100, &[]));
+        self.told(7, mapping(7, &element_claiming(129, &filled), 100, &[]));
         self.told(8, mapping(8, &element, 15, &[]));
         let further = wire::write_tlv(0x0104, &[]);
         self.told(9, mapping(9, &element, 100, &further));
@@ -376,18 +382,19 @@ impl Page {
             }
         }
         self.comment("room for 25 octets, and for 26; a notice that is not due needs none");
-        for (room, number) in [(25, 2), (26, 2), (25, 3), (0, 10), (0, 2), (9984, 2)] {
-            self.order(Order::Room(room));
+        let whole = WHOLE_BUFFER;
+        for (room, number) in [(25, 2), (26, 2), (25, 3), (0, 10), (0, 2), (whole, 2)] {
+            self.room(room);
             self.order(Order::Notice(1, number, refused.clone()));
         }
         self.comment("neighbours 15 and 16, who is refused 1 before 16 and whatever the number");
         self.order(Order::Notice(15, 2, refused.clone()));
-        self.order(Order::Room(25));
+        self.room(25);
         for number in [2, 3, 10] {
             self.order(Order::Notice(16, number, refused.clone()));
         }
         self.comment("the card's own messages count on from there");
-        self.order(Order::Room(9984));
+        self.room(WHOLE_BUFFER);
         self.route(ROOT, 3);
         self.ask(&[16, 17], &[tree_a()]);
     }

@@ -209,8 +209,8 @@ fn the_longest_output_fills_the_buffer() {
     let moves = &lines[3 + 64..];
     assert_eq!(moves[..2], ["route 16", "label 3:1048575"]);
     assert_eq!(moves[2..4], ["label nothing", "label nothing"]);
-    assert_eq!(moves[6], "room 9984");
-    assert_eq!(moves[7].len(), "route 0 ".len() + 2 * 9984);
+    assert_eq!(moves[6], "room 22272");
+    assert_eq!(moves[7].len(), "route 0 ".len() + 2 * 22272);
     assert_eq!(moves[8..10], ["label nothing", "label 3:1048575"]);
     assert_eq!(moves[12], "free 128");
 }

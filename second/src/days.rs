@@ -589,10 +589,15 @@ pub fn room_near(rng: &mut Rng, needed: usize) -> u32 {
         14 => needed.saturating_sub(37),
         15 => needed / 2,
         16 | 17 => 0,
-        18 => [9983, 9984, 9985, 65536, 4_294_967_295][rng.below(5)],
+        18 => near_whole(rng),
         _ => rng.below(160),
     };
     room as u32
+}
+
+fn near_whole(rng: &mut Rng) -> usize {
+    let whole = bench::WHOLE_BUFFER;
+    [whole - 1, whole, whole + 1, 65536, u32::MAX as usize][rng.below(5)]
 }
 
 fn step_lines(maker: &mut Maker) {

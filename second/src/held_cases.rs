@@ -1,6 +1,6 @@
 //! Request [2], "No branch back to the upstream", as a page of cases.
 
-use crate::bench::Order;
+use crate::bench::{Order, WHOLE_BUFFER};
 use crate::card::{NO_ROUTE, THIS_NODE};
 use crate::cases::{numbered, tree_a, Page, OTHER_ROOT, ROOT};
 use crate::wire::{self, Kind};
@@ -185,7 +185,7 @@ impl Page {
             self.order(Order::Room(room));
             self.order(order.clone());
         }
-        self.order(Order::Room(9984));
+        self.room(WHOLE_BUFFER);
     }
 
     fn message(&self, from: u32, kind: Kind, label: u32) -> Order {

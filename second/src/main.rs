@@ -178,12 +178,13 @@ fn write_gate_input(output: &mut impl Write) -> io::Result<()> {
     ] {
         writeln!(output, "{}", page.join("\n"))?;
     }
-    writeln!(output, "# lines, good and bad\nstart 16\nroom 9984")?;
+    let whole = bench::WHOLE_BUFFER;
+    writeln!(output, "# lines, good and bad\nstart 16\nroom {whole}")?;
     write_lines(&odd_lines::every_edge(), output)?;
     for seed in GATE_SEEDS {
         for (name, count) in GATE_LINES {
             let kind = days::kind_named(name).expect("the names are those of the kinds");
-            writeln!(output, "# {name}, seed {seed}\nstart 16\nroom 9984")?;
+            writeln!(output, "# {name}, seed {seed}\nstart 16\nroom {whole}")?;
             write_lines(&days::make(kind, seed, count), output)?;
         }
     }

@@ -213,10 +213,10 @@ const FIXED: &[&[u8]] = &[
     b"start x",
     b"room",
     b"room -",
-    b"room 9984 1",
+    b"room 22272 1",
     b"room 4294967295",
-    b"room 0009984",
-    b"room 9985",
+    b"room 00022272",
+    b"room 22273",
     b"room 4294967296",
     b"room 10000000000",
     b"room -1",
@@ -315,7 +315,7 @@ fn many_octets(rng: &mut Rng) -> Vec<u8> {
 /// Leading zeros as many as anyone likes, then a number near an edge.
 fn many_digits(rng: &mut Rng) -> Vec<u8> {
     let words: [&[u8]; 3] = [b"label ", b"room ", b"label "];
-    let numbers: [&[u8]; 5] = [b"16", b"4294967295", b"4294967296", b"9984", b"0"];
+    let numbers: [&[u8]; 5] = [b"16", b"4294967295", b"4294967296", b"22272", b"0"];
     let mut line = words[rng.below(words.len())].to_vec();
     line.resize(line.len() + rng.below(60), b'0');
     line.extend(numbers[rng.below(numbers.len())]);

@@ -19,7 +19,8 @@ pub enum Refusal {
     RootsFull = 15,
     Room = 16,
     Base = 17,
-    /// Octets that no table would write, of request [3].
+    /// Octets that no table would write, of request [3], or a table that the
+    /// form has no space for, of request [5].
     NoSave = 19,
     /// Octets that are no Notification record, of request [1].
     NoNotice = 21,

@@ -6,7 +6,7 @@ use crate::card::{
     NEIGHBOURS, THIS_NODE,
 };
 use crate::refusal::Refusal;
-use crate::wire::{TreeName, HIGHEST_LABEL, LONGEST_OPAQUE, LOWEST_LABEL};
+use crate::wire::{TreeName, HIGHEST_LABEL, LOWEST_LABEL};
 use std::collections::{BTreeMap, BTreeSet};
 use std::rc::Rc;
 
@@ -19,12 +19,18 @@ pub const LONGEST_SAVE: usize =
 
 const MARK: [u8; 2] = [0x4c, 0x53];
 const LONGEST_ROOT: usize = 16;
+/// The opaque values that this form has space for.
+pub const OPAQUE_SPACE: usize = 32;
 const MAPPED: u8 = 1;
 const AWAITING: u8 = 2;
 
 impl Card {
-    /// The table as octets, where they have room.
+    /// The table as octets, where its names have space in this form and the
+    /// octets have room.
     pub fn save(&self, room: usize) -> Result<Vec<u8>, Refusal> {
+        if self.names().any(|name| name.opaque.len() > OPAQUE_SPACE) {
+            return Err(Refusal::NoSave);
+        }
         let octets = write(self);
         if octets.len() > room {
             return Err(Refusal::Room);
@@ -92,7 +98,7 @@ fn write_use(octets: &mut Vec<u8>, label: u32, held: &LabelUse) {
 
 fn write_name(octets: &mut Vec<u8>, name: &TreeName) {
     write_spaced(octets, &name.root, LONGEST_ROOT);
-    write_spaced(octets, &name.opaque, LONGEST_OPAQUE);
+    write_spaced(octets, &name.opaque, OPAQUE_SPACE);
 }
 
 /// The length, the octets, and zeros to the end of the space.
@@ -262,7 +268,7 @@ impl<'a> Reader<'a> {
 
     fn name(&mut self) -> Option<Name> {
         let root = self.root()?;
-        let opaque = self.spaced(LONGEST_OPAQUE)?;
+        let opaque = self.spaced(OPAQUE_SPACE)?;
         (!opaque.is_empty()).then(|| Rc::new(TreeName { root, opaque }))
     }
 }

@@ -10,7 +10,7 @@ use crate::wire::{self, Kind, TreeName};
 pub fn day() -> Vec<String> {
     let mut page = Page::new();
     page.comment("request [3]: the table as octets, and back");
-    page.order(Order::Room(LONGEST_SAVE as u32));
+    page.room(LONGEST_SAVE);
     page.example();
     page.empty_table();
     page.between_save_and_restore();
@@ -51,7 +51,7 @@ impl Page {
     }
 
     fn save_in(&mut self, room: usize) {
-        self.order(Order::Room(room as u32));
+        self.room(room);
         self.order(Order::Save);
     }
 
@@ -97,7 +97,7 @@ impl Page {
         }
         let save = self.saved();
         self.comment("restoring asks for no room");
-        self.order(Order::Room(0));
+        self.room(0);
         self.order(Order::Start(16));
         self.restore(&save);
         self.order(Order::Room(u32::MAX));
@@ -202,7 +202,7 @@ impl Page {
     }
 
     fn full_card(&mut self) {
-        self.comment("32 routes, 64 trees and 256 labels in use: 23343 octets, refused 16 in room for 23342; room for 9984 is no whole buffer here");
+        self.comment("32 routes, 64 trees and 256 labels in use: 23343 octets, refused 16 in room for 23342; room for 22272 is no whole buffer here");
         self.fresh();
         for number in 1..=64 {
             self.tell(4, Kind::Mapping, &numbered(ROOT, number), 100);

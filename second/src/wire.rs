@@ -7,7 +7,9 @@ pub const GENERIC_LABEL: u16 = 0x0200;
 pub const U_BIT: u16 = 0x8000;
 pub const LOWEST_LABEL: u32 = 16;
 pub const HIGHEST_LABEL: u32 = 1_048_575;
-pub const LONGEST_OPAQUE: usize = 32;
+pub const LONGEST_OPAQUE: usize = 128;
+/// Mark and neighbour, then a message for a 16-octet root.
+pub const LONGEST_RECORD: usize = 4 + 42 + LONGEST_OPAQUE;
 pub const MESSAGE_HEAD: usize = 8;
 
 const P2MP: u8 = 6;

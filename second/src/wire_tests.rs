@@ -87,6 +87,7 @@ fn lengths_are_those_of_the_requirement() {
             assert_eq!(read_message(&message).expect("it is whole").name, name);
         }
     }
+    assert_eq!((LONGEST_OPAQUE, LONGEST_RECORD), (128, 174));
 }
 
 #[test]
@@ -182,11 +183,11 @@ fn refuses_7() {
     for root in [4, 16] {
         assert_eq!(element_refusal(&element_of(root, 0)), 7);
         assert_eq!(element_refusal(&element_of(root, 1)), 0);
-        assert_eq!(element_refusal(&element_of(root, 32)), 0);
-        assert_eq!(element_refusal(&element_of(root, 33)), 7);
+        assert_eq!(element_refusal(&element_of(root, 128)), 0);
+        assert_eq!(element_refusal(&element_of(root, 129)), 7);
         assert_eq!(element_refusal(&element_of(root, 257)), 7);
     }
-    let mut not_filled = element_of(4, 33);
+    let mut not_filled = element_of(4, 129);
     not_filled.pop();
     assert_eq!(element_refusal(&not_filled), 6);
 }
@@ -208,7 +209,7 @@ fn refuses_8() {
         assert_eq!(refusal(&with_label(value)), 8);
     }
     assert_eq!(
-        refusal(&framed(&[(FEC, &element_of(4, 33)), (GENERIC_LABEL, &[])])),
+        refusal(&framed(&[(FEC, &element_of(4, 129)), (GENERIC_LABEL, &[])])),
         7
     );
 }
