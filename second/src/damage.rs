@@ -70,10 +70,13 @@ const ELEMENT_DAMAGE: [OctetsDamage; 12] = [
     |_, octets| octets.extend(octets.clone()),
     |_, octets| octets.clear(),
     |rng, octets| nudge_opaque_length(rng, octets),
-    |rng, octets| resize_opaque(octets, rng.below(41)),
-    |rng, octets| resize_opaque(octets, [0, 1, 32, 33, 263][rng.below(5)]),
+    |rng, octets| resize_opaque(octets, rng.below(wire::LONGEST_OPAQUE + 9)),
+    |rng, octets| resize_opaque(octets, EDGE_LENGTHS[rng.below(EDGE_LENGTHS.len())]),
     |_, octets| change_family(octets),
 ];
+
+/// On both sides of what is taken, and of what form one of a save has.
+const EDGE_LENGTHS: [usize; 9] = [0, 1, 32, 33, 90, 127, 128, 129, 263];
 
 /// A valid message made exactly so long by a TLV that is to be stepped over.
 pub fn pad_message(octets: &[u8], length: usize) -> Vec<u8> {

@@ -11,7 +11,7 @@ use crate::rng::Rng;
 use crate::save::LONGEST_SAVE;
 use crate::save_damage;
 use crate::wire;
-use crate::world::World;
+use crate::world::{World, ALL_LENGTHS, FEW_LONG, SAVED_LENGTHS};
 
 pub struct Kind {
     pub name: &'static str,
@@ -160,7 +160,7 @@ impl Maker {
     fn new(seed: u64) -> Maker {
         let mut rng = Rng::new(seed);
         Maker {
-            world: World::new(&mut rng, 1, 1, 1),
+            world: World::new(&mut rng, 1, (1, 1), ALL_LENGTHS),
             rng,
             bench: Bench::new(),
             lines: Vec::new(),
@@ -301,7 +301,7 @@ pub fn make(kind: usize, seed: u64, lines: usize) -> Vec<Vec<u8>> {
 
 fn open_ordinary(maker: &mut Maker) {
     let roots = maker.rng.between(3, 7);
-    maker.world = World::new(&mut maker.rng, roots, 6, 4);
+    maker.world = World::new(&mut maker.rng, roots, (6, 4), ALL_LENGTHS);
     maker.route_roots(2);
     maker.grow(4);
 }
@@ -312,7 +312,7 @@ fn step_ordinary(maker: &mut Maker) {
 
 /// To 32 roots, 64 trees and no free label.
 fn open_full(maker: &mut Maker) {
-    maker.world = World::new(&mut maker.rng, MOST_ROOTS + 8, 34, 2);
+    maker.world = World::new(&mut maker.rng, MOST_ROOTS + 8, (34, 2), FEW_LONG);
     maker.route_roots(MOST_ROOTS);
     maker.grow(MOST_TREES);
     for _ in 0..60 {
@@ -341,7 +341,7 @@ fn step_full(maker: &mut Maker) {
 }
 
 fn open_moves(maker: &mut Maker) {
-    maker.world = World::new(&mut maker.rng, 4, 24, 10);
+    maker.world = World::new(&mut maker.rng, 4, (24, 10), FEW_LONG);
     maker.route_roots(3);
     maker.grow(36);
 }
@@ -355,7 +355,7 @@ fn step_moves(maker: &mut Maker) {
 }
 
 fn open_exhaust(maker: &mut Maker) {
-    maker.world = World::new(&mut maker.rng, 5, 14, 6);
+    maker.world = World::new(&mut maker.rng, 5, (14, 6), FEW_LONG);
     maker.route_roots(4);
     maker.grow(20);
 }
@@ -365,7 +365,7 @@ fn step_exhaust(maker: &mut Maker) {
 }
 
 fn open_held(maker: &mut Maker) {
-    maker.world = World::new(&mut maker.rng, 5, 12, 5);
+    maker.world = World::new(&mut maker.rng, 5, (12, 5), FEW_LONG);
     maker.route_roots(4);
     maker.grow(20);
 }
@@ -376,7 +376,7 @@ fn step_held(maker: &mut Maker) {
 
 /// Few trees: a save of a full card makes a line of 46 thousand digits.
 fn open_saves(maker: &mut Maker) {
-    maker.world = World::new(&mut maker.rng, 4, 3, 2);
+    maker.world = World::new(&mut maker.rng, 4, (3, 2), SAVED_LENGTHS);
     maker.give(Order::Room(LONGEST_SAVE as u32));
     maker.route_roots(3);
     maker.grow(3);
@@ -385,12 +385,29 @@ fn open_saves(maker: &mut Maker) {
 /// Saves now and then, and restores, with or without events between and also
 /// on another card, what was saved or something near it.
 fn step_saves(maker: &mut Maker) {
-    match maker.rng.below(14) {
+    match maker.rng.below(15) {
         0..=5 => maker.play(ORDINARY, 25),
+        14 => save_a_long_name(maker),
         6 => maker.play(HELD, 25),
         7 | 8 => save_now(maker),
         9 | 10 => restore(maker, false),
         _ => restore(maker, true),
+    }
+}
+
+/// A name that the form has no space for comes and goes; its label stays, if
+/// it had one, until it is released.
+fn save_a_long_name(maker: &mut Maker) {
+    let Some(name) = maker.world.long_name(&mut maker.rng) else {
+        return;
+    };
+    let element = wire::write_element(&name);
+    for order in [Order::Join(element.clone()), Order::Leave(element)] {
+        maker.give(order);
+        save_now(maker);
+    }
+    for order in awaited_releases(&mut maker.scene(), &name) {
+        maker.give(order);
     }
 }
 
@@ -536,12 +553,16 @@ fn random_message(rng: &mut Rng) -> Vec<u8> {
 }
 
 fn random_element(rng: &mut Rng) -> Vec<u8> {
-    let length = rng.below(50);
+    let (length, most_opaque) = if rng.percent(20) {
+        (rng.below(200), wire::LONGEST_OPAQUE + 12)
+    } else {
+        (rng.below(50), 12)
+    };
     let mut octets = rng.octets(length);
     let heads: [&[u8]; 4] = [&[6, 0, 1, 4], &[6, 0, 2, 16], &[6, 0, 1], &[]];
     octets.splice(..0, heads[rng.below(4)].iter().copied());
     if let Some(field) = octets.get_mut(8..10) {
-        field.copy_from_slice(&[0, rng.below(12) as u8]);
+        field.copy_from_slice(&[0, rng.below(most_opaque) as u8]);
     }
     if rng.percent(50) {
         let fitting = 10 + octets.get(9).map_or(0, |&octet| usize::from(octet));

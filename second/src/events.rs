@@ -181,6 +181,17 @@ pub fn awaited_release(scene: &mut Scene) -> Option<Order> {
     Some(told(scene, from, Kind::Release, &name, label))
 }
 
+/// The Release of each label that is awaited for the name.
+pub fn awaited_releases(scene: &mut Scene, name: &TreeName) -> Vec<Order> {
+    let mut labels = awaiting(scene.card);
+    labels.retain(|(_, _, awaited)| **awaited == *name);
+    let release = |(label, from, name): (u32, u32, Name)| {
+        let message = message(scene.rng, Kind::Release, &name, label);
+        Order::Take(from, message)
+    };
+    labels.into_iter().map(release).collect()
+}
+
 /// A name that differs from the given one as little as can be.
 fn near_name(rng: &mut Rng, name: &TreeName) -> TreeName {
     let mut near = name.clone();

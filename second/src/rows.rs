@@ -6,7 +6,7 @@ use crate::days::{room_near, spoil, HELD, MOVES, ORDINARY};
 use crate::events::{any_neighbour, block_label, choose, Scene};
 use crate::refusal::Refusal;
 use crate::rng::Rng;
-use crate::world::World;
+use crate::world::{World, FEW_LONG};
 
 /// None where the base is refused. With a number of free labels, the day is
 /// one on a card that has no more.
@@ -17,7 +17,7 @@ pub fn make(base: u32, seed: u64, count: usize, free: Option<usize>) -> Option<V
         card.use_up_beyond(free);
     }
     let mut rng = Rng::new(seed);
-    let world = World::new(&mut rng, 6, 8, 4);
+    let world = World::new(&mut rng, 6, (8, 4), FEW_LONG);
     let mut rows = Vec::new();
     while rows.len() < count {
         let event = next_event(&mut rng, &card, &world, rows.len());

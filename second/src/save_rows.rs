@@ -10,14 +10,14 @@ use crate::rng::Rng;
 use crate::rows::{event_text, is_event, list};
 use crate::save::LONGEST_SAVE;
 use crate::save_damage;
-use crate::world::World;
+use crate::world::{World, SAVED_LENGTHS};
 
 /// None where the base is refused.
 pub fn make(base: u32, seed: u64, count: usize) -> Option<Vec<String>> {
     let (answer, mut card) = Card::start(base);
     answer.ok()?;
     let mut rng = Rng::new(seed);
-    let world = World::new(&mut rng, 3, 3, 2);
+    let world = World::new(&mut rng, 3, (3, 2), SAVED_LENGTHS);
     let rows = (0..count).map(|place| row(&mut rng, &mut card, &world, place));
     Some(rows.collect())
 }
@@ -32,7 +32,7 @@ fn row(rng: &mut Rng, card: &mut Card, world: &World, place: usize) -> String {
             events.push_str(&format!("{} ∷ ", event_text(&event)));
         }
     }
-    let save = card.save(LONGEST_SAVE).expect("there is room");
+    let save = card.save(LONGEST_SAVE).expect("there is room and space");
     let spoiled = save_damage::spoil(rng, &save);
     let taken = card.clone().restore(&spoiled).is_ok();
     format!(

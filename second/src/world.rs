@@ -1,6 +1,7 @@
 //! The roots and tree names that a made day plays with.
 
 use crate::rng::Rng;
+use crate::save::OPAQUE_SPACE;
 use crate::wire::{TreeName, LONGEST_OPAQUE};
 
 pub struct World {
@@ -8,20 +9,34 @@ pub struct World {
     pub names: Vec<TreeName>,
 }
 
-const OPAQUE_LENGTHS: [usize; 7] = [7, 1, 32, 2, 31, 8, 16];
+/// Opaque values of all sizes, with those at an edge more often.
+pub const ALL_LENGTHS: &[usize] = &[7, 1, 32, 128, 2, 33, 31, 8, 90, 16, 127];
+/// Those that a save of form one has space for.
+pub const SAVED_LENGTHS: &[usize] = &[7, 1, 32, 2, 31, 8, 16];
+/// Mostly short, where long names would cost much.
+pub const FEW_LONG: &[usize] = &[7, 1, 33, 2, 32, 8, 128];
+const LONG_LENGTHS: [usize; 4] = [OPAQUE_SPACE + 1, 90, LONGEST_OPAQUE - 1, LONGEST_OPAQUE];
 
 impl World {
     /// The first root is broad: it has `broad` names, the others `each`.
-    pub fn new(rng: &mut Rng, roots: usize, broad: usize, each: usize) -> World {
-        let turn = rng.below(OPAQUE_LENGTHS.len());
+    pub fn new(
+        rng: &mut Rng,
+        roots: usize,
+        (broad, each): (usize, usize),
+        lengths: &[usize],
+    ) -> World {
+        let turn = rng.below(lengths.len());
         let first = rng.below(200);
         let roots: Vec<Vec<u8>> = (0..roots).map(|number| root(first + number)).collect();
         let mut names = Vec::new();
         for (place, root) in roots.iter().enumerate() {
             let count = if place == 0 { broad } else { each };
-            names.extend((0..count).map(|number| TreeName {
-                root: root.clone(),
-                opaque: opaque(number, turn),
+            names.extend((0..count).map(|number| {
+                let length = lengths[(number / 2 + place + turn) % lengths.len()];
+                TreeName {
+                    root: root.clone(),
+                    opaque: opaque(number, length),
+                }
             }));
         }
         World { roots, names }
@@ -43,6 +58,15 @@ impl World {
             roots: vec![root],
         }
     }
+
+    /// A name that a save of form one has no space for.
+    pub fn long_name(&self, rng: &mut Rng) -> Option<TreeName> {
+        let length = LONG_LENGTHS[rng.below(LONG_LENGTHS.len())];
+        Some(TreeName {
+            root: rng.pick(&self.roots)?,
+            opaque: opaque(rng.below(6), length),
+        })
+    }
 }
 
 /// Neighbouring numbers give a 4-octet root and a 16-octet one that begins
@@ -62,13 +86,13 @@ fn root(number: usize) -> Vec<u8> {
 }
 
 /// Neighbouring numbers give a name and the same one longer by a zero octet,
-/// or differing in its last octet only where it can't be longer.
-fn opaque(number: usize, turn: usize) -> Vec<u8> {
+/// or differing in its last octet only where it is not to be longer.
+fn opaque(number: usize, length: usize) -> Vec<u8> {
     let pair = number / 2;
-    let length = OPAQUE_LENGTHS[(pair + turn) % OPAQUE_LENGTHS.len()];
     let mut octets = vec![0; length];
     octets[0] = pair as u8 + 1;
-    if number % 2 == 1 && length < LONGEST_OPAQUE {
+    let may_grow = length != OPAQUE_SPACE && length < LONGEST_OPAQUE;
+    if number % 2 == 1 && may_grow {
         octets.push(0);
     } else if number % 2 == 1 {
         octets[length - 1] = 255;
@@ -82,10 +106,24 @@ mod tests {
 
     #[test]
     fn names_are_distinct() {
-        let world = World::new(&mut Rng::new(1), 40, 40, 3);
-        for (place, name) in world.names.iter().enumerate() {
-            assert!(!world.names[..place].contains(name));
+        for lengths in [ALL_LENGTHS, SAVED_LENGTHS, FEW_LONG] {
+            let world = World::new(&mut Rng::new(1), 40, (40, 3), lengths);
+            for (place, name) in world.names.iter().enumerate() {
+                assert!(!world.names[..place].contains(name));
+            }
+            assert_eq!(world.names.len(), 40 + 39 * 3);
         }
-        assert_eq!(world.names.len(), 40 + 39 * 3);
+    }
+
+    #[test]
+    fn lengths_of_names() {
+        for (lengths, most) in [(ALL_LENGTHS, LONGEST_OPAQUE), (SAVED_LENGTHS, OPAQUE_SPACE)] {
+            let world = World::new(&mut Rng::new(1), 7, (40, 12), lengths);
+            let most_met = world.names.iter().map(|name| name.opaque.len()).max();
+            assert_eq!(most_met, Some(most));
+            for length in lengths {
+                assert!(world.names.iter().any(|n| n.opaque.len() == *length));
+            }
+        }
     }
 }
