@@ -120,7 +120,7 @@ fn element_claiming(length: u16, opaque: &[u8]) -> Vec<u8> {
 }
 
 /// A Mapping of one element, with further octets behind its label.
-fn mapping(identifier: u32, element: &[u8], label: u32, further: &[u8]) -> Vec<u8> {
+pub fn mapping(identifier: u32, element: &[u8], label: u32, further: &[u8]) -> Vec<u8> {
     let mut tlvs = wire::write_tlv(wire::FEC, element);
     tlvs.extend(wire::write_tlv(wire::GENERIC_LABEL, &label.to_be_bytes()));
     tlvs.extend(further);
@@ -339,7 +339,7 @@ impl Page {
     }
 
     /// A message that is refused by that number, and its notice.
-    fn told(&mut self, number: u32, octets: Vec<u8>) {
+    pub fn told(&mut self, number: u32, octets: Vec<u8>) {
         self.order(Order::Take(1, octets.clone()));
         self.order(Order::Notice(1, number, octets));
     }

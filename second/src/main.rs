@@ -10,6 +10,7 @@ mod differ;
 mod events;
 mod held_cases;
 mod held_events;
+mod long_cases;
 mod notice;
 mod notice_records;
 mod odd_lines;
@@ -175,6 +176,7 @@ fn write_gate_input(output: &mut impl Write) -> io::Result<()> {
         cases::notices(),
         held_cases::day(),
         save_cases::day(),
+        long_cases::day(),
     ] {
         writeln!(output, "{}", page.join("\n"))?;
     }
