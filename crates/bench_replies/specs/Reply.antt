@@ -31,7 +31,7 @@ counted word o room = record { text = countLine word (o .answer); card = o .card
 unfoldable pub told : List ℕ → Out → ℕ → Reply
 told word o room = record { text = eventLine word (o .answer) (o .octets); card = o .card; room = room }
 
--- an event and a notice are lent 9984 octets and a save 23343, or the room where that is less
+-- an event and a notice are lent 22272 octets and a save 23343, or the room where that is less
 abbrev pub eventRoom : ℕ → ℕ
 eventRoom room = min room sentLimit
 

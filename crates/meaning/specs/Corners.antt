@@ -3,11 +3,11 @@
 use Prim.Native.Nat.{ℕ, zero, suc, _+_, _-_}
 use mathlib.Core.Bool.{Bool, true, _&&_}
 use mathlib.Core.List.{List, [], _∷_, _++_}
-use lib.ListN.{length, replicate}
+use lib.ListN.{length, take, replicate}
 use lib.Dec.{T, eqb}
 use Rattle.meaning.specs.Octets.{same, two, four}
 use Rattle.meaning.specs.Wire.{rootIn, element, tlv, mapping, withdraw, release, recordOf}
-use Rattle.meaning.specs.Card.{treeLimit, labelCount, Route, Tree, Use, free, mapped, awaiting, Card, withNext, withTrees, withLabels, freeLabels, lookupName}
+use Rattle.meaning.specs.Card.{treeLimit, labelCount, Route, Tree, Use, free, mapped, awaiting, Card, withNext, withTrees, withLabels, freeLabels, lookupName, withRoutes}
 use Rattle.meaning.specs.Events.{tell, Event, receive, join, leave, route, event, start}
 use Rattle.meaning.specs.Computing.{computing}
 use Rattle.meaning.specs.Examples.{Row, anew, then, enough, flat, feed, agrees, wrong, NoneWrong, A, wide, firstCard, heard, wrote}
@@ -349,6 +349,25 @@ endRows =
     then (heard 5 withdraw A 100) 0 (wrote 1 5 release 100) 254 17 (1 ∷ []) ∷
     []
 
+-- ---- the longest order
+
+-- 64 trees of a 16-octet root with the longest names, each with a leaf and a label mapped to neighbour 0; the other labels are free
+unfoldable pub load : ℕ → ℕ → List Tree
+load zero k = []
+load (suc n) k = record { name = element 2 (replicate 16 32) (k ∷ replicate 127 0); branches = replicate 16 0; leaf = true; label = 16 + k } ∷ load n (suc k)
+
+unfoldable pub loaded : Card
+loaded =
+    let ts = load 64 0 in
+    withTrees ts (withLabels (take 64 (usedBy ts) ++ replicate 192 free) (withRoutes (record { root = replicate 16 32; via = 0 } ∷ []) firstCard))
+
+-- each tree gives one label up and is given another, in two records of 174 octets; one octet less is too little room
+unfoldable pub mostMoved : Bool
+mostMoved =
+    let o = event 22272 loaded (route (replicate 16 32) 2) in
+    eqb (o .answer) 0 && eqb (length (o .octets)) 22272 && eqb (o .card .next) 129
+    && eqb (event 22271 loaded (route (replicate 16 32) 2) .answer) 16
+
 -- ---- what no row shows
 
 -- the roots that have a route, in their order, one after the other
@@ -393,5 +412,6 @@ pub corners-shown : NoneWrong (wrong 1 firstCard firstCard readings)
     × NoneWrong (wrong 1 (left 0 paired) firstCard needyRows)
     × NoneWrong (wrong 1 (left 2 paired) firstCard countedRows)
     × T others
-unfolding computing readings other long packed fec label said odd wrong firstCard agrees flat feed A wide heard wrote kin grown scarce left crowd usedBy fullCard fullRows scarceRows lastRows root rooted rootRows rootedRows endRows heldRows paired needyRows countedRows rootsOf rerouted startsAs others
-corners-shown = (tt, tt, tt, tt, tt, tt, tt, tt, tt, tt, tt)
+    × T mostMoved
+unfolding computing readings other long packed fec label said odd wrong firstCard agrees flat feed A wide heard wrote kin grown scarce left crowd usedBy fullCard fullRows scarceRows lastRows root rooted rootRows rootedRows endRows heldRows paired needyRows countedRows rootsOf rerouted startsAs others load loaded mostMoved
+corners-shown = (tt, tt, tt, tt, tt, tt, tt, tt, tt, tt, tt, tt)

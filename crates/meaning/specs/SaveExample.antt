@@ -4,18 +4,19 @@ use Prim.Native.Nat.{ℕ}
 use mathlib.Core.Path.{_≡_, refl}
 use mathlib.Core.Bool.{Bool, true, _&&_}
 use mathlib.Core.List.{List, [], _∷_, _++_}
+use lib.ListN.{replicate}
 use lib.Dec.{eqb}
 use Rattle.meaning.specs.Octets.{same, all}
 use Rattle.meaning.specs.Wire.{rootIn, element, mapping}
-use Rattle.meaning.specs.Card.{Card, fresh}
-use Rattle.meaning.specs.Events.{Out, Event, join, route, event, start}
+use Rattle.meaning.specs.Card.{Card, free, mapped, fresh, withLabels}
+use Rattle.meaning.specs.Events.{Out, Event, join, leave, route, event, start}
 use Rattle.meaning.specs.Computing.{computing}
-use Rattle.meaning.specs.Examples.{enough, A, heard}
-use Rattle.meaning.specs.Save.{padded, spaced, nameSaved, marked, headSaved, routeSaved, foursOf, treeSaved, useSaved, routesSaved, treesSaved, usesSaved, saved, save, spacedIn, nameIn, routeRead, foursIn, treeRead, useRead, routesRead, treesRead, usesRead, isMappedFor, labelled, allLabelled, tableIn, isName, onceEach, isRoute, sameRoot, isBranchLabel, isTree, sameName, isUse, isCarried, allCarried, carriesOwn, holdsRight, keepsRules, isSave, restore, fitsSave, isShortTree, isShort, isShortUse}
+use Rattle.meaning.specs.Examples.{enough, A, wide, heard}
+use Rattle.meaning.specs.Save.{padded, spaced, nameSaved, marked, headSaved, routeSaved, foursOf, treeSaved, useSaved, routesSaved, treesSaved, usesSaved, saved, isShort, isShortTree, isShortUse, fitsSave, save, spacedIn, nameIn, routeRead, foursIn, treeRead, useRead, routesRead, treesRead, usesRead, isMappedFor, labelled, allLabelled, tableIn, isName, onceEach, isRoute, sameRoot, isBranchLabel, isTree, sameName, isUse, isCarried, allCarried, carriesOwn, holdsRight, keepsRules, isSave, restore}
 
 -- as `computing`, for the definitions of saves
 unfoldable pub computingSaves : ℕ
-unfolding computing padded spaced nameSaved marked headSaved routeSaved foursOf treeSaved useSaved routesSaved treesSaved usesSaved saved save spacedIn nameIn routeRead foursIn treeRead useRead routesRead treesRead usesRead isMappedFor labelled allLabelled tableIn all isName onceEach isRoute sameRoot isBranchLabel isTree sameName isUse isCarried allCarried carriesOwn holdsRight keepsRules isSave restore
+unfolding computing padded spaced nameSaved marked headSaved routeSaved foursOf treeSaved useSaved routesSaved treesSaved usesSaved saved isShort isShortTree isShortUse fitsSave save spacedIn nameIn routeRead foursIn treeRead useRead routesRead treesRead usesRead isMappedFor labelled allLabelled tableIn all isName onceEach isRoute sameRoot isBranchLabel isTree sameName isUse isCarried allCarried carriesOwn holdsRight keepsRules isSave restore
 computingSaves = 0
 
 -- ---- one whole example
@@ -155,5 +156,51 @@ savesRight =
     && agrees (save 14 (fresh 16)) 16 [] (saved (fresh 16)) && agrees (save 15 (fresh 16)) 0 (saved (fresh 16)) (saved (fresh 16))
 
 pub room-shown : savesRight ≡ true
-unfolding computingSaves fitsSave isShortTree isShort isShortUse computing agrees savesRight B after swapped headOf routeA treeA treeB label16 label17 example A heard
+unfolding computingSaves computing agrees savesRight B after swapped headOf routeA treeA treeB label16 label17 example A heard
 room-shown = refl
+
+-- ---- values of 32 octets, which have their space, and longer ones
+
+-- a name of B's root with a value of n octets, as `wide` is one of A's
+unfoldable pub wideB : ℕ → List ℕ
+wideB n = element 2 (rootIn B) (replicate n 7)
+
+-- in a tree alone, for which there is no route
+unfoldable pub inTree : ℕ → Card
+inTree n = after (start 16 .card) (join (wideB n) ∷ [])
+
+-- in a tree and in the label that it carries
+unfoldable pub inBoth : ℕ → Card
+inBoth n = after (start 16 .card) (route (rootIn A) 0 ∷ join (wide n) ∷ [])
+
+-- in an awaiting label alone: its tree is gone
+unfoldable pub inAwaiting : ℕ → Card
+inAwaiting n = after (inBoth n) (leave (wide n) ∷ [])
+
+-- in a mapped label alone, as no history leaves it
+unfoldable pub inMapped : ℕ → Card
+inMapped n = withLabels (mapped 0 (wideB n) ∷ replicate 255 free) (fresh 16)
+
+-- the answers in so much room
+unfoldable pub answersIn : List ℕ → Card → List ℕ
+answersIn [] c = []
+answersIn (room ∷ rooms) c = save room c .answer ∷ answersIn rooms c
+
+-- 16 and 0 by the room where the value has 32 octets; 19 in any room, none and more than any save takes, where it has 33
+unfoldable pub longRight : Bool
+longRight =
+    same (answersIn (132 ∷ 133 ∷ []) (inTree 32)) (16 ∷ 0 ∷ []) && same (answersIn (0 ∷ 132 ∷ 133 ∷ 23343 ∷ []) (inTree 33)) (19 ∷ 19 ∷ 19 ∷ 19 ∷ [])
+    && same (answersIn (212 ∷ 213 ∷ []) (inBoth 32)) (16 ∷ 0 ∷ []) && same (answersIn (0 ∷ 212 ∷ 213 ∷ 23343 ∷ []) (inBoth 33)) (19 ∷ 19 ∷ 19 ∷ 19 ∷ [])
+    && same (answersIn (94 ∷ 95 ∷ []) (inAwaiting 32)) (16 ∷ 0 ∷ []) && same (answersIn (0 ∷ 94 ∷ 95 ∷ 23343 ∷ []) (inAwaiting 33)) (19 ∷ 19 ∷ 19 ∷ 19 ∷ [])
+    && same (answersIn (73 ∷ 74 ∷ []) (inMapped 32)) (16 ∷ 0 ∷ []) && same (answersIn (0 ∷ 73 ∷ 74 ∷ 23343 ∷ []) (inMapped 33)) (19 ∷ 19 ∷ 19 ∷ 19 ∷ [])
+    -- and the longest
+    && same (answersIn (23343 ∷ []) (inTree 128)) (19 ∷ []) && same (answersIn (23343 ∷ []) (inAwaiting 128)) (19 ∷ [])
+
+pub long-shown : longRight ≡ true
+unfolding computingSaves computing longRight answersIn wide wideB inTree inBoth inAwaiting inMapped after A B
+long-shown = refl
+
+-- nothing is written, and the table stays
+pub long-stays : save 23343 (inBoth 33) ≡ record { answer = 19; octets = []; card = inBoth 33 }
+unfolding computingSaves computing wide inBoth after A
+long-stays = refl

@@ -2,7 +2,7 @@
 -- Assumes nothing.
 use Prim.Native.Nat.{ℕ, zero, suc, _*_, _≤_, zero-le}
 use native.Mathlib.Omega.{arith}
-use mathlib.Core.Path.{_≡_}
+use mathlib.Core.Path.{_≡_, refl}
 use mathlib.Core.List.{List, [], _∷_}
 use lib.ListN.{length, length-append}
 use lib.Dec.{eqb}
@@ -18,6 +18,10 @@ use Rattle.promise.specs.RuleLaws.{Ruled}
 use Rattle.promise.specs.EventLaws.{became, Apart, Keeps, event-keeps}
 use Rattle.promise.specs.PromiseProof.{history-upheld, sends-said}
 
+-- the numbers that the limits below come to
+pub limits : (recordLimit ≡ 174) × (sentLimit ≡ 22272)
+limits = (refl, refl)
+
 unfoldable pub AllShort : List Sent → Type 0
 AllShort [] = Unit {0}
 AllShort (m ∷ ms) = ((id : ℕ) → length (recordOf id m) ≤ recordLimit) × AllShort ms
@@ -26,9 +30,9 @@ pub record Sized (c : Card) : Type 0 where
   pub trees : length (c .trees) ≤ treeLimit
   pub routes : length (c .routes) ≤ routeLimit
   pub labels : length (c .labels) ≡ labelCount
-  -- each message that a step sends makes a record of at most 78 octets
+  -- each message that a step sends makes a record of at most 174 octets
   pub short : (s : Step) → AllShort (sends c s)
-  -- a route order sends at most two messages for each tree: 9984 octets
+  -- a route order sends at most two messages for each tree: 22272 octets
   pub order : (room : ℕ) (r : List ℕ) (via : ℕ) → length (event room c (route r via) .octets) ≤ sentLimit
 
 -- ---- a record
