@@ -11,7 +11,7 @@ use borrow.Author.Tests.{ltb-true, ltb-false}
 use Rattle.meaning.specs.Lists.{by-test}
 use Rattle.octets.specs.Part.{mid, shifted}
 use Rattle.octets.proofs.Parts.{mid-length, mid-in, mid-before, mid-after, moved-length, moved-in, shifted-length}
-use Rattle.octets.proofs.Tab.{tab-ext, tab-is}
+use Rattle.octets.proofs.Tab.{tab-length, tab-ext, tab-is}
 use Rattle.memory.specs.Memory.{upTo, textAt}
 use Rattle.memory.proofs.Memory.{upTo-le, upTo-in}
 use Rattle.memory.specs.Parts.{Written, Closed}
@@ -80,15 +80,23 @@ lower a e w p q k xs ys cl hp hq he j lt =
     let i : q + j + w ≡ p + j = omega arith in
     cl .down (q + j) (omega arith) (omega arith) ∙ ap (λ (n : ℕ). getD xs n 0) i
 
--- the text goes with its slot
-pub text-carried : (k p q : ℕ) (os os' : List ℕ) → Carries p q (k + 1) os os' → textAt k os' q ≡ textAt k os p
+-- the text goes with its own octets
+pub text-brought : (k p q : ℕ) (os os' : List ℕ) → Carries p q (1 + length (textAt k os p)) os os' → textAt k os' q ≡ textAt k os p
 unfolding textAt
-text-carried k p q os os' h =
+text-brought k p q os os' h =
     let z : getD os' q 0 ≡ getD os p 0 = simp add-zero at (h 0 (omega arith)) in
+    let l : length (textAt k os p) ≡ upTo k (getD os p 0) = tab-length (upTo k (getD os p 0)) (λ j. getD os (p + 1 + j) 0) in
     rw z (tab-ext (upTo k (getD os p 0)) _ _ (λ j lt.
     let x : q + 1 + j ≡ q + (1 + j) = omega arith in
     let y : p + (1 + j) ≡ p + 1 + j = omega arith in
-    ap (λ (n : ℕ). getD os' n 0) x ∙ h (1 + j) (omega (arith, upTo-le k (getD os p 0))) ∙ ap (λ (n : ℕ). getD os n 0) y))
+    ap (λ (n : ℕ). getD os' n 0) x ∙ h (1 + j) (omega (arith, l)) ∙ ap (λ (n : ℕ). getD os n 0) y))
+
+-- and so with its slot
+pub text-carried : (k p q : ℕ) (os os' : List ℕ) → Carries p q (k + 1) os os' → textAt k os' q ≡ textAt k os p
+unfolding textAt
+text-carried k p q os os' h =
+    let l : length (textAt k os p) ≡ upTo k (getD os p 0) = tab-length (upTo k (getD os p 0)) (λ j. getD os (p + 1 + j) 0) in
+    text-brought k p q os os' (λ j lt. h j (omega (arith, l, upTo-le k (getD os p 0))))
 
 -- the text that was put in
 pub text-put : (k at : ℕ) (o os os' : List ℕ) → length o ≤ k → Written at (length o ∷ o) os os' → textAt k os' at ≡ o

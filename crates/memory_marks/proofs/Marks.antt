@@ -20,16 +20,16 @@ use Rattle.memory.specs.Parts.{Written}
 use Rattle.memory.specs.Memory.{treeName, labelName, baseIn, treeCount, isFreeAt, markAt, markUse, markPlace, isMappedAt, labelIn, carriesAt, ownPlace, ownLabel, treeIn, cardOf, Relabelled}
 use Rattle.memory.proofs.Memory.{treeCount-le, base-same, free-same, own-same, tree-with, tree-same, label-same, but-rows, but-trees, agree-refl, agree-set, tree-at}
 use Rattle.memory.proofs.Marks.{mapped-at, mapped-use, unmapped-free, label-mapped, label-awaiting, carried-in, not-mapped, not-named, own-some, use-kept, relabelled-again, remarked, remarked-free, own-beside}
-use Rattle.memory.proofs.Parts.{written, Carries, text-carried, text-put}
+use Rattle.memory.proofs.Parts.{written, Carries, text-brought, text-put}
 use Rattle.memory.proofs.Trees.{label-at}
 
 -- ---- a label mapped
 
--- where the slot of the tree's name was copied, the label remembers the name
-remembered : (ns os ms qs : List ℕ) (p i n : ℕ) → n < 16 → i < treeCount ns → isFreeAt ms p ≡ false → markUse (markAt ms p) ≡ n → Carries (i * nameSpace) (labelNames + p * nameSpace) nameSpace os qs → labelIn ms qs p ≡ mapped n (treeAt i (cardOf ns os) .name)
+-- where the octets of the tree's name were copied, the label remembers the name
+remembered : (ns os ms qs : List ℕ) (p i n : ℕ) → n < 16 → i < treeCount ns → isFreeAt ms p ≡ false → markUse (markAt ms p) ≡ n → Carries (i * nameSpace) (labelNames + p * nameSpace) (1 + length (treeName os i)) os qs → labelIn ms qs p ≡ mapped n (treeAt i (cardOf ns os) .name)
 unfolding labelName treeIn treeName
 remembered ns os ms qs p i n hn hi f e h =
-    rw (label-mapped ms p qs f (omega arith), e, text-carried nameLimit (i * nameSpace) (labelNames + p * nameSpace) os qs h, tree-at ns os i hi) refl
+    rw (label-mapped ms p qs f (omega arith), e, text-brought nameLimit (i * nameSpace) (labelNames + p * nameSpace) os qs h, tree-at ns os i hi) refl
 
 both-set : (ns os : List ℕ) (p i l : ℕ) (u : Use) → withTrees (set (cardOf ns os .trees) i (withLabel l (treeAt i (cardOf ns os)))) (withLabels (set (cardOf ns os .labels) p u) (cardOf ns os)) ≡ setLabel i l (setUse (baseIn ns + p) u (cardOf ns os))
 unfolding setLabel setUse withTrees withLabels treeAt cardOf
@@ -37,10 +37,10 @@ both-set ns os p i l u =
     let back : baseIn ns + p - baseIn ns ≡ p = omega arith in
     rw back refl
 
-pub map-label : (ns fs os qs : List ℕ) (p i n : ℕ) → Numbers ns → Names os → p < labelCount → i < treeCount ns → i < treeLimit → n < 16 → isFreeAt ns p ≡ true
-    → Relabelled p ns fs → isFreeAt fs p ≡ false → qs ≡ mid (labelNames + p * nameSpace) nameSpace os (take nameSpace (drop (i * nameSpace) os))
+pub map-label : (ns fs os qs : List ℕ) (p i n m : ℕ) → Numbers ns → Names os → p < labelCount → i < treeCount ns → i < treeLimit → n < 16 → isFreeAt ns p ≡ true
+    → Relabelled p ns fs → isFreeAt fs p ≡ false → m ≡ 1 + length (treeName os i) → m ≤ nameSpace → qs ≡ mid (labelNames + p * nameSpace) m os (take m (drop (i * nameSpace) os))
     → cardOf (set (set fs (markColumn + p) (n + 256 * i)) (ownColumn + i) p) qs ≡ setLabel i (baseIn ns + p) (setUse (baseIn ns + p) (mapped n (treeAt i (cardOf ns os) .name)) (cardOf ns os))
-map-label ns fs os qs p i n hl ho hp hi h64 hn hf hr ht hq =
+map-label ns fs os qs p i n m hl ho hp hi h64 hn hf hr ht hm hs hq =
     but-rows ns ms os qs (set (cardOf ns os .trees) i (withLabel (baseIn ns + p) (treeAt i (cardOf ns os)))) (set (cardOf ns os .labels) p (mapped n (treeAt i (cardOf ns os) .name)))
     (λ j x y. keep j (omega arith) (λ e. omega arith))
     (λ j x y. keep j (omega arith) (λ e. omega arith))
@@ -89,16 +89,16 @@ map-label ns fs os qs p i n hl ho hp hi h64 hn hf hr ht hq =
     own = getD-set-same ks (ownColumn + i) p 0 (omega (arith, r .long))
 
     slot : List ℕ
-    slot = take nameSpace (drop (i * nameSpace) os)
+    slot = take m (drop (i * nameSpace) os)
 
-    part : length slot ≡ nameSpace
-    part = length-take-le nameSpace (drop (i * nameSpace) os) (simp length-drop (omega arith))
+    part : length slot ≡ m
+    part = length-take-le m (drop (i * nameSpace) os) (simp length-drop (omega arith))
 
     w : Written (labelNames + p * nameSpace) slot os qs
-    w = rw hq (written (labelNames + p * nameSpace) nameSpace os slot (omega arith) part)
+    w = rw hq (written (labelNames + p * nameSpace) m os slot (omega arith) part)
 
-    copied : Carries (i * nameSpace) (labelNames + p * nameSpace) nameSpace os qs
-    copied j lt = w .here j (omega (arith, part)) ∙ getD-take nameSpace (drop (i * nameSpace) os) j 0 lt ∙ getD-drop (i * nameSpace) os j 0
+    copied : Carries (i * nameSpace) (labelNames + p * nameSpace) (1 + length (treeName os i)) os qs
+    copied j lt = w .here j (omega (arith, part)) ∙ getD-take m (drop (i * nameSpace) os) j 0 (omega arith) ∙ getD-drop (i * nameSpace) os j 0
 
     base : baseIn ms ≡ baseIn ns
     base = base-same ns ms os qs (λ j x y. keep j (omega arith) (λ e. omega arith))

@@ -5,6 +5,9 @@ use borrow.Author.Needs.{needs}
 use Rattle.memory_marks.proofs.map_label.Statement.{statement}
 use Rattle.memory_marks.proofs.map_label.Tie as tie
 
+used-octets-requires : tie.Need-used-octets-requires
+used-octets-requires c κs = search needs
+
 mul-copy-within : tie.Need-mul-copy-within
 mul-copy-within c = search needs
 
@@ -54,13 +57,15 @@ returns : tie.Need-returns
 returns c =
     let t = c .before .before in
     let k = t .before .before .before .before in
-    let s = k .before .before .before .before in
-    map-label _ _ _ _ _ _ _ (s .pre .0) (s .pre .1) (s .pre .2) (s .pre .3) (s .pre .4) (s .pre .5) (s .pre .6) (t .set-taken .ensures .0) (t .set-taken .ensures .1) (k .copy-within .ensures)
+    let u = k .before .before in
+    let s = u .before .before .before .before in
+    map-label _ _ _ _ _ _ _ _ (s .pre .0) (s .pre .1) (s .pre .2) (s .pre .3) (s .pre .4) (s .pre .5) (s .pre .6) (t .set-taken .ensures .0) (t .set-taken .ensures .1) (u .used-octets .ensures .0) (u .used-octets .ensures .1) (k .copy-within .ensures)
 
 pub map-label-spec : {M : Type 1} → statement M
 map-label-spec =
     tie.close
     (tie.spec
+    used-octets-requires
     mul-copy-within
     mul-copy-within-2
     add-copy-within
