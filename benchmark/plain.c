@@ -7,7 +7,7 @@
 
 #include <string.h>
 
-enum { NO_LABEL = CARD_LABELS, NAME_SLOT = 55, ROOT_SLOT = 17, RECORD_HEAD = 24 };
+enum { NO_LABEL = CARD_LABELS, NAME_SLOT = 1 + CARD_ELEMENT_MOST, ROOT_SLOT = 17, RECORD_HEAD = 24 };
 
 enum { MAPPING = 0x0400, WITHDRAW = 0x0402, RELEASE = 0x0403 };
 
@@ -298,7 +298,7 @@ static void give_label(struct card c, struct output *o, size_t slot, uint32_t to
     size_t p = take_lowest_free(t);
     t->mark[p] = (MAPPED + to) | slot << SLOT_SHIFT;
     t->own_label[slot] = p;
-    memcpy(c.texts->label[p], c.texts->tree[slot], NAME_SLOT);
+    keep(c.texts->label[p], kept(c.texts->tree[slot]));
     send(c, o, to, MAPPING, kept(c.texts->tree[slot]), (uint32_t)(t->base + p));
 }
 

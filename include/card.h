@@ -35,7 +35,7 @@ extern "C" {
 
 enum {
     CARD_NUMBERS = 1448,        /* elements of `numbers` */
-    CARD_NAMES = 18144,         /* octets of `names` */
+    CARD_NAMES = 48864,         /* octets of `names` */
     CARD_NEIGHBOURS = 16,       /* neighbours are 0 to 15; elements of `branches` */
     CARD_TREES = 64,            /* most trees */
     CARD_ROOTS = 32,            /* most roots with a route */
@@ -44,10 +44,10 @@ enum {
     CARD_BASE_MOST = 1048320,
     CARD_LABEL_LEAST = 16,      /* labels that a neighbour may give */
     CARD_LABEL_MOST = 1048575,
-    CARD_OPAQUE_MOST = 32,      /* octets of an opaque value */
-    CARD_ELEMENT_MOST = 54,     /* octets of the longest element that is taken */
-    CARD_RECORD_MOST = 78,      /* octets of the longest record */
-    CARD_OUT_MOST = 9984        /* most octets that one call writes */
+    CARD_OPAQUE_MOST = 128,     /* octets of an opaque value */
+    CARD_ELEMENT_MOST = 150,    /* octets of the longest element that is taken */
+    CARD_RECORD_MOST = 174,     /* octets of the longest record */
+    CARD_OUT_MOST = 22272       /* most octets that one call writes */
 };
 
 /* A route: a neighbour's number, or one of these. */
@@ -65,7 +65,7 @@ enum card_answer {
     CARD_TLV_OVERRUN = 4,       /* a TLV's head or value runs past the message */
     CARD_BAD_TLV_ORDER = 5,     /* the first TLV is not FEC, or the second not Generic Label, or absent */
     CARD_BAD_ELEMENT = 6,       /* not exactly one P2MP element; in a route order, a root not of 4 or 16 octets */
-    CARD_BAD_OPAQUE = 7,        /* opaque length 0 or above 32 */
+    CARD_BAD_OPAQUE = 7,        /* opaque length 0 or above 128 */
     CARD_BAD_LABEL = 8,         /* Label TLV length not 4, or label under 16 or above 1048575 */
     CARD_UNKNOWN_TLV = 9,       /* a further TLV with U bit clear */
     CARD_OTHER_LABEL = 10,      /* Mapping: that branch stands with another label */
