@@ -15,7 +15,7 @@ use Rattle.meaning.specs.Events.{Out, roomShort, refuse, baseOutside, no
 
 -- ---- sizes
 
--- the space that an opaque value has in a save
+-- the space that an opaque value has in a save: one of 33 octets or more, as a name may have, is refused 19
 abbrev pub savedOpaque : ℕ
 savedOpaque = 32
 
@@ -52,7 +52,7 @@ saveLimit = headSize + routeLimit * routeSize + treeLimit * treeSize + labelCoun
 unfoldable pub padded : ℕ → List ℕ → List ℕ
 padded n o = o ++ replicate (n - length o) 0
 
--- octets in a space of n, with their number before them; what goes beyond the space, as no name of a table that keeps the rules does, is left out
+-- octets in a space of n, with their number before them; what goes beyond the space, as no name of a table that is saved does, is left out
 unfoldable pub spaced : ℕ → List ℕ → List ℕ
 spaced n o = length (take n o) ∷ padded n (take n o)
 
@@ -253,7 +253,7 @@ keepsRules c =
 
 -- ---- taking a save
 
--- 19: octets that no table keeping the rules in force would write
+-- 19: octets that no table keeping the rules in force would write. (One with a longer value writes none, and what is read has none: `read-fits`.)
 unfoldable pub isSave : List ℕ → Bool
 isSave o = keepsRules (tableIn o) && same (saved (tableIn o)) o
 

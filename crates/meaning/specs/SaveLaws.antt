@@ -170,7 +170,7 @@ module _ (room : ℕ) (c : Card) (s : fitsSave c ≡ true) where
   unfolding save roomShort
   save-whole h = rw (s, le-ltb room (length (saved c)) h) refl
 
--- What a table that keeps the rules writes is taken, and nothing else is.
+-- What a table writes that keeps the rules, and whose values have their space, is taken, and nothing else is.
 pub save-taken : (c : Card) → keepsRules c ≡ true → fitsSave c ≡ true → isSave (saved c) ≡ true
 unfolding isSave
 save-taken c h s = rw (read-back c h s, h, same-refl (saved c)) refl
@@ -257,7 +257,7 @@ read-fits o =
     let us : List Use = usesRead (fourAt o 3) (twoAt o 13) (drop (getD o 12 0 * treeSize) (drop (headSize + getD o 11 0 * routeSize) o)) (replicate labelCount free) in
     rw (trees-short (getD o 12 0) (drop (headSize + getD o 11 0 * routeSize) o) (fourAt o 3) us, uses-short (fourAt o 3) (twoAt o 13) (drop (getD o 12 0 * treeSize) (drop (headSize + getD o 11 0 * routeSize) o)) (replicate labelCount free) (free-short labelCount)) refl
 
--- 19 is given to octets that no table keeping the rules writes, and to no others.
+-- 19 is given to octets that no table writes which keeps the rules and whose values have their space, and to no others.
 pub refused-exactly : (o : List ℕ) → isSave o ≡ false ↔ ((c : Card) → keepsRules c ≡ true → fitsSave c ≡ true → saved c ≡ o → ⊥)
 refused-exactly o = (
   (λ h c k s e. let z : true ≡ false = sym (save-taken c k s) ∙ ap isSave e ∙ h in let z′ : _≡_ {A = ℕ} 0 1 = cc in omega arith),

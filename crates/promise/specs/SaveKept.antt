@@ -1,4 +1,4 @@
--- The save over a history: every table that a history leaves keeps the rules in force, so that its save is taken; and demand 3 continues over a card swap.
+-- The save over a history: every table that a history leaves keeps the rules in force, so that its save, where 19 does not refuse it, is taken; and demand 3 continues over a card swap.
 -- Assumes nothing.
 use Prim.Native.Nat.{ℕ, _+_, _≤_, _<_}
 use native.Mathlib.Nat.{add-sub-cancel-left}
@@ -159,7 +159,7 @@ pub history-writable : (base : ℕ) (steps : List Step) → Writable (history ba
 unfolding history
 history-writable base steps = steps-writable _ steps (started base) (start-writable base)
 
--- After any history the table keeps the rules in force, and so its save is taken.
+-- After any history the table keeps the rules in force, and so its save is taken, where there is one.
 pub history-keeps-rules : (base : ℕ) (steps : List Step) → keepsRules (history base steps .card) ≡ true
 history-keeps-rules base steps = past-keeps-rules (history base steps) (history-upheld base steps) (history-writable base steps)
 
@@ -188,7 +188,7 @@ swap-kept p u h d more = kept (thenSteps (swapped p d) more) (steps-upheld (swap
 pub promise-continues : (base : ℕ) (steps : List Step) (d : Card) (more : List Step) → Promise (thenSteps (swapped (history base steps) d) more)
 promise-continues base steps d more = swap-kept (history base steps) (history-upheld base steps) (history-keeps-rules base steps) d more
 
--- The save of a table after any history is read back as that table.
+-- The save of a table after any history, where its values have their space, is read back as that table.
 pub history-restored : (base : ℕ) (steps : List Step) (d : Card) → fitsSave (history base steps .card) ≡ true → restore (saved (history base steps .card)) d ≡ record { answer = 0; octets = []; card = history base steps .card }
 history-restored base steps d s = restored (history base steps .card) (history-keeps-rules base steps) s d
 
