@@ -9,10 +9,9 @@ use lib.ListN.{length}
 use lib.Dec.{eqb}
 use Rattle.meaning.specs.Octets.{pick, count}
 use Rattle.meaning.specs.Wire.{release, messageIn, records, recordsIn}
-use Rattle.meaning.specs.Card.{Card, nothing, treeOf, freeLabels, lookupLabel}
-use Rattle.meaning.specs.Events.{Event, receive, refuse, roomShort, event, start}
+use Rattle.meaning.specs.Card.{Card, nothing}
+use Rattle.meaning.specs.Events.{Event, receive, refuse, roomShort, event}
 use Rattle.meaning.specs.Save.{saved, save, restore, fitsSave}
-use Rattle.meaning.specs.Notice.{notice}
 use Rattle.meaning.specs.Calls.{Hands}
 use Rattle.meaning.specs.Lists.{by-test}
 use Rattle.promise.specs.Promise.{Given, ofLabel, noteAll, noteTaken, branchesSaid, feedBy, Step, Past, answerTo, sends, isTaken, liveAt, acceptedAt, thenStep, begun, Each, NoneLive, Leads, isWithdrawn, Untouched, Promise}
