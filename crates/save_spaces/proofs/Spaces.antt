@@ -1,7 +1,7 @@
 -- What the use of a label says of its name. Assumes nothing.
 use Prim.Native.Nat.{ℕ}
 use mathlib.Core.Path.{_≡_, refl}
-use mathlib.Core.Bool.{Bool, true, false, _&&_}
+use mathlib.Core.Bool.{true, false}
 use mathlib.Core.List.{List}
 use Rattle.meaning.specs.Octets.{all}
 use Rattle.meaning.specs.Card.{Card, isFree}
