@@ -6,7 +6,7 @@ use mathlib.Core.Bool.{Bool, true, false, not, _&&_, _||_}
 use mathlib.Core.List.{List, [], _∷_}
 use lib.ListN.{getD, length, set, replicate}
 use lib.Dec.{eqb, leb, ltb}
-use Rattle.meaning.specs.Octets.{pick, place, count, any, same}
+use Rattle.meaning.specs.Octets.{pick, place, placeFrom, count, any, same}
 use Rattle.meaning.specs.Wire.{rootIn, elementRefusal, recordLimit}
 
 -- ---- sizes
@@ -60,29 +60,34 @@ pub data Use : Type 0 where
   awaiting : ℕ → List ℕ → Use
 
 -- next: the next message's identifier; trees: oldest first; labels: place i is the use of label base + i
+-- last: the last label given out, or 0 for none
 pub record Card : Type 0 where
   pub base : ℕ
   pub next : ℕ
   pub routes : List Route
   pub trees : List Tree
   pub labels : List Use
+  pub last : ℕ
 
 unfoldable pub fresh : ℕ → Card
-fresh b = record { base = b; next = 1; routes = []; trees = []; labels = replicate labelCount free }
+fresh b = record { base = b; next = 1; routes = []; trees = []; labels = replicate labelCount free; last = 0 }
 
 -- ---- one field anew
 
 unfoldable pub withNext : ℕ → Card → Card
-withNext n c = record { base = c .base; next = n; routes = c .routes; trees = c .trees; labels = c .labels }
+withNext n c = record { base = c .base; next = n; routes = c .routes; trees = c .trees; labels = c .labels; last = c .last }
 
 unfoldable pub withRoutes : List Route → Card → Card
-withRoutes rs c = record { base = c .base; next = c .next; routes = rs; trees = c .trees; labels = c .labels }
+withRoutes rs c = record { base = c .base; next = c .next; routes = rs; trees = c .trees; labels = c .labels; last = c .last }
 
 unfoldable pub withTrees : List Tree → Card → Card
-withTrees ts c = record { base = c .base; next = c .next; routes = c .routes; trees = ts; labels = c .labels }
+withTrees ts c = record { base = c .base; next = c .next; routes = c .routes; trees = ts; labels = c .labels; last = c .last }
 
 unfoldable pub withLabels : List Use → Card → Card
-withLabels ls c = record { base = c .base; next = c .next; routes = c .routes; trees = c .trees; labels = ls }
+withLabels ls c = record { base = c .base; next = c .next; routes = c .routes; trees = c .trees; labels = ls; last = c .last }
+
+unfoldable pub withLast : ℕ → Card → Card
+withLast l c = record { base = c .base; next = c .next; routes = c .routes; trees = c .trees; labels = c .labels; last = l }
 
 unfoldable pub withBranch : ℕ → ℕ → Tree → Tree
 withBranch n l t = record { name = t .name; branches = set (t .branches) n l; leaf = t .leaf; label = t .label }
@@ -169,8 +174,13 @@ useOf l c = pick (leb (c .base) l) (getD (c .labels) (l - c .base) free) free
 unfoldable pub heldFor : Card → Tree → ℕ
 heldFor c t = mappedTo (useOf (t .label) c)
 
-unfoldable pub lowestFree : Card → ℕ
-lowestFree c = c .base + place isFree (c .labels)
+-- the place of the block at which the search for a free label begins: that after the last one given, or 0 where none was (no base is 0)
+unfoldable pub turn : Card → ℕ
+turn c = suc (c .last) - c .base
+
+-- A label given out is the first free one after the last given, going round the block.
+unfoldable pub nextFree : Card → ℕ
+nextFree c = c .base + placeFrom isFree (turn c) (c .labels)
 
 unfoldable pub freeLabels : Card → ℕ
 freeLabels c = count isFree (c .labels)

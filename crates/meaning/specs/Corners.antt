@@ -7,7 +7,7 @@ use lib.ListN.{length, take, replicate}
 use lib.Dec.{T, eqb}
 use Rattle.meaning.specs.Octets.{same, two, four}
 use Rattle.meaning.specs.Wire.{rootIn, element, tlv, mapping, withdraw, release, recordOf}
-use Rattle.meaning.specs.Card.{treeLimit, labelCount, Route, Tree, Use, free, mapped, awaiting, Card, withNext, withTrees, withLabels, freeLabels, lookupName, withRoutes}
+use Rattle.meaning.specs.Card.{treeLimit, labelCount, Route, Tree, Use, free, mapped, awaiting, Card, withNext, withTrees, withLabels, freeLabels, lookupName, withRoutes, withLast}
 use Rattle.meaning.specs.Events.{tell, Event, receive, join, leave, route, event, start}
 use Rattle.meaning.specs.Computing.{computing}
 use Rattle.meaning.specs.Examples.{Row, anew, then, enough, flat, feed, agrees, wrong, NoneWrong, A, wide, firstCard, heard, wrote}
@@ -309,6 +309,35 @@ countedRows =
     anew (route (rootIn A) 3) 0 (recordOf 3 (tell 0 withdraw (kin 0) 16) ++ (recordOf 4 (tell 3 mapping (kin 0) 18) ++ (recordOf 5 (tell 3 mapping (kin 8) 19) ++ recordOf 6 (tell 0 withdraw (kin 9) 17)))) 0 19 (0 ∷ 100 ∷ []) ∷
     []
 
+-- ---- a released label rests
+
+-- 269 was the last label given, and none is in use
+unfoldable pub late : Card
+late = withLast 269 firstCard
+
+unfoldable pub restRows : List Row
+restRows =
+    -- to the block's end, and round
+    anew (join (kin 0)) 0 (recordOf 1 (tell 0 mapping (kin 0) 270)) 255 270 (1 ∷ []) ∷
+    then (join (kin 1)) 0 (recordOf 2 (tell 0 mapping (kin 1) 271)) 254 271 (1 ∷ []) ∷
+    then (join (kin 2)) 0 (recordOf 3 (tell 0 mapping (kin 2) 16)) 253 16 (1 ∷ []) ∷
+    -- a label that is released is free, and rests
+    then (leave (kin 2)) 0 (recordOf 4 (tell 0 withdraw (kin 2) 16)) 253 16 [] ∷
+    then (heard 0 release (kin 2) 16) 0 [] 254 16 [] ∷
+    -- a refused event does not move the last one given
+    inRoom 0 (then (join (kin 2)) 16 [] 254 17 []) ∷
+    then (join (kin 2)) 0 (recordOf 5 (tell 0 mapping (kin 2) 17)) 253 17 (1 ∷ []) ∷
+    []
+
+-- one label is free, and it is the last one given: it is the first free one going round
+unfoldable pub lone : Card
+lone = withLast 19 (left 1 (grown 3))
+
+unfoldable pub loneRows : List Row
+loneRows =
+    anew (join (kin 5)) 0 (recordOf 4 (tell 0 mapping (kin 5) 19)) 0 19 (1 ∷ []) ∷
+    []
+
 -- a root of four octets
 unfoldable pub root : ℕ → List ℕ
 root k = 10 ∷ 0 ∷ 0 ∷ k ∷ []
@@ -411,7 +440,9 @@ pub corners-shown : NoneWrong (wrong 1 firstCard firstCard readings)
     × NoneWrong (wrong 1 firstCard firstCard heldRows)
     × NoneWrong (wrong 1 (left 0 paired) firstCard needyRows)
     × NoneWrong (wrong 1 (left 2 paired) firstCard countedRows)
+    × NoneWrong (wrong 1 late firstCard restRows)
+    × NoneWrong (wrong 1 lone firstCard loneRows)
     × T others
     × T mostMoved
-unfolding computing readings other long packed fec label said odd wrong firstCard agrees flat feed A wide heard wrote kin grown scarce left crowd usedBy fullCard fullRows scarceRows lastRows root rooted rootRows rootedRows endRows heldRows paired needyRows countedRows rootsOf rerouted startsAs others load loaded mostMoved
-corners-shown = (tt, tt, tt, tt, tt, tt, tt, tt, tt, tt, tt, tt)
+unfolding computing readings other long packed fec label said odd wrong firstCard agrees flat feed A wide heard wrote kin grown scarce left crowd usedBy fullCard fullRows scarceRows lastRows root rooted rootRows rootedRows endRows heldRows paired needyRows countedRows rootsOf rerouted startsAs others load loaded mostMoved late restRows lone loneRows
+corners-shown = (tt, tt, tt, tt, tt, tt, tt, tt, tt, tt, tt, tt, tt, tt)

@@ -7,7 +7,7 @@ use lib.ListN.{getD, length, set}
 use lib.Dec.{eqb, leb, ltb}
 use Rattle.meaning.specs.Octets.{pick, same, put, cut, _when_else_}
 use Rattle.meaning.specs.Wire.{rootIn, elementRefusal, Message, messageIn, messageRefusal, mapping, withdraw, release, Sent, records, idsAfter}
-use Rattle.meaning.specs.Card.{noRoute, nobody, Route, Tree, Use, free, mapped, awaiting, Card, fresh, withNext, withRoutes, withTrees, withLabels, withBranch, withLeaf, withLabel, routePlace, routeOf, treePlace, treeOf, treeAt, stands, isEmpty, leadsOn, isAwaiting, useOf, heldFor, lowestFree, freeLabels, treeLimit, routeLimit}
+use Rattle.meaning.specs.Card.{noRoute, nobody, Route, Tree, Use, free, mapped, awaiting, Card, fresh, withNext, withRoutes, withTrees, withLabels, withBranch, withLeaf, withLabel, routePlace, routeOf, treePlace, treeOf, treeAt, stands, isEmpty, leadsOn, isAwaiting, useOf, heldFor, freeLabels, treeLimit, routeLimit, withLast, nextFree}
 
 -- ---- what an event hands back
 
@@ -87,12 +87,12 @@ giveUp i c =
     let t = treeAt i c in
     record { sent = tell (heldFor c t) withdraw (t .name) (t .label) ∷ []; card = setLabel i 0 (setUse (t .label) (ended (useOf (t .label) c)) c) }
 
--- the tree at place i is given the lowest free label, for neighbour u
+-- the tree at place i is given the next free label, for neighbour u
 unfoldable pub give : ℕ → ℕ → Card → Moved
 give i u c =
     let a = treeAt i c .name in
-    let l = lowestFree c in
-    record { sent = tell u mapping a l ∷ []; card = setLabel i l (setUse l (mapped u a) c) }
+    let l = nextFree c in
+    record { sent = tell u mapping a l ∷ []; card = withLast l (setLabel i l (setUse l (mapped u a) c)) }
 
 -- the old label is given up, where the tree has one
 unfoldable pub letGo : ℕ → Card → Moved

@@ -111,7 +111,7 @@ cases =
     then (heard 0 release A 16) 0 [] 255 17 (1 ∷ 300 ∷ []) ∷
     then (heard 0 release A 16) 13 [] 255 17 (1 ∷ 300 ∷ []) ∷
     -- 7
-    then (route (rootIn A) 3) 0 (wrote 6 0 withdraw 17 ++ wrote 7 3 mapping 16) 254 16 (1 ∷ 300 ∷ []) ∷
+    then (route (rootIn A) 3) 0 (wrote 6 0 withdraw 17 ++ wrote 7 3 mapping 18) 254 18 (1 ∷ 300 ∷ []) ∷
     -- 8
     anew (heard 1 mapping A 15) 8 [] 256 16 [] ∷
     anew (heard 1 mapping A 16) 0 (wrote 1 0 mapping 16) 255 16 (1 ∷ 16 ∷ []) ∷

@@ -17,6 +17,7 @@ pub mod Notice
 pub mod NoticeExamples
 pub mod NoticeLaws
 pub mod RoutesStay
+pub mod NextFree
 pub mod Save
 pub mod SaveExample
 pub mod SaveRows

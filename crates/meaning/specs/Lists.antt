@@ -1,15 +1,16 @@
 -- Laws of searches, counts and stores in lists, and of tests.
 -- Assumes nothing.
-use Prim.Native.Nat.{ℕ, zero, suc, _≤_, _<_, suc-le-suc}
+use Prim.Native.Nat.{ℕ, zero, suc, _+_, _-_, _≤_, _<_, suc-le-suc}
 use native.Mathlib.Nat.{le-of-suc-le-suc, not-suc-le-zero, le-refl, le-trans}
 use native.Mathlib.Omega.{arith}
 use mathlib.Core.Path.{_≡_, refl, sym, ap, ap₂, _∙_}
 use mathlib.Core.Bool.{Bool, true, false}
 use mathlib.Core.List.{List, [], _∷_, _++_}
-use lib.ListN.{getD, length, set, replicate, List·getD-eq-default}
-use lib.Dec.{eqb}
-use borrow.Author.Tests.{eqb-true, eq-eqb}
-use Rattle.meaning.specs.Octets.{pick, place, count, same, put, cut, _when_else_}
+use lib.ListN.{getD, length, set, replicate, drop, length-drop, List·getD-eq-default}
+use lib.Seq.{getD-drop}
+use lib.Dec.{eqb, ltb}
+use borrow.Author.Tests.{eqb-true, eq-eqb, ltb-true, ltb-false}
+use Rattle.meaning.specs.Octets.{pick, place, placeFrom, count, same, put, cut, _when_else_}
 
 -- a test, with what it tells
 pub by-test {ℓ} : {X : Type ℓ} (b : Bool) → (b ≡ true → X) → (b ≡ false → X) → X
@@ -77,6 +78,64 @@ count-set-place t (y ∷ l) x p h =
     by-test (t y)
     (λ e. rw (e, p) refl)
     (λ e. rw e (rw e (count-set-place t l x p (rw e at h))))
+
+-- one less, where the old one passed and the new one does not
+pub count-less {ℓ} : {A : Type ℓ} (t : A → Bool) (l : List A) (i : ℕ) (x d : A) → t (getD l i d) ≡ true → t x ≡ false → i < length l → suc (count t (set l i x)) ≡ count t l
+unfolding count
+count-less t [] i x d h p q = absurd (not-suc-le-zero q)
+count-less t (y ∷ l) zero x d h p q = rw (h, p) refl
+count-less t (y ∷ l) (suc i) x d h p q = by-test (t y) (λ e. rw e (ap suc (count-less t l i x d h p (le-of-suc-le-suc q)))) (λ e. rw e (count-less t l i x d h p (le-of-suc-le-suc q)))
+
+-- going round: a place of the list whose element passes, where there is one
+module _ {ℓ} {A : Type ℓ} (t : A → Bool) (i : ℕ) (l : List A) (some : 0 < count t l) where
+  pub from-within : placeFrom t i l < length l
+  unfolding placeFrom
+  from-within =
+      by-test (ltb (place t (drop i l)) (length (drop i l)))
+      (λ e. rw e (omega (arith, ltb-true (place t (drop i l)) (length (drop i l)) e, length-drop i l)))
+      (λ e. rw e (place-count t l some))
+
+  pub from-passes : (d : A) → t (getD l (placeFrom t i l) d) ≡ true
+  unfolding placeFrom
+  from-passes d =
+      by-test (ltb (place t (drop i l)) (length (drop i l)))
+      (λ e. rw e (rw (← getD-drop i l (place t (drop i l)) d) (place-finds t (drop i l) d (ltb-true _ _ e))))
+      (λ e. rw e (place-finds t l d (place-count t l some)))
+
+-- what a search passes over does not pass the test
+pub place-skips {ℓ} : {A : Type ℓ} (t : A → Bool) (l : List A) (d : A) (j : ℕ) → j < place t l → t (getD l j d) ≡ false
+unfolding place
+place-skips t [] d j h = absurd (not-suc-le-zero h)
+place-skips t (x ∷ l) d zero h = by-test (t x) (λ e. absurd (not-suc-le-zero (rw e at h))) (λ e. e)
+place-skips t (x ∷ l) d (suc j) h = by-test (t x) (λ e. absurd (not-suc-le-zero (rw e at h))) (λ e. place-skips t l d j (le-of-suc-le-suc (rw e at h)))
+
+module _ {ℓ} {A : Type ℓ} (t : A → Bool) (i : ℕ) (l : List A) (d : A) where
+  -- from i on, up to the place that is found
+  pub from-skips : (j : ℕ) → i ≤ j → j < placeFrom t i l → t (getD l j d) ≡ false
+  unfolding placeFrom
+  from-skips j low high =
+      by-test (ltb (place t (drop i l)) (length (drop i l)))
+      (λ e. let high′ : j < i + place t (drop i l) = rw e at high in
+      let at : i + (j - i) ≡ j = omega arith in
+      ap (λ (k : ℕ). t (getD l k d)) (sym at) ∙ ap t (sym (getD-drop i l (j - i) d)) ∙ place-skips t (drop i l) d (j - i) (omega arith))
+      (λ e. place-skips t l d j (rw e at high))
+
+  -- it lies before i only where none is from i on, and then it is the first of all
+  pub from-round : placeFrom t i l < i → (j : ℕ) → i ≤ j → j < length l → t (getD l j d) ≡ false
+  unfolding placeFrom
+  from-round round j low high =
+      by-test (ltb (place t (drop i l)) (length (drop i l)))
+      (λ e. let z : i + place t (drop i l) < i = rw e at round in absurd (omega arith))
+      (λ e. let none = ltb-false (place t (drop i l)) (length (drop i l)) e in
+      let at : i + (j - i) ≡ j = omega arith in
+      ap (λ (k : ℕ). t (getD l k d)) (sym at) ∙ ap t (sym (getD-drop i l (j - i) d)) ∙ place-skips t (drop i l) d (j - i) (omega (arith, length-drop i l)))
+
+  pub from-first : placeFrom t i l < i → (j : ℕ) → j < placeFrom t i l → t (getD l j d) ≡ false
+  unfolding placeFrom
+  from-first round j high =
+      by-test (ltb (place t (drop i l)) (length (drop i l)))
+      (λ e. let z : i + place t (drop i l) < i = rw e at round in absurd (omega arith))
+      (λ e. place-skips t l d j (rw e at high))
 
 -- no refusal: no test applied
 pub no-when : (n : ℕ) (b : Bool) (m : ℕ) → (suc n) when b else m ≡ 0 → (b ≡ false) × (m ≡ 0)

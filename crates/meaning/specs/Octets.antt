@@ -3,8 +3,8 @@
 use Prim.Native.Nat.{ℕ, suc, _+_, _*_, _/_, _%_}
 use mathlib.Core.Bool.{Bool, true, false}
 use mathlib.Core.List.{List, [], _∷_, _++_}
-use lib.ListN.{take, drop, getD}
-use lib.Dec.{eqb}
+use lib.ListN.{take, drop, getD, length}
+use lib.Dec.{eqb, ltb}
 
 -- one of two; with `let`-bound or folded branches, the one not taken is not computed
 abbrev pub pick {ℓ} : {X : Type ℓ} → Bool → X → X → X
@@ -15,6 +15,12 @@ pick false x y = y
 unfoldable pub place {ℓ} : {A : Type ℓ} → (A → Bool) → List A → ℕ
 place t [] = 0
 place t (x ∷ xs) = let later = suc (place t xs) in pick (t x) 0 later
+
+-- the first place from i on whose element passes the test; where none does, going round, the first of all
+unfoldable pub placeFrom {ℓ} : {A : Type ℓ} → (A → Bool) → ℕ → List A → ℕ
+placeFrom t i l =
+    let later = place t (drop i l) in
+    pick (ltb later (length (drop i l))) (i + later) (place t l)
 
 -- how many elements pass the test
 unfoldable pub count {ℓ} : {A : Type ℓ} → (A → Bool) → List A → ℕ

@@ -7,7 +7,7 @@ use lib.ListN.{length}
 use lib.Dec.{eqb}
 use Rattle.meaning.specs.Octets.{pick}
 use Rattle.meaning.specs.Lists.{picked}
-use Rattle.meaning.specs.Card.{Card, nobody, withTrees, withLabels, treeAt, heldFor}
+use Rattle.meaning.specs.Card.{Card, nobody, withTrees, withLabels, treeAt, heldFor, noRoute, withLast}
 use Rattle.meaning.specs.Events.{Moved, still, followedBy, setUse, setLabel, giveUp, give, letGo, takeUp, moveLabel, relabel, holder, ofRoot, moveOne, moveFrom, moveAll}
 
 let-go-routes : (i : ℕ) (c : Card) → letGo i c .card .routes ≡ c .routes
@@ -15,7 +15,7 @@ unfolding letGo still giveUp setLabel setUse withTrees withLabels
 let-go-routes i c = picked (λ (m : Moved). m .card .routes ≡ c .routes) (eqb (treeAt i c .label) 0) (λ _. refl) (λ _. refl)
 
 take-up-routes : (i u : ℕ) (c : Card) → takeUp i u c .card .routes ≡ c .routes
-unfolding takeUp still give setLabel setUse withTrees withLabels
+unfolding takeUp still give setLabel setUse withTrees withLabels withLast
 take-up-routes i u c = picked (λ (m : Moved). m .card .routes ≡ c .routes) (eqb u nobody) (λ _. refl) (λ _. refl)
 
 move-routes : (i u : ℕ) (c : Card) → moveLabel i u c .card .routes ≡ c .routes

@@ -10,7 +10,7 @@ use lib.ListN.{take, drop, getD, length, set, replicate}
 use lib.Dec.{eqb, leb, ltb}
 use Rattle.meaning.specs.Octets.{pick, place, count, any, same, two, four, twoAt, fourAt, _when_else_, all}
 use Rattle.meaning.specs.Wire.{rootIn, opaqueIn, elementRefusal, element, rootLimit}
-use Rattle.meaning.specs.Card.{Route, Tree, Use, free, mapped, awaiting, Card, withLabel, treeLimit, routeLimit, labelCount, isFor, named, isEmpty, isFree, heldFor, useOf, treeOf, freeLabels, neighbourCount}
+use Rattle.meaning.specs.Card.{Route, Tree, Use, free, mapped, awaiting, Card, withLabel, treeLimit, routeLimit, labelCount, isFor, named, isEmpty, isFree, heldFor, useOf, treeOf, freeLabels, neighbourCount, withLast}
 use Rattle.meaning.specs.Events.{Out, roomShort, refuse, baseOutside, notRoot, holderOf}
 
 -- ---- sizes
@@ -178,6 +178,17 @@ unfoldable pub allLabelled : ℕ → List Use → List Tree → List Tree
 allLabelled base us [] = []
 allLabelled base us (t ∷ ts) = labelled base us t ∷ allLabelled base us ts
 
+-- the highest label in use, of those from l on; 0 where none is
+unfoldable pub highestUsed : ℕ → List Use → ℕ
+highestUsed l [] = 0
+highestUsed l (u ∷ us) =
+    let later = highestUsed (suc l) us in
+    pick (eqb later 0) (pick (isFree u) 0 l) later
+
+-- The save does not carry the last label given: the highest in use is taken for it.
+unfoldable pub settled : Card → Card
+settled c = withLast (highestUsed (c .base) (c .labels)) c
+
 -- the table in the octets, whatever they are
 unfoldable pub tableIn : List ℕ → Card
 tableIn o =
@@ -186,7 +197,7 @@ tableIn o =
     let trees = getD o 12 0 in
     let afterRoutes = drop (headSize + routes * routeSize) o in
     let us = usesRead base (twoAt o 13) (drop (trees * treeSize) afterRoutes) (replicate labelCount free) in
-    record { base = base; next = fourAt o 7; routes = routesRead routes (drop headSize o); trees = allLabelled base us (treesRead trees afterRoutes); labels = us }
+    record { base = base; next = fourAt o 7; routes = routesRead routes (drop headSize o); trees = allLabelled base us (treesRead trees afterRoutes); labels = us; last = highestUsed base us }
 
 -- ---- the rules in force
 
@@ -250,6 +261,10 @@ keepsRules c =
     && all isUse (c .labels)
     -- trees and labels agree
     && allCarried c (c .base) (c .labels) && all (carriesOwn c) (c .trees) && all (holdsRight c) (c .trees)
+
+-- The last label given is of the block, and none only while no label is in use. (The form of this save does not carry it, so its reading asks nothing of it.)
+unfoldable pub lastRight : Card → Bool
+lastRight c = pick (eqb (c .last) 0) (eqb (freeLabels c) labelCount) (leb (c .base) (c .last) && ltb (c .last) (c .base + labelCount))
 
 -- ---- taking a save
 

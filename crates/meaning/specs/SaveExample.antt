@@ -8,15 +8,15 @@ use lib.ListN.{replicate}
 use lib.Dec.{eqb}
 use Rattle.meaning.specs.Octets.{same, all}
 use Rattle.meaning.specs.Wire.{rootIn, element, mapping}
-use Rattle.meaning.specs.Card.{Card, free, mapped, fresh, withLabels}
+use Rattle.meaning.specs.Card.{Card, free, mapped, fresh, withLabels, withLast}
 use Rattle.meaning.specs.Events.{Out, Event, join, leave, route, event, start}
 use Rattle.meaning.specs.Computing.{computing}
 use Rattle.meaning.specs.Examples.{enough, A, wide, heard}
-use Rattle.meaning.specs.Save.{padded, spaced, nameSaved, marked, headSaved, routeSaved, foursOf, treeSaved, useSaved, routesSaved, treesSaved, usesSaved, saved, isShort, isShortTree, isShortUse, fitsSave, save, spacedIn, nameIn, routeRead, foursIn, treeRead, useRead, routesRead, treesRead, usesRead, isMappedFor, labelled, allLabelled, tableIn, isName, onceEach, isRoute, sameRoot, isBranchLabel, isTree, sameName, isUse, isCarried, allCarried, carriesOwn, holdsRight, keepsRules, isSave, restore}
+use Rattle.meaning.specs.Save.{padded, spaced, nameSaved, marked, headSaved, routeSaved, foursOf, treeSaved, useSaved, routesSaved, treesSaved, usesSaved, saved, isShort, isShortTree, isShortUse, fitsSave, save, spacedIn, nameIn, routeRead, foursIn, treeRead, useRead, routesRead, treesRead, usesRead, isMappedFor, labelled, allLabelled, tableIn, isName, onceEach, isRoute, sameRoot, isBranchLabel, isTree, sameName, isUse, isCarried, allCarried, carriesOwn, holdsRight, keepsRules, isSave, restore, highestUsed, settled}
 
 -- as `computing`, for the definitions of saves
 unfoldable pub computingSaves : ℕ
-unfolding computing padded spaced nameSaved marked headSaved routeSaved foursOf treeSaved useSaved routesSaved treesSaved usesSaved saved isShort isShortTree isShortUse fitsSave save spacedIn nameIn routeRead foursIn treeRead useRead routesRead treesRead usesRead isMappedFor labelled allLabelled tableIn all isName onceEach isRoute sameRoot isBranchLabel isTree sameName isUse isCarried allCarried carriesOwn holdsRight keepsRules isSave restore
+unfolding computing padded spaced nameSaved marked headSaved routeSaved foursOf treeSaved useSaved routesSaved treesSaved usesSaved saved isShort isShortTree isShortUse fitsSave save spacedIn nameIn routeRead foursIn treeRead useRead routesRead treesRead usesRead isMappedFor labelled allLabelled tableIn all isName onceEach isRoute sameRoot isBranchLabel isTree sameName isUse isCarried allCarried carriesOwn holdsRight keepsRules isSave restore highestUsed settled
 computingSaves = 0
 
 -- ---- one whole example
@@ -153,6 +153,9 @@ agrees o answer octets table = eqb (o .answer) answer && same (o .octets) octets
 unfoldable pub savesRight : Bool
 savesRight =
     agrees (save 389 swapped) 16 [] example && agrees (save 390 swapped) 0 example example
+    -- the last label given is not carried: reading takes the highest in use for it, or none where none is
+    && same (saved (withLast 200 swapped)) example && eqb (restore example (fresh 99) .card .last) 17
+    && eqb (restore (saved (withLast 200 (fresh 16))) (fresh 99) .card .last) 0
     && agrees (save 14 (fresh 16)) 16 [] (saved (fresh 16)) && agrees (save 15 (fresh 16)) 0 (saved (fresh 16)) (saved (fresh 16))
 
 pub room-shown : savesRight ≡ true

@@ -1,24 +1,25 @@
 -- The save: what is written is read back as it was, octets that are taken are the save of the table that they give, and how long a save is.
 -- Assumes nothing.
-use Prim.Native.Nat.{ℕ, zero, suc, _+_, _*_, _-_, _/_, _%_, _≤_, _<_}
+use Prim.Native.Nat.{ℕ, zero, suc, _+_, _*_, _-_, _/_, _%_, _≤_, _<_, suc-le-suc, zero-le}
 use native.Mathlib.Omega.{arith}
 use mathlib.Core.Logic.{_↔_}
-use mathlib.Core.Path.{_≡_, refl, sym, ap, _∙_, subst}
-use mathlib.Core.Bool.{true, false}
+use mathlib.Core.Path.{_≡_, refl, sym, ap, _∙_, subst, ap₂}
+use mathlib.Core.Bool.{true, false, Bool}
 use mathlib.Core.List.{List, [], _∷_, _++_}
 use lib.ListN.{take, drop, getD, length, set, replicate, length-append, length-take, length-drop}
 use lib.Seq.{drop-at, drop-drop}
 use lib.Dec.{eqb, leb, ltb}
-use borrow.Author.Tests.{eqb-true, ltb-true, ltb-false, lt-ltb, le-ltb, le-leb}
-use Rattle.meaning.specs.Octets.{place, count, same, two, four, twoAt, fourAt, all}
+use borrow.Author.Tests.{eqb-true, ltb-true, ltb-false, lt-ltb, le-ltb, le-leb, eqb-false, eq-eqb, ne-eqb}
+use Rattle.meaning.specs.Octets.{place, count, same, two, four, twoAt, fourAt, all, pick}
 use Rattle.meaning.specs.Lists.{by-test, picked, getD-same, getD-out, place-finds, place-count, place-only, count-some, same-eq, same-refl}
-use Rattle.meaning.specs.Card.{Tree, Use, free, mapped, awaiting, Card, labelCount, withLabel, named, bare, treePlace, treeOf, treeAt, useOf, freeLabels}
+use Rattle.meaning.specs.Card.{Tree, Use, free, mapped, awaiting, Card, labelCount, withLabel, named, bare, treePlace, treeOf, treeAt, useOf, freeLabels, isFree, withLast, heldFor, routeOf, routePlace}
 use Rattle.meaning.specs.Wire.{addressLength, familyIn, rootLength, opaqueIn, element, rootLimit}
-use Rattle.meaning.specs.Events.{refuse, roomShort}
+use Rattle.meaning.specs.Events.{refuse, roomShort, holderOf}
 use Rattle.meaning.specs.RoundTrip.{both, two-back}
 use Rattle.meaning.specs.NoticeLaws.{four-back}
-use Rattle.meaning.specs.Save.{marked, headSaved, routesSaved, treesSaved, usesSaved, saved, save, routesRead, treesRead, usesRead, isMappedFor, allLabelled, tableIn, isCarried, isTree, carriesOwn, keepsRules, isSave, restore, isShort, isShortTree, isShortUse, fitsSave, spacedIn, nameIn, treeRead, useRead, labelled, savedOpaque, headSize, routeSize, treeSize, useSize, saveLimit}
+use Rattle.meaning.specs.Save.{marked, headSaved, routesSaved, treesSaved, usesSaved, saved, save, routesRead, treesRead, usesRead, isMappedFor, allLabelled, tableIn, isCarried, isTree, carriesOwn, keepsRules, isSave, restore, isShort, isShortTree, isShortUse, fitsSave, spacedIn, nameIn, treeRead, useRead, labelled, savedOpaque, headSize, routeSize, treeSize, useSize, saveLimit, highestUsed, settled, lastRight, allCarried, holdsRight}
 use Rattle.meaning.specs.SaveFields.{all-cons}
+use native.Mathlib.Nat.{le-of-suc-le-suc, not-suc-le-zero}
 use Rattle.meaning.specs.SaveRules.{all-at, Rules, rules}
 use Rattle.meaning.specs.SaveLists.{either, tree-ok, routes-length, routes-back, trees-length, trees-back, labelFor, labels-back, inUse, used-free, uses-length, uses-back}
 
@@ -137,16 +138,86 @@ module _ (c : Card) (R : Rules c) where
   its-trees : all isShortTree (c .trees) ≡ true → allLabelled (c .base) (c .labels) (treesRead (length (c .trees)) (treesSaved (c .trees) ++ usesSaved (c .base) (c .labels))) ≡ c .trees
   its-trees s = ap (allLabelled (c .base) (c .labels)) (trees-back (c .trees) (usesSaved (c .base) (c .labels)) (R .trees) s) ∙ labels-back (c .base) (c .labels) (c .trees) (unfold treeAt in label-given)
 
-  table-back : fitsSave c ≡ true → tableIn (saved c) ≡ c
-  unfolding tableIn
+  table-back : fitsSave c ≡ true → tableIn (saved c) ≡ settled c
+  unfolding tableIn settled withLast
   table-back s =
       let p = short-parts c s in
       rw (head-base, head-next, head-routes, head-trees, head-labels, after-routes, after-trees, its-labels (p .1), its-routes, its-trees (p .0)) refl
 
+-- ---- the highest label in use
+
+pub highest-none : (l : ℕ) (us : List Use) → 0 < l → highestUsed l us ≡ 0 → count isFree us ≡ length us
+unfolding highestUsed count
+highest-none l [] h e = refl
+highest-none l (u ∷ us) h e =
+    by-test (eqb (highestUsed (suc l) us) 0)
+    (λ k. by-test (isFree u)
+    (λ f. rw f (ap suc (highest-none (suc l) us (omega arith) (eqb-true _ _ k))))
+    (λ f. let z : l ≡ 0 = rw (k, f) at e in absurd (omega arith)))
+    (λ k. absurd (eqb-false (highestUsed (suc l) us) 0 k (rw k at e)))
+
+pub highest-block : (l : ℕ) (us : List Use) → (highestUsed l us ≡ 0 → ⊥) → (l ≤ highestUsed l us) × (highestUsed l us < l + length us)
+unfolding highestUsed
+highest-block l [] h = absurd (h refl)
+highest-block l (u ∷ us) h =
+    by-test (eqb (highestUsed (suc l) us) 0)
+    (λ k. by-test (isFree u)
+    (λ f. absurd ((rw (k, f) at h) refl))
+    (λ f. rw (k, f) (omega arith, omega arith)))
+    (λ k. let p = highest-block (suc l) us (eqb-false _ _ k) in rw k (omega (arith, p .0), omega (arith, p .1)))
+
+-- it is 0 where all are free
+pub highest-free : (l : ℕ) (us : List Use) → ((p : ℕ) → p < length us → isFree (getD us p free) ≡ true) → highestUsed l us ≡ 0
+unfolding highestUsed
+highest-free l [] h = refl
+highest-free l (u ∷ us) h = rw (highest-free (suc l) us (λ p k. h (suc p) (suc-le-suc k)), h 0 (suc-le-suc zero-le)) refl
+
+-- and that at place p where this one is in use, and none behind it
+pub highest-is : (l : ℕ) (us : List Use) (p : ℕ) → p < length us → isFree (getD us p free) ≡ false → ((q : ℕ) → p < q → q < length us → isFree (getD us q free) ≡ true) → highestUsed l us ≡ l + p
+unfolding highestUsed
+highest-is l [] p k used none = absurd (not-suc-le-zero k)
+highest-is l (u ∷ us) zero k used none = rw (highest-free (suc l) us (λ q m. none (suc q) (suc-le-suc zero-le) (suc-le-suc m)), used) (omega arith)
+highest-is l (u ∷ us) (suc p) k used none =
+    let later : highestUsed (suc l) us ≡ suc l + p = highest-is (suc l) us p (le-of-suc-le-suc k) used (λ q m n. none (suc q) (suc-le-suc m) (suc-le-suc n)) in
+    rw (later, ne-eqb (suc l + p) 0 (λ z. omega arith)) (omega arith)
+
+-- What is read back has its last label given in the block, and none only while no label is in use.
+pub settled-right : (c : Card) → 0 < c .base → length (c .labels) ≡ labelCount → lastRight (settled c) ≡ true
+unfolding lastRight settled withLast freeLabels
+settled-right c some many =
+    by-test (eqb (highestUsed (c .base) (c .labels)) 0)
+    (λ e. rw (e, highest-none (c .base) (c .labels) some (eqb-true _ _ e)) (eq-eqb _ _ many))
+    (λ e. let p = highest-block (c .base) (c .labels) (eqb-false _ _ e) in
+    rw (e, le-leb (c .base) (highestUsed (c .base) (c .labels)) (p .0), lt-ltb (highestUsed (c .base) (c .labels)) (c .base + 256) (omega (arith, p .1))) refl)
+
 -- ---- the laws
 
--- Reading back what was written gives the same table.
-pub read-back : (c : Card) → keepsRules c ≡ true → fitsSave c ≡ true → tableIn (saved c) ≡ c
+-- The last label given is neither in what is written nor in the rules that a save asks for.
+pub settled-saved : (c : Card) → saved (settled c) ≡ saved c
+unfolding saved headSaved settled withLast freeLabels
+settled-saved c = refl
+
+carried-settled : (c : Card) (l : ℕ) (us : List Use) → allCarried (settled c) l us ≡ allCarried c l us
+unfolding allCarried
+carried-settled c l [] = refl
+carried-settled c l (u ∷ us) = ap₂ (λ (a b : Bool). pick a b false) (one u) (carried-settled c (suc l) us)
+  where
+    one : (u : Use) → isCarried (settled c) l u ≡ isCarried c l u
+    one free = unfold isCarried in refl
+    one (mapped n a) = unfold isCarried settled withLast treeOf treePlace in refl
+    one (awaiting n a) = unfold isCarried in refl
+
+pub settled-rules : (c : Card) → keepsRules (settled c) ≡ keepsRules c
+unfolding keepsRules
+settled-rules c = rw carried-settled (unfold settled withLast carriesOwn holdsRight useOf heldFor holderOf routeOf routePlace in refl)
+
+-- What is read back has settled.
+pub settled-twice : (c : Card) → settled (settled c) ≡ settled c
+unfolding settled withLast
+settled-twice c = refl
+
+-- Reading back what was written gives the same table, but for the last label given: that is the highest in use.
+pub read-back : (c : Card) → keepsRules c ≡ true → fitsSave c ≡ true → tableIn (saved c) ≡ settled c
 read-back c h s = table-back c (rules c h) s
 
 pub saved-length : (c : Card) → keepsRules c ≡ true → length (saved c) ≡ headSize + routeSize * length (c .routes) + treeSize * length (c .trees) + useSize * (labelCount - freeLabels c)
@@ -173,7 +244,7 @@ module _ (room : ℕ) (c : Card) (s : fitsSave c ≡ true) where
 -- What a table writes that keeps the rules, and whose values have their space, is taken, and nothing else is.
 pub save-taken : (c : Card) → keepsRules c ≡ true → fitsSave c ≡ true → isSave (saved c) ≡ true
 unfolding isSave
-save-taken c h s = rw (read-back c h s, h, same-refl (saved c)) refl
+save-taken c h s = rw (read-back c h s, settled-rules c, settled-saved c, h, same-refl (saved c)) refl
 
 pub taken-is-save : (o : List ℕ) → isSave o ≡ true → (keepsRules (tableIn o) ≡ true) × (saved (tableIn o) ≡ o)
 unfolding isSave
@@ -183,12 +254,12 @@ taken-is-save o h = let p = both (keepsRules (tableIn o)) (same (saved (tableIn 
 pub one-form : (o s : List ℕ) → isSave o ≡ true → isSave s ≡ true → tableIn o ≡ tableIn s → o ≡ s
 one-form o s h k e = sym (taken-is-save o h .1) ∙ ap saved e ∙ taken-is-save s k .1
 
--- And a form has one table.
-pub one-table : (c d : Card) → keepsRules c ≡ true → keepsRules d ≡ true → fitsSave c ≡ true → fitsSave d ≡ true → saved c ≡ saved d → c ≡ d
+-- And a form has one table, but for the last label given.
+pub one-table : (c d : Card) → keepsRules c ≡ true → keepsRules d ≡ true → fitsSave c ≡ true → fitsSave d ≡ true → saved c ≡ saved d → settled c ≡ settled d
 one-table c d h k s z e = sym (read-back c h s) ∙ ap tableIn e ∙ read-back d k z
 
--- Over a card swap the table is the same, whatever stood.
-pub restored : (c : Card) → keepsRules c ≡ true → fitsSave c ≡ true → (d : Card) → restore (saved c) d ≡ record { answer = 0; octets = []; card = c }
+-- Over a card swap the table is the same but for the last label given, whatever stood.
+pub restored : (c : Card) → keepsRules c ≡ true → fitsSave c ≡ true → (d : Card) → restore (saved c) d ≡ record { answer = 0; octets = []; card = settled c }
 unfolding restore
 restored c h s d = rw (save-taken c h s, read-back c h s) refl
 

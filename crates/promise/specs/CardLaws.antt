@@ -1,6 +1,6 @@
 -- What the stores of `Events` do to the table, read back: uses by label, trees by name.
 -- Assumes nothing.
-use Prim.Native.Nat.{ℕ, zero, suc, _+_, _-_, _≤_, _<_, suc-le-suc}
+use Prim.Native.Nat.{ℕ, zero, suc, _-_, _≤_, _<_, suc-le-suc}
 use native.Mathlib.Nat.{le-of-suc-le-suc, not-suc-le-zero, le-trans, add-sub-cancel-left}
 use native.Mathlib.Omega.{arith}
 use mathlib.Core.Path.{_≡_, refl, sym, ap, ap₂, _∙_, subst}
@@ -10,11 +10,11 @@ use lib.ListN.{getD, length, set, replicate}
 use lib.Seq.{set-split, getD-set-same, getD-set-other}
 use lib.Dec.{eqb, leb, ltb}
 use borrow.Author.Tests.{eqb-true, eqb-false, ltb-true, ltb-false, leb-true, le-leb, not-true}
-use Rattle.meaning.specs.Octets.{pick, place, count, any, same, put, cut}
+use Rattle.meaning.specs.Octets.{pick, place, placeFrom, count, any, same, put, cut}
 use Rattle.meaning.specs.Wire.{elementRefusal}
-use Rattle.meaning.specs.Card.{Tree, Use, free, Card, withTrees, withLabels, withLabel, named, bare, treePlace, treeOf, treeAt, isBranch, isEmpty, isFree, useOf, lowestFree, freeLabels}
+use Rattle.meaning.specs.Card.{Tree, Use, free, Card, withTrees, withLabels, withLabel, named, bare, treePlace, treeOf, treeAt, isBranch, isEmpty, isFree, useOf, turn, nextFree, freeLabels, withLast}
 use Rattle.meaning.specs.Events.{setUse, setLabel, entered, swept}
-use Rattle.meaning.specs.Lists.{getD-same, by-test, picked, place-finds, place-count, getD-out, same-eq, same-refl, found-put, found-cut, count-put, count-cut, other-put, other-cut, count-other-put, place-only}
+use Rattle.meaning.specs.Lists.{getD-same, by-test, picked, place-finds, place-count, getD-out, same-eq, same-refl, found-put, found-cut, count-put, count-cut, other-put, other-cut, count-other-put, place-only, from-within, from-passes}
 use Rattle.promise.specs.Promise.{treesBut, useBut, Untouched}
 use Rattle.promise.specs.LiveLaws.{free-eq, upd}
 
@@ -44,17 +44,23 @@ in-block c m e =
     ))
     (λ k. absurd (let z : true ≡ false = rw k at e in let z′ : _≡_ {A = ℕ} 0 1 = cc in omega arith))
 
--- the lowest free label is of the block, and free
+-- the next free label is of the block, and free
 module _ (c : Card) (some-free : 0 < freeLabels c) where
-  pub lowest-within : lowestFree c - c .base < length (c .labels)
-  unfolding lowestFree freeLabels
-  lowest-within = rw (add-sub-cancel-left (c .base) (place isFree (c .labels))) (place-count isFree (c .labels) some-free)
+  pub next-within : nextFree c - c .base < length (c .labels)
+  unfolding nextFree freeLabels
+  next-within = rw (add-sub-cancel-left (c .base) (placeFrom isFree (turn c) (c .labels))) (from-within isFree (turn c) (c .labels) some-free)
 
-  pub lowest-free : useOf (lowestFree c) c ≡ free
-  unfolding useOf lowestFree freeLabels
-  lowest-free =
-      rw (le-leb (c .base) (c .base + place isFree (c .labels)) (omega arith), add-sub-cancel-left (c .base) (place isFree (c .labels)))
-      (free-eq _ (place-finds isFree (c .labels) free (place-count isFree (c .labels) some-free)))
+  pub next-use : isFree (getD (c .labels) (nextFree c - c .base) free) ≡ true
+  unfolding nextFree freeLabels
+  next-use = rw (add-sub-cancel-left (c .base) (placeFrom isFree (turn c) (c .labels))) (from-passes isFree (turn c) (c .labels) some-free free)
+
+  pub next-from : c .base ≤ nextFree c
+  unfolding nextFree
+  next-from = omega arith
+
+  pub next-free : useOf (nextFree c) c ≡ free
+  unfolding useOf
+  next-free = rw (le-leb (c .base) (nextFree c) next-from) (free-eq _ next-use)
 
 -- ---- trees
 
@@ -259,6 +265,10 @@ pub swept-routes : (c : Card) (i : ℕ) → swept i c .routes ≡ c .routes
 unfolding swept withTrees
 swept-routes c i = picked (λ (x : Card). x .routes ≡ c .routes) (isEmpty (treeAt i c)) (λ _. refl) (λ _. refl)
 
+pub swept-last : (c : Card) (i : ℕ) → swept i c .last ≡ c .last
+unfolding swept withTrees
+swept-last c i = picked (λ (x : Card). x .last ≡ c .last) (isEmpty (treeAt i c)) (λ _. refl) (λ _. refl)
+
 -- ---- what is left alone
 
 pub untouched-same : (a : List ℕ) (c : Card) → Untouched a c c
@@ -266,6 +276,10 @@ untouched-same a c = record { trees = refl; uses = λ l. refl }
 
 pub untouched-then : (a : List ℕ) (c d e : Card) → Untouched a c d → Untouched a d e → Untouched a c e
 untouched-then a c d e p q = record { trees = q .trees ∙ p .trees; uses = λ l. q .uses l ∙ p .uses l }
+
+pub untouched-last : (a : List ℕ) (c d : Card) (l : ℕ) → Untouched a c d → Untouched a c (withLast l d)
+unfolding withLast useOf
+untouched-last a c d l u = record { trees = u .trees; uses = λ k. unfold useOf in u .uses k }
 
 -- a tree named a comes, changes, or goes
 but-put : (a : List ℕ) (ts : List Tree) (t : Tree) → named a t ≡ true → treesBut a (put ts (place (named a) ts) t) ≡ treesBut a ts

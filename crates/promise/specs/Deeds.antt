@@ -14,9 +14,10 @@ use Rattle.meaning.specs.Notice.{noticeDue, noticeRecord, notice}
 use Rattle.meaning.specs.Lists.{picked}
 use Rattle.meaning.specs.NoticeLaws.{spread, record-spread}
 use Rattle.promise.specs.Promise.{Given, noteSent, noteAll, Step, Past, thenStep, begun, Promise}
+use Rattle.promise.specs.LabelLaws.{spent-eq}
 use Rattle.promise.specs.PromiseProof.{Upheld, then-upheld, started, kept}
 use Rattle.promise.specs.SaveSteps.{Writable, then-writable}
-use Rattle.promise.specs.SaveKept.{start-writable, past-keeps-rules, swapped, swapped-same}
+use Rattle.promise.specs.SaveKept.{start-writable, past-keeps-rules, swapped, swapped-same, resettled, resettled-upheld, resettled-writable}
 
 -- does: an event.
 -- tells: a notice: the room that it has, the neighbour, the number of a refusal, the refused octets.
@@ -74,7 +75,7 @@ renumbered id p = record { card = withNext id (p .card); live = p .live; accepte
 renumbered-upheld : (id : ℕ) (p : Past) → Upheld p → Upheld (renumbered id p)
 unfolding renumbered withNext treeOf treePlace useOf freeLabels
 renumbered-upheld id p u = record {
-  sound = record { tidy = u .sound .tidy; low = u .sound .low; high = u .sound .high; many = u .sound .many; linked = u .sound .linked; books = u .sound .books; sum = u .sound .sum };
+  sound = record { tidy = u .sound .tidy; low = u .sound .low; high = u .sound .high; many = u .sound .many; linked = u .sound .linked; books = u .sound .books; sum = u .sound .sum; last = spent-eq (p .card) _ refl refl (λ e. e) (u .sound .last) };
   reads = u .reads;
   ruled = unfold treeAt heldFor holderOf routeOf routePlace in record { roots = u .ruled .roots; full = u .ruled .full; held = u .ruled .held; trees = u .ruled .trees; routes = u .ruled .routes };
   routed = λ q. unfold routeOf routePlace in u .routed q;
@@ -121,21 +122,21 @@ restore-same o c = picked (λ (x : Out). (x .answer ≡ 0 → ⊥) → x .card �
 -- ---- any deed, and any number of them
 
 module _ (P : Past → Type 0) (p : Past) (h : P p) (small : p .card .next < 4294967296) (u : keepsRules (p .card) ≡ true)
-    (step : (s : Step) → P (thenStep p s)) (new : (base : ℕ) → P (begun base)) (goes : (id : ℕ) → id < 4294967296 → P (renumbered id p)) where
+    (step : (s : Step) → P (thenStep p s)) (new : (base : ℕ) → P (begun base)) (settles : P (resettled p)) (goes : (id : ℕ) → id < 4294967296 → P (renumbered id p)) where
   deed-keeps : (d : Deed) → IsClaimed p d → P (thenDeed p d)
   unfolding thenDeed IsClaimed
   deed-keeps (does s) k = step s
   deed-keeps (tells room n number s) k = unfold thenDeed in told P p small h goes room n number s
   deed-keeps (saves room) k = rw (save-same room (p .card)) h
-  deed-keeps (swaps d) k = rw (swapped-same p u d) h
+  deed-keeps (swaps d) k = rw (swapped-same p u d) settles
   deed-keeps (restores o) k = rw (restore-same o (p .card) k) h
   deed-keeps (starts base) k = new base
 
 pub deed-upheld : (p : Past) (d : Deed) → Upheld p → Writable p → IsClaimed p d → Upheld (thenDeed p d)
-deed-upheld p d u w = deed-keeps Upheld p u (w .next) (past-keeps-rules p u w) (λ s. then-upheld p s u) started (λ id _. renumbered-upheld id p u) d
+deed-upheld p d u w = deed-keeps Upheld p u (w .next) (past-keeps-rules p u w) (λ s. then-upheld p s u) started (resettled-upheld p u) (λ id _. renumbered-upheld id p u) d
 
 pub deed-writable : (p : Past) (d : Deed) → Upheld p → Writable p → IsClaimed p d → Writable (thenDeed p d)
-deed-writable p d u w = deed-keeps Writable p w (w .next) (past-keeps-rules p u w) (λ s. then-writable p s u w) start-writable (λ id h. renumbered-writable id p h w) d
+deed-writable p d u w = deed-keeps Writable p w (w .next) (past-keeps-rules p u w) (λ s. then-writable p s u w) start-writable (resettled-writable p w) (λ id h. renumbered-writable id p h w) d
 
 deeds-upheld : (p : Past) (ds : List Deed) → Upheld p → Writable p → Claimed p ds → Upheld (thenDeeds p ds)
 unfolding thenDeeds Claimed

@@ -16,9 +16,9 @@ use Rattle.promise.specs.Promise.{Given, remove, noteSent, noteAll, note
 use Rattle.meaning.specs.Lists.{by-test, picked, same-eq, count-new, no-when}
 use Rattle.meaning.specs.RoundTrip.{Heard, heard, AllSendable, sendable-append}
 use Rattle.promise.specs.LiveLaws.{linked-eq, upd, free-linked, books-eq, books-remove, books-removed}
-use Rattle.promise.specs.CardLaws.{use-after, in-block, shape, Proper, tree-name, tree-sized, entered-is, entered-tidy, put-within, swept-is, swept-tidy, swept-use, swept-labels, swept-base, swept-routes, untouched-then, entered-untouched, swept-untouched, used-untouched}
+use Rattle.promise.specs.CardLaws.{use-after, in-block, shape, Proper, tree-name, tree-sized, entered-is, entered-tidy, put-within, swept-is, swept-tidy, swept-use, swept-labels, swept-base, swept-routes, untouched-then, entered-untouched, swept-untouched, used-untouched, swept-last}
 use Rattle.promise.specs.RuleLaws.{empty-asked, Ruled, shape-empty, holder-same, route-ruled, put-in, put-more, cut-in, put-other-at, swept-at}
-use Rattle.promise.specs.LabelLaws.{shape-name, own-awaiting, holder-near, at-other, held-other, relabel-own, Sound, Fine, relabel-fine, relabel-none, none-append, note-append, Kept, all-kept, use-place}
+use Rattle.promise.specs.LabelLaws.{shape-name, own-awaiting, holder-near, at-other, held-other, relabel-own, Sound, Fine, relabel-fine, relabel-none, none-append, note-append, Kept, all-kept, use-place, spent-eq}
 
 -- ---- what an event that is taken makes of the tree named a
 
@@ -146,6 +146,7 @@ module _ (c : Card) (gs : List Given) (S : Sound c gs) (a : List ℕ) (good : el
     linked = linked-eq _ _ _ _ entered-label entered-use (S .linked);
     books = books-eq _ _ gs entered-use (S .books);
     sum = unfold entered withTrees freeLabels in S .sum;
+    last = spent-eq c (entered c its) (unfold entered withTrees in refl) (unfold entered withTrees in refl) (λ e. unfold entered withTrees freeLabels in e) (S .last);
   }
 
   its-within : its-place < length (entered c its .trees)
@@ -188,6 +189,7 @@ module _ (c : Card) (gs : List Given) (S : Sound c gs) (a : List ℕ) (good : el
       linked = linked-eq _ _ _ _ (λ b. ap (λ (t : Tree). t .label) (swept-tree b)) (λ l. swept-use (relabelled .card) its-place l) (fine .sound .linked);
       books = books-eq _ _ _ (λ l. swept-use (relabelled .card) its-place l) (fine .sound .books);
       sum = unfold freeLabels in rw (swept-labels (relabelled .card) its-place) (unfold freeLabels in fine .sound .sum);
+      last = spent-eq (relabelled .card) _ (swept-last (relabelled .card) its-place) (swept-base (relabelled .card) its-place) (λ e. unfold freeLabels in rw (swept-labels (relabelled .card) its-place) (unfold freeLabels in e)) (fine .sound .last);
     }
 
     abbrev end : Card
@@ -343,6 +345,7 @@ module _ (c : Card) (gs : List Given) (S : Sound c gs) where
         linked = linked-eq _ _ _ _ (λ b. ap (λ (t : Tree). t .label) (freed-tree c l b)) uses (free-linked _ _ (S .linked) l n a w);
         books = books-eq _ _ _ uses (books-remove _ gs (S .books) a l n k us);
         sum = omega (arith, S .sum);
+        last = spent-eq c (setUse l free c) (unfold setUse withLabels in refl) (unfold setUse withLabels in refl) (λ e. absurd (omega (arith, S .sum))) (S .last);
       }
 
   -- no tree carries a label that awaits release
@@ -420,6 +423,7 @@ module _ (c : Card) (gs : List Given) (S : Sound c gs) where
       linked = unfold withRoutes treeOf treePlace useOf in k .sound .linked;
       books = unfold withRoutes useOf in k .sound .books;
       sum = unfold withRoutes freeLabels in k .sound .sum;
+      last = spent-eq (m .card) (withRoutes (routesWith c r via) (m .card)) (unfold withRoutes in refl) (unfold withRoutes in refl) (λ e. unfold withRoutes freeLabels in e) (k .sound .last);
     };
     fair = k .fair;
     said = k .said;

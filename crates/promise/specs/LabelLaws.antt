@@ -1,7 +1,7 @@
 -- THE RULE OF LABELS keeps the table sound, and the live labels with it.
 -- Assumes nothing.
 use Prim.Native.Nat.{ℕ, zero, suc, _+_, _-_, _≤_, _<_}
-use native.Mathlib.Nat.{le-refl, add-sub-cancel-left}
+use native.Mathlib.Nat.{le-refl}
 use native.Mathlib.Omega.{arith}
 use mathlib.Core.Path.{_≡_, refl, sym, ap, ap₂, _∙_, subst}
 use mathlib.Core.Bool.{true, false}
@@ -9,15 +9,24 @@ use mathlib.Core.List.{List, [], _∷_, _++_}
 use lib.ListN.{getD, length, length-set}
 use lib.Dec.{eqb}
 use borrow.Author.Tests.{eqb-true, eqb-false, eq-eqb, le-leb, lt-leb}
-use Rattle.meaning.specs.Octets.{pick, place, same}
+use Rattle.meaning.specs.Octets.{pick, same}
 use Rattle.meaning.specs.Wire.{elementRefusal, isKind, withdraw, Sent}
-use Rattle.meaning.specs.Card.{Tree, Use, free, mapped, awaiting, Card, nobody, withTrees, withLabels, withLabel, treePlace, treeOf, treeAt, leadsOn, isFree, mappedTo, useOf, heldFor, lowestFree, freeLabels}
+use Rattle.meaning.specs.Card.{Tree, Use, free, mapped, awaiting, Card, nobody, withTrees, withLabels, withLabel, treePlace, treeOf, treeAt, leadsOn, isFree, mappedTo, useOf, heldFor, freeLabels, nextFree, withLast}
 use Rattle.meaning.specs.Events.{Moved, still, followedBy, setUse, setLabel, ended, giveUp, give, letGo, takeUp, moveLabel, relabel, needMove, need, holder, ofRoot, moveOne, moveFrom, moveAll, needOne, sumFrom, needAll}
 use Rattle.promise.specs.Promise.{Given, noteSent, noteAll, NoneLive, useBut, Untouched}
-use Rattle.meaning.specs.Lists.{by-test, picked, same-eq, same-refl, count-set, count-set-place}
+use Rattle.meaning.specs.Lists.{by-test, picked, same-eq, same-refl, count-set, count-less}
 use Rattle.meaning.specs.RoundTrip.{AllSendable, sendable-append}
 use Rattle.promise.specs.LiveLaws.{isMapped, mapped-near, mapped-eq, stray-not, Linked, linked-eq, upd, carry, up-linked, give-linked, up-keeps, give-keeps, Books, books-eq, books-free, books-give, books-mark, mark-length}
-use Rattle.promise.specs.CardLaws.{use-after, in-block, lowest-within, lowest-free, shape, Proper, Tidy, at-proper, at-place, at-named, labelled-is, labelled-tidy, labelled-at, untouched-same, untouched-then, labelled-untouched, used-untouched}
+use Rattle.promise.specs.CardLaws.{use-after, in-block, shape, Proper, Tidy, at-proper, at-place, at-named, labelled-is, labelled-tidy, labelled-at, untouched-same, untouched-then, untouched-last, labelled-untouched, used-untouched, next-within, next-use, next-from, next-free}
+
+-- the last label given is of the block, and none only while no label is in use
+pub record Spent (c : Card) : Type 0 where
+  pub none : c .last ≡ 0 → freeLabels c ≡ 256
+  pub block : (c .last ≡ 0 → ⊥) → (c .base ≤ c .last) × (c .last < c .base + 256)
+
+-- it depends on three things
+pub spent-eq : (c d : Card) → d .last ≡ c .last → d .base ≡ c .base → (freeLabels c ≡ 256 → freeLabels d ≡ 256) → Spent c → Spent d
+spent-eq c d l b f s = record { none = λ z. f (s .none (sym l ∙ z)); block = λ z. rw (l, b) (s .block (λ k. z (l ∙ k))) }
 
 -- the table is sound, and gs are the labels that are live
 pub record Sound (c : Card) (gs : List Given) : Type 0 where
@@ -28,6 +37,7 @@ pub record Sound (c : Card) (gs : List Given) : Type 0 where
   pub linked : Linked (λ a. treeOf a c .label) (λ l. useOf l c)
   pub books : Books (λ l. useOf l c) gs
   pub sum : length gs + freeLabels c ≡ 256
+  pub last : Spent c
 
 -- a move of the label of the tree at place i
 pub record Fine (i : ℕ) (c : Card) (gs : List Given) (m : Moved) : Type 0 where
@@ -119,30 +129,33 @@ module _ (c : Card) (gs : List Given) (S : Sound c gs) (i : ℕ) (h : i < length
   unfolding treeAt setUse withLabels
   used-name = refl
 
-  moved-fine : (ms : List Sent) → Linked (carry (λ a. treeOf a c .label) (treeAt i c .name) x) (upd (λ l. useOf l c) m v) → Books (upd (λ l. useOf l c) m v) (noteAll ms gs)
-      → length (noteAll ms gs) + freeLabels moved ≡ 256 → NoneLive ms gs → AllSendable ms
+  -- (and k is the last label given)
+  moved-fine : (ms : List Sent) (k : ℕ) → Linked (carry (λ a. treeOf a c .label) (treeAt i c .name) x) (upd (λ l. useOf l c) m v) → Books (upd (λ l. useOf l c) m v) (noteAll ms gs)
+      → length (noteAll ms gs) + freeLabels moved ≡ 256 → NoneLive ms gs → AllSendable ms → Spent (withLast k moved)
       → ((b : List ℕ) → same (treeAt i c .name) b ≡ false → upd (λ l. useOf l c) m v (treeOf b c .label) ≡ useOf (treeOf b c .label) c)
       → useBut (treeAt i c .name) v ≡ useBut (treeAt i c .name) (useOf m c)
-      → Fine i c gs (record { sent = ms; card = moved })
-  moved-fine ms L B n f sd keep mine = record {
+      → Fine i c gs (record { sent = ms; card = withLast k moved })
+  unfolding withLast
+  moved-fine ms k L B n f sd sp keep mine = record {
     sound = record {
       tidy = moved-tidy;
       low = unfold setLabel setUse withLabels withTrees in S .low;
       high = unfold setLabel setUse withLabels withTrees in S .high;
       many = unfold setLabel setUse withLabels withTrees in length-set (c .labels) (m - c .base) v ∙ S .many;
-      linked = linked-eq _ _ _ _ moved-label moved-use L;
-      books = books-eq _ _ _ moved-use B;
-      sum = n;
+      linked = unfold treeOf treePlace useOf in linked-eq _ _ _ _ moved-label moved-use L;
+      books = unfold useOf in books-eq _ _ _ moved-use B;
+      sum = unfold freeLabels in n;
+      last = sp;
     };
     fair = f;
     said = sd;
-    others = λ b e. moved-tree b ∙ rw e refl;
-    uses = λ b e. moved-use (treeOf b c .label) ∙ keep b e;
-    shapes = λ b. ap shape (moved-tree b) ∙ picked (λ (t : Tree). shape t ≡ shape (treeOf b c)) (same (treeAt i c .name) b) (λ _. unfold shape withLabel in refl) (λ _. refl);
+    others = λ b e. unfold treeOf treePlace in (moved-tree b ∙ rw e refl);
+    uses = λ b e. unfold useOf in (moved-use (treeOf b c .label) ∙ keep b e);
+    shapes = λ b. unfold treeOf treePlace in ap shape (moved-tree b) ∙ picked (λ (t : Tree). shape t ≡ shape (treeOf b c)) (same (treeAt i c .name) b) (λ _. unfold shape withLabel in refl) (λ _. refl);
     size = unfold setLabel setUse withLabels withTrees in length-set (c .trees) i _;
     routes = unfold setLabel setUse withLabels withTrees in refl;
-    at = moved-at;
-    apart = untouched-then _ c (setUse m v c) moved (used-untouched _ c m v from within mine) (subst (λ (a : List ℕ). Untouched a (setUse m v c) moved) used-name (labelled-untouched (setUse m v c) i x));
+    at = λ j. unfold treeAt in moved-at j;
+    apart = untouched-last _ c moved k (untouched-then _ c (setUse m v c) moved (used-untouched _ c m v from within mine) (subst (λ (a : List ℕ). Untouched a (setUse m v c) moved) used-name (labelled-untouched (setUse m v c) i x)));
   }
 
 -- the use by its place
@@ -201,55 +214,75 @@ module _ (c : Card) (gs : List Given) (S : Sound c gs) (i : ℕ) (h : i < length
         let high = its-block .1 in
         (record { near = near; says = record { kind = refl; kind-fits = omega arith; name = ok; low = omega (arith, S .low); high = omega (arith, S .high, S .many) } }, tt)
 
+    -- the label that awaits release, with the last one given as it was
+    abbrev awaits : Card
+    awaits = setLabel i 0 (setUse (treeAt i c .label) (awaiting (heldFor c (treeAt i c)) (treeAt i c .name)) c)
+
+    up-last : withLast (c .last) awaits ≡ awaits
+    unfolding withLast setLabel setUse withLabels withTrees
+    up-last = refl
+
+    up-spent : Spent awaits
+    up-spent = spent-eq c awaits (unfold setLabel setUse withLabels withTrees in refl) (unfold setLabel setUse withLabels withTrees in refl) (λ e. ended-free ∙ e) (S .last)
+
     up-fine : Fine i c gs (giveUp i c)
     unfolding giveUp
-    up-fine = rw its-end (moved-fine c gs S i h (treeAt i c .label) 0 _ (its-block .0) (its-block .1) _
+    up-fine = rw (its-end, ← up-last) (moved-fine c gs S i h (treeAt i c .label) 0 _ (its-block .0) (its-block .1) _ (c .last)
         (up-linked _ _ (S .linked) (treeAt i c .name) (treeAt i c .label) (heldFor c (treeAt i c)) (held-own some-one))
         (unfold noteAll noteSent in books-mark _ gs (S .books) (treeAt i c .name) (treeAt i c .label) (heldFor c (treeAt i c)) withdraw its-use)
         (unfold noteAll noteSent in ap₂ _+_ (mark-length _ _ gs) ended-free ∙ S .sum)
         (unfold NoneLive in ((λ e. absurd (omega arith)), tt))
         (unfold giveUp in up-said)
+        (rw up-last up-spent)
         (λ b n. up-keeps _ _ (S .linked) (treeAt i c .name) (treeAt i c .label) _ b (held-own some-one) n)
         (own-awaiting (heldFor c (treeAt i c)) (treeAt i c .name) ∙ sym (ap (useBut (treeAt i c .name)) its-use ∙ own-mapped (heldFor c (treeAt i c)) (treeAt i c .name))))
 
   module _ (u : ℕ) (near : u < 16) (some-free : 0 < freeLabels c) (none : treeAt i c .label ≡ 0) where
-    not-zero : lowestFree c ≡ 0 → ⊥
-    unfolding lowestFree
-    not-zero z = omega (arith, S .low)
+    not-zero : nextFree c ≡ 0 → ⊥
+    not-zero z = omega (arith, S .low, next-from c some-free)
+
+    given-free : suc (freeLabels (setLabel i (nextFree c) (setUse (nextFree c) (mapped u (treeAt i c .name)) c))) ≡ freeLabels c
+    unfolding freeLabels setLabel setUse withLabels withTrees
+    given-free = count-less isFree (c .labels) (nextFree c - c .base) (mapped u (treeAt i c .name)) free (next-use c some-free) (unfold isFree in refl) (next-within c some-free)
 
     give-free : suc (freeLabels (give i u c .card)) ≡ freeLabels c
-    unfolding freeLabels give setLabel setUse withLabels withTrees lowestFree
-    give-free = rw (add-sub-cancel-left (c .base) (place isFree (c .labels))) (count-set-place isFree (c .labels) (mapped u (treeAt i c .name)) (unfold isFree in refl) (unfold freeLabels in some-free))
+    unfolding give withLast freeLabels
+    give-free = given-free
 
     give-said : AllSendable (give i u c .sent)
     unfolding AllSendable give isKind
     give-said =
         let ok : elementRefusal (treeAt i c .name) ≡ 0 = unfold Proper in at-proper c i (S .tidy) h .1 in
-        let from : c .base ≤ lowestFree c = unfold lowestFree in omega arith in
-        let within = lowest-within c some-free in
+        let from = next-from c some-free in
+        let within = next-within c some-free in
         (record { near = near; says = record { kind = refl; kind-fits = omega arith; name = ok; low = omega (arith, S .low); high = omega (arith, S .high, S .many) } }, tt)
+
+    give-spent : Spent (give i u c .card)
+    unfolding give withLast setLabel setUse withLabels withTrees
+    give-spent = let within = next-within c some-free in let from = next-from c some-free in record { none = λ z. absurd (not-zero z); block = λ z. (from, omega (arith, S .many)) }
 
     give-fine : Fine i c gs (give i u c)
     unfolding give
-    give-fine = moved-fine c gs S i h (lowestFree c) (lowestFree c) _ (unfold lowestFree in omega arith) (lowest-within c some-free) _
-        (give-linked _ _ (S .linked) (treeAt i c .name) (lowestFree c) u (its-label ∙ none) (lowest-free c some-free) not-zero (lt-leb 16 u near))
-        (unfold noteAll noteSent in books-give _ gs (S .books) (treeAt i c .name) (lowestFree c) u (lowest-free c some-free))
-        (unfold noteAll noteSent in omega (arith, give-free, S .sum))
-        (unfold NoneLive in ((λ _. books-free _ gs (S .books) (lowestFree c) (lowest-free c some-free)), tt))
+    give-fine = moved-fine c gs S i h (nextFree c) (nextFree c) _ (next-from c some-free) (next-within c some-free) _ (nextFree c)
+        (give-linked _ _ (S .linked) (treeAt i c .name) (nextFree c) u (its-label ∙ none) (next-free c some-free) not-zero (lt-leb 16 u near))
+        (unfold noteAll noteSent in books-give _ gs (S .books) (treeAt i c .name) (nextFree c) u (next-free c some-free))
+        (unfold noteAll noteSent in omega (arith, given-free, S .sum))
+        (unfold NoneLive in ((λ _. books-free _ gs (S .books) (nextFree c) (next-free c some-free)), tt))
         (unfold give in give-said)
-        (λ b n. give-keeps _ _ (S .linked) (lowestFree c) _ b (lowest-free c some-free) not-zero)
-        (own-mapped u (treeAt i c .name) ∙ sym (ap (useBut (treeAt i c .name)) (lowest-free c some-free) ∙ unfold useBut in refl))
+        (unfold give in give-spent)
+        (λ b n. give-keeps _ _ (S .linked) (nextFree c) _ b (next-free c some-free) not-zero)
+        (own-mapped u (treeAt i c .name) ∙ sym (ap (useBut (treeAt i c .name)) (next-free c some-free) ∙ unfold useBut in refl))
 
-    give-at : treeAt i (give i u c .card) .label ≡ lowestFree c
-    unfolding give treeAt setLabel setUse withLabels withTrees
-    give-at = ap (λ (t : Tree). t .label) (labelled-at c (S .tidy) i h (lowestFree c) i) ∙ rw (eq-eqb i i refl) (unfold withLabel in refl)
+    give-at : treeAt i (give i u c .card) .label ≡ nextFree c
+    unfolding give treeAt withLast setLabel setUse withLabels withTrees
+    give-at = ap (λ (t : Tree). t .label) (labelled-at c (S .tidy) i h (nextFree c) i) ∙ rw (eq-eqb i i refl) (unfold withLabel in refl)
 
     give-own : heldFor (give i u c .card) (treeAt i (give i u c .card)) ≡ u
-    unfolding heldFor give
+    unfolding heldFor give useOf withLast
     give-own =
         ap (λ (l : ℕ). mappedTo (useOf l (give i u c .card))) (unfold give in give-at)
-        ∙ ap mappedTo (moved-use c gs S i h (lowestFree c) (lowestFree c) (mapped u (treeAt i c .name)) (unfold lowestFree in omega arith) (lowest-within c some-free) (lowestFree c))
-        ∙ rw (eq-eqb (lowestFree c) (lowestFree c) refl) (unfold mappedTo in refl)
+        ∙ ap mappedTo (moved-use c gs S i h (nextFree c) (nextFree c) (mapped u (treeAt i c .name)) (next-from c some-free) (next-within c some-free) (nextFree c))
+        ∙ rw (eq-eqb (nextFree c) (nextFree c) refl) (unfold mappedTo in refl)
 
 -- ---- the rule of labels
 

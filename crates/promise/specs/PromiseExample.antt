@@ -35,7 +35,7 @@ unfoldable pub ledger : List Given → List ℕ
 ledger [] = []
 ledger (g ∷ gs) = g .to ∷ g .label ∷ pick (g .withdrawn) 1 0 ∷ ledger gs
 
--- 16 is live at 3, 17 at 0 and withdrawn; A leads to neighbour 1 under 300
-pub seven-shown : T (same (ledger (history 16 seven .live)) (3 ∷ 16 ∷ 0 ∷ 0 ∷ 17 ∷ 1 ∷ []) && same (feed (feedBy A (history 16 seven .accepted))) (1 ∷ 300 ∷ []))
+-- 18 is live at 3, 17 at 0 and withdrawn; A leads to neighbour 1 under 300
+pub seven-shown : T (same (ledger (history 16 seven .live)) (3 ∷ 18 ∷ 0 ∷ 0 ∷ 17 ∷ 1 ∷ []) && same (feed (feedBy A (history 16 seven .accepted))) (1 ∷ 300 ∷ []))
 unfolding computing ledger seven A heard flat feed thenSteps thenStep history answerTo sends isTaken liveAt acceptedAt noteAll noteSent noteTaken mark remove isAbout withoutLabel saidBy branchesSaid leafBy branchesTo branchesBy routeBy feedBy
 seven-shown = tt

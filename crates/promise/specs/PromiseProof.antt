@@ -21,7 +21,7 @@ use Rattle.meaning.specs.Refusals.{refusal-keeps}
 use Rattle.meaning.specs.Standing.{standing-at, not-standing}
 use Rattle.promise.specs.LiveLaws.{isMapped, mapped-near, stray, Linked, mapped-one, mapped-not-free, Books, only, givens, count-only, books-one, books-none, each-only}
 use Rattle.promise.specs.CardLaws.{shape, tree-name, tree-sized, Proper, Tidy, AllProper, at-proper, at-named, untouched-same}
-use Rattle.promise.specs.LabelLaws.{Sound}
+use Rattle.promise.specs.LabelLaws.{Sound, spent-eq}
 use Rattle.promise.specs.RuleLaws.{Ruled, held-named}
 use Rattle.promise.specs.RouteLaws.{routeNow, Routed, event-routed}
 use Rattle.promise.specs.EventLaws.{Awaited, heard-awaited, awaiting-eq, byMessage, became, Apart, Keeps, event-keeps, Admits, Meets, event-meets}
@@ -167,7 +167,7 @@ module _ (c : Card) (gs : List Given) (es : List Event) (e : Event) where
       by-test (roomShort room (records (c .next) ms))
       (λ t. rw t u)
       (λ t. rw t (unfold withNext treeOf treePlace useOf freeLabels in record {
-        sound = record { tidy = k .sound .tidy; low = k .sound .low; high = k .sound .high; many = k .sound .many; linked = k .sound .linked; books = k .sound .books; sum = k .sound .sum };
+        sound = record { tidy = k .sound .tidy; low = k .sound .low; high = k .sound .high; many = k .sound .many; linked = k .sound .linked; books = k .sound .books; sum = k .sound .sum; last = spent-eq after _ refl refl (λ e. e) (k .sound .last) };
         reads = λ a. reads-shape a (e ∷ es) _ _ (k .shapes a) (became-reads c (u .sound .tidy) a es (u .reads a) e g);
         ruled = unfold treeAt heldFor holderOf routeOf routePlace in record { roots = k .ruled (u .ruled) .roots; full = k .ruled (u .ruled) .full; held = k .ruled (u .ruled) .held; trees = k .ruled (u .ruled) .trees; routes = k .ruled (u .ruled) .routes };
         routed = λ q. unfold routeOf routePlace in w q ∙ ap (routeNow e q) (u .routed q) ∙ sym (route-by e q es);
@@ -260,6 +260,7 @@ fresh-upheld b low high = record {
     };
     books = unfold Books only givens in λ l. rw (fresh-use b l) refl;
     sum = unfold freeLabels fresh count isFree in refl;
+    last = unfold freeLabels fresh count isFree in record { none = λ _. refl; block = λ z. absurd (z refl) };
   };
   reads = λ a. unfold treeOf treePlace place fresh bare branchesSaid leafBy in record { name = refl; said = λ n. sym (ap listed (getD-all 16 n 0) ∙ unfold listed isBranch in refl); leaf = refl };
   ruled = unfold fresh count in record { roots = λ r. zero-le; full = λ j h. absurd (not-suc-le-zero h); held = λ j h. absurd (not-suc-le-zero h); trees = zero-le; routes = zero-le };

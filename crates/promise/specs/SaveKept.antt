@@ -8,20 +8,21 @@ use mathlib.Core.Bool.{Bool, true, false, _&&_}
 use mathlib.Core.List.{List, [], _∷_}
 use lib.ListN.{getD, length}
 use lib.Dec.{eqb, ltb}
-use borrow.Author.Tests.{eqb-false, eq-eqb, le-leb, lt-ltb, ltb-false}
+use borrow.Author.Tests.{eqb-false, eq-eqb, le-leb, lt-ltb, ltb-false, eqb-true}
 use Rattle.meaning.specs.Octets.{same, all, pick}
 use Rattle.meaning.specs.Wire.{mapping, withdraw, messageIn, elementRefusal}
-use Rattle.meaning.specs.Card.{Tree, Use, free, mapped, awaiting, Card, fresh, withNext, bare, treeOf, treeAt, isBranch, isEmpty, useOf}
-use Rattle.meaning.specs.Events.{refuse, accept, Event, receive, join, leave, route, baseOutside, start}
+use Rattle.meaning.specs.Card.{Tree, Use, free, mapped, awaiting, Card, fresh, withNext, bare, treeOf, treeAt, isBranch, isEmpty, useOf, withLast, treePlace, heldFor, freeLabels, routeOf, routePlace}
+use Rattle.meaning.specs.Events.{refuse, accept, Event, receive, join, leave, route, baseOutside, start, holderOf}
 use Rattle.meaning.specs.Lists.{by-test, picked, same-refl}
-use Rattle.meaning.specs.Save.{isName, isBranchLabel, isTree, isUse, isCarried, isMappedFor, carriesOwn, keepsRules, saved, restore, fitsSave}
+use Rattle.meaning.specs.Save.{isName, isBranchLabel, isTree, isUse, isCarried, isMappedFor, carriesOwn, keepsRules, saved, restore, fitsSave, settled, lastRight}
 use Rattle.meaning.specs.SaveFields.{all-cons}
 use Rattle.meaning.specs.SaveRules.{all-of, Rules, rules-kept}
-use Rattle.meaning.specs.SaveLaws.{restored}
-use Rattle.promise.specs.Promise.{Given, ofLabel, withoutLabel, saidBy, branchesSaid, Step, Past, thenSteps, begun, history, Each, Promise}
+use Rattle.meaning.specs.SaveLaws.{restored, highest-none, highest-block}
+use Rattle.promise.specs.Promise.{Given, ofLabel, withoutLabel, saidBy, branchesSaid, Step, Past, thenSteps, begun, history, Each, Promise, branchesBy}
 use Rattle.promise.specs.LiveLaws.{isMapped, only, givens, Books}
 use Rattle.promise.specs.CardLaws.{Proper, at-proper, at-named}
 use Rattle.promise.specs.PromiseProof.{listed, Upheld, steps-upheld, started, history-upheld, kept}
+use Rattle.promise.specs.LabelLaws.{Spent}
 use Rattle.promise.specs.SaveSteps.{Passed, AllPassed, Told, Writable, steps-writable}
 
 -- ---- branches: each is the label of an accepted Mapping
@@ -170,15 +171,53 @@ history-keeps-rules base steps = past-keeps-rules (history base steps) (history-
 unfoldable pub swapped : Past → Card → Past
 swapped p d = record { card = pick (fitsSave (p .card)) (restore (saved (p .card)) d .card) (p .card); live = p .live; accepted = p .accepted }
 
-pub swapped-same : (p : Past) → keepsRules (p .card) ≡ true → (d : Card) → swapped p d ≡ p
-unfolding swapped
+-- The table is the same but for the last label given: that is the highest in use.
+unfoldable pub resettled : Past → Past
+resettled p = record { card = pick (fitsSave (p .card)) (settled (p .card)) (p .card); live = p .live; accepted = p .accepted }
+
+pub swapped-same : (p : Past) → keepsRules (p .card) ≡ true → (d : Card) → swapped p d ≡ resettled p
+unfolding swapped resettled
 swapped-same p h d =
     by-test (fitsSave (p .card))
     (λ e. rw (e, restored (p .card) h e d) refl)
     (λ e. rw e refl)
 
+settled-spent : (c : Card) → 16 ≤ c .base → length (c .labels) ≡ 256 → Spent (settled c)
+unfolding settled withLast freeLabels
+settled-spent c low many = record {
+  none = λ z. highest-none (c .base) (c .labels) (omega arith) z ∙ many;
+  block = λ z. let p = highest-block (c .base) (c .labels) z in (p .0, omega (arith, p .1));
+}
+
+-- the past of a card whose last label given is the highest in use
+unfoldable highest : Past → Past
+highest p = record { card = settled (p .card); live = p .live; accepted = p .accepted }
+
+highest-upheld : (p : Past) → Upheld p → Upheld (highest p)
+unfolding highest settled withLast treeOf treePlace useOf freeLabels
+highest-upheld p u = record {
+  sound = record { tidy = u .sound .tidy; low = u .sound .low; high = u .sound .high; many = u .sound .many; linked = u .sound .linked; books = u .sound .books; sum = u .sound .sum; last = unfold settled withLast in settled-spent (p .card) (u .sound .low) (u .sound .many) };
+  reads = u .reads;
+  ruled = unfold treeAt heldFor holderOf routeOf routePlace in record { roots = u .ruled .roots; full = u .ruled .full; held = u .ruled .held; trees = u .ruled .trees; routes = u .ruled .routes };
+  routed = λ q. unfold routeOf routePlace in u .routed q;
+}
+
+highest-writable : (p : Past) → Writable p → Writable (highest p)
+unfolding highest settled withLast
+highest-writable p w = record { next = w .next; routes = w .routes; passed = w .passed; told = w .told }
+
+either-way : (P : Past → Type 0) (p : Past) → P p → P (highest p) → P (resettled p)
+unfolding resettled highest
+either-way P p stays goes = by-test (fitsSave (p .card)) (λ e. rw e goes) (λ e. rw e stays)
+
+pub resettled-upheld : (p : Past) → Upheld p → Upheld (resettled p)
+resettled-upheld p u = either-way Upheld p u (highest-upheld p u)
+
+pub resettled-writable : (p : Past) → Writable p → Writable (resettled p)
+resettled-writable p w = either-way Writable p w (highest-writable p w)
+
 pub swap-upheld : (p : Past) → Upheld p → keepsRules (p .card) ≡ true → (d : Card) → Upheld (swapped p d)
-swap-upheld p u h d = rw (swapped-same p h d) u
+swap-upheld p u h d = rw (swapped-same p h d) (resettled-upheld p u)
 
 -- the promise, over a swap and all further steps
 pub swap-kept : (p : Past) → Upheld p → keepsRules (p .card) ≡ true → (d : Card) (more : List Step) → Promise (thenSteps (swapped p d) more)
@@ -188,10 +227,20 @@ swap-kept p u h d more = kept (thenSteps (swapped p d) more) (steps-upheld (swap
 pub promise-continues : (base : ℕ) (steps : List Step) (d : Card) (more : List Step) → Promise (thenSteps (swapped (history base steps) d) more)
 promise-continues base steps d more = swap-kept (history base steps) (history-upheld base steps) (history-keeps-rules base steps) d more
 
--- The save of a table after any history, where its values have their space, is read back as that table.
-pub history-restored : (base : ℕ) (steps : List Step) (d : Card) → fitsSave (history base steps .card) ≡ true → restore (saved (history base steps .card)) d ≡ record { answer = 0; octets = []; card = history base steps .card }
+-- The save of a table after any history, where its values have their space, is read back as that table, but for the last label given.
+pub history-restored : (base : ℕ) (steps : List Step) (d : Card) → fitsSave (history base steps .card) ≡ true → restore (saved (history base steps .card)) d ≡ record { answer = 0; octets = []; card = settled (history base steps .card) }
 history-restored base steps d s = restored (history base steps .card) (history-keeps-rules base steps) s d
 
--- And what follows is what would have followed without the swap, so that swaps may be many.
-pub swap-goes-on : (base : ℕ) (steps : List Step) (d : Card) (more : List Step) → thenSteps (swapped (history base steps) d) more ≡ thenSteps (history base steps) more
+-- And what follows is what would have followed, without the swap, from a card whose last label given is the highest in use; so that swaps may be many.
+pub swap-goes-on : (base : ℕ) (steps : List Step) (d : Card) (more : List Step) → thenSteps (swapped (history base steps) d) more ≡ thenSteps (resettled (history base steps)) more
 swap-goes-on base steps d more = ap (λ (p : Past). thenSteps p more) (swapped-same (history base steps) (history-keeps-rules base steps) d)
+
+-- After any history the last label given is of the block, and none only while no label is in use.
+pub history-last : (base : ℕ) (steps : List Step) → lastRight (history base steps .card) ≡ true
+history-last base steps = right (history base steps .card) (history-upheld base steps .sound .last)
+  where
+    right : (c : Card) → Spent c → lastRight c ≡ true
+    right c s =
+        unfold lastRight in by-test (eqb (c .last) 0)
+        (λ e. rw e (eq-eqb _ _ (s .none (eqb-true _ _ e))))
+        (λ e. let p = s .block (eqb-false _ _ e) in rw (e, le-leb (c .base) (c .last) (p .0), lt-ltb (c .last) (c .base + 256) (p .1)) refl)
