@@ -6,7 +6,7 @@ use lib.ListN.{getD, length, length-set}
 use lib.Seq.{getD-set-same}
 use lib.Dec.{eqb}
 use Rattle.meaning.specs.Lists.{picked}
-use Rattle.meaning.specs.Card.{Tree, Card, Use, noRoute, withTrees, withLabels, withLabel, bare, treeAt, isEmpty, heldFor}
+use Rattle.meaning.specs.Card.{Tree, Card, Use, noRoute, withTrees, withLabels, withLabel, bare, treeAt, isEmpty, heldFor, withLast}
 use Rattle.meaning.specs.Events.{Moved, still, followedBy, setUse, setLabel, giveUp, give, letGo, takeUp, moveLabel, relabel}
 
 -- ---- the tree at a place, after its label has moved
@@ -32,6 +32,10 @@ alike-label i x l v c h =
     let e : treeAt i (setLabel i x (setUse l v c)) ≡ withLabel x (treeAt i (setUse l v c)) = label-at i x (setUse l v c) (unfold setUse withLabels in h) in
     rw e (unfold treeAt setUse withLabels withLabel in record { name = refl; branches = refl; leaf = refl })
 
+pub last-tree : (i l : ℕ) (c : Card) → treeAt i (withLast l c) ≡ treeAt i c
+unfolding treeAt withLast
+last-tree i l c = refl
+
 -- what a move keeps: the tree at its place, but for its label, and the number of trees
 pub record Stays (i : ℕ) (c : Card) (m : Moved) : Type 0 where
   pub tree : Alike (treeAt i (m .card)) (treeAt i c)
@@ -54,7 +58,7 @@ module _ (i : ℕ) (c : Card) (h : i < length (c .trees)) where
   take-up-stays u =
       picked (Stays i c) (eqb u noRoute)
       (λ _. still-stays)
-      (λ _. unfold give in record { tree = alike-label i _ _ _ c h; many = unfold setLabel setUse withLabels withTrees in length-set (c .trees) i _ })
+      (λ _. unfold give in record { tree = rw (last-tree i) (alike-label i _ _ _ c h); many = unfold withLast setLabel setUse withLabels withTrees in length-set (c .trees) i _ })
 
 pub move-stays : (i u : ℕ) (c : Card) → i < length (c .trees) → Stays i c (moveLabel i u c)
 unfolding moveLabel followedBy

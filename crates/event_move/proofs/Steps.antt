@@ -1,18 +1,18 @@
 -- What each function leaves in the memory is the card that its move leaves. Assumes nothing.
 use Prim.Native.Nat.{ℕ, _+_, _*_, _-_, _≤_, _<_}
 use native.Mathlib.Omega.{arith}
-use mathlib.Core.Path.{_≡_, refl, sym, ap, _∙_}
+use mathlib.Core.Path.{_≡_, refl, sym, ap, ap₂, _∙_}
 use mathlib.Core.List.{List}
 use lib.ListN.{getD, length}
 use borrow.Author.Tests.{eq-eqb, ne-eqb, le-leb}
-use Rattle.meaning.specs.Octets.{place}
-use Rattle.meaning.specs.Lists.{place-count}
 use Rattle.meaning.specs.Wire.{recordOf, nextId, records, idsAfter, recordSize}
-use Rattle.meaning.specs.Card.{Card, free, mapped, treeAt, isFree, useOf, heldFor, freeLabels, lowestFree, labelCount}
+use Rattle.meaning.specs.Card.{Card, Use, free, mapped, withTrees, withLabels, withLast, treeAt, useOf, heldFor, freeLabels, nextFree, labelCount}
+use Rattle.meaning.specs.NextFree.{nextPlace, next-free}
 use Rattle.meaning.specs.Events.{still, tell, setUse, setLabel, ended, giveUp, give, letGo, takeUp, moveLabel, relabel, needMove}
 use Rattle.octets.specs.Part.{mid}
-use Rattle.memory.specs.Memory.{cardOf, baseIn, treeCount}
+use Rattle.memory.specs.Memory.{cardOf, baseIn, treeCount, labelBefore}
 use Rattle.memory.proofs.Memory.{trees-length, labels-length}
+use Rattle.memory.proofs.Head.{label-before}
 use Rattle.memory.proofs.Trees.{label-some, label-carried}
 use Rattle.event_holder.specs.Move.{Wrote, moveSize}
 use Rattle.event_move.proofs.Records.{wrote-nothing, wrote-one, then-length}
@@ -69,27 +69,35 @@ let-nothing i id at c s e = (rw (let-go-none i c e) (wrote-nothing c id at s), r
 
 -- a label is free: its place, and the label there
 
-pub free-place : (ns os : List ℕ) (p : ℕ) → p ≡ place isFree (cardOf ns os .labels) → 0 < freeLabels (cardOf ns os) → p < labelCount
-unfolding freeLabels
-free-place ns os p e h = omega (arith, place-count isFree (cardOf ns os .labels) h, labels-length ns os)
+pub free-place : (ns os : List ℕ) (p : ℕ) → p ≡ nextPlace (cardOf ns os) → 0 < freeLabels (cardOf ns os) → p < labelCount
+free-place ns os p e h = omega (arith, next-free (cardOf ns os) h .0, labels-length ns os)
 
-lowest-at : (ns os : List ℕ) (p : ℕ) → p ≡ place isFree (cardOf ns os .labels) → baseIn ns + p ≡ lowestFree (cardOf ns os)
-unfolding cardOf lowestFree
-lowest-at ns os p e = ap (λ (k : ℕ). baseIn ns + k) e
+next-at : (ns os : List ℕ) (p : ℕ) → p ≡ nextPlace (cardOf ns os) → baseIn ns + p ≡ nextFree (cardOf ns os)
+unfolding cardOf nextFree
+next-at ns os p e = ap (λ (k : ℕ). baseIn ns + k) e
 
-pub gave : (i u p b id at next : ℕ) (ns ns' os os' name s s' : List ℕ) → b ≡ baseIn ns
+-- the label's own change leaves the base
+base-left : (ns ms os qs : List ℕ) (i l : ℕ) (u : Use) → cardOf ms qs ≡ setLabel i l (setUse l u (cardOf ns os)) → baseIn ms ≡ baseIn ns
+unfolding cardOf setLabel setUse withTrees withLabels
+base-left ns ms os qs i l u e = ap (λ (c : Card). c .base) e
+
+pub gave : (i u p b id at next : ℕ) (ns ms ns' os os' name s s' : List ℕ) → b ≡ baseIn ns
     → 0 < freeLabels (cardOf ns os)
-    → p ≡ place isFree (cardOf ns os .labels)
+    → p ≡ nextPlace (cardOf ns os)
     → name ≡ treeAt i (cardOf ns os) .name
     → next ≡ nextId id → s' ≡ mid at (recordSize name) s (recordOf id (tell u 0x0400 name (b + p)))
-    → cardOf ns' os' ≡ setLabel i (baseIn ns + p) (setUse (baseIn ns + p) (mapped u (treeAt i (cardOf ns os) .name)) (cardOf ns os))
+    → cardOf ms os' ≡ setLabel i (baseIn ns + p) (setUse (baseIn ns + p) (mapped u (treeAt i (cardOf ns os) .name)) (cardOf ns os))
+    → cardOf ns' os' ≡ withLast (labelBefore (baseIn ms) (p + 1)) (cardOf ms os')
     → Wrote (give i u (cardOf ns os)) id at s s' (cardOf ns' os') (at + recordSize name) next × (freeLabels (cardOf ns' os') + 1 ≡ freeLabels (cardOf ns os))
 unfolding give
-gave i u p b id at next ns ns' os os' name s s' eb some ep en ei es e₁ =
-    let l : b + p ≡ lowestFree (cardOf ns os) = ap (λ (n : ℕ). n + p) eb ∙ lowest-at ns os p ep in
+gave i u p b id at next ns ms ns' os os' name s s' eb some ep en ei es e₁ e₂ =
+    let l : b + p ≡ nextFree (cardOf ns os) = ap (λ (n : ℕ). n + p) eb ∙ next-at ns os p ep in
+    let given : labelBefore (baseIn ms) (p + 1) ≡ baseIn ns + p =
+    label-before (baseIn ms) p (free-place ns os p ep some) ∙ ap (λ (n : ℕ). n + p) (base-left ns ms os os' i (baseIn ns + p) _ e₁) in
     let e : cardOf ns' os' ≡ give i u (cardOf ns os) .card =
-    e₁ ∙ ap (λ (n : ℕ). setLabel i n (setUse n (mapped u (treeAt i (cardOf ns os) .name)) (cardOf ns os))) (lowest-at ns os p ep) in
-    let es' : s' ≡ mid at (recordSize (treeAt i (cardOf ns os) .name)) s (recordOf id (tell u 0x0400 (treeAt i (cardOf ns os) .name) (lowestFree (cardOf ns os)))) = rw (← en, ← l) es in
+    e₂ ∙ ap₂ withLast given e₁
+    ∙ ap (λ (n : ℕ). withLast n (setLabel i n (setUse n (mapped u (treeAt i (cardOf ns os) .name)) (cardOf ns os)))) (next-at ns os p ep) in
+    let es' : s' ≡ mid at (recordSize (treeAt i (cardOf ns os) .name)) s (recordOf id (tell u 0x0400 (treeAt i (cardOf ns os) .name) (nextFree (cardOf ns os)))) = rw (← en, ← l) es in
     (rw en (wrote-one _ _ id at next s s' (cardOf ns' os') e es' ei), ap (λ (c : Card). freeLabels c + 1) e ∙ give-free i u (cardOf ns os) some)
 
 -- ---- u is a neighbour, or none

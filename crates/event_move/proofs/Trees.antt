@@ -8,13 +8,14 @@ use mathlib.Core.List.{List, [], _++_, append-assoc}
 use lib.ListN.{getD, length}
 use lib.Seq.{getD-set-other}
 use lib.Dec.{eqb}
-use Rattle.meaning.specs.Octets.{place}
-use Rattle.meaning.specs.Lists.{append-nil, by-test, picked, count-set, count-set-place}
+use Rattle.meaning.specs.Octets.{placeFrom}
+use Rattle.meaning.specs.Lists.{append-nil, by-test, picked, count-set, count-less}
 use Rattle.meaning.specs.Wire.{Sent, records}
-use Rattle.meaning.specs.Card.{Tree, Card, Use, free, mapped, awaiting, withTrees, withLabels, bare, treeAt, isFree, useOf, freeLabels, lowestFree, nobody}
+use Rattle.meaning.specs.Card.{Tree, Card, Use, free, mapped, awaiting, withTrees, withLabels, withLast, bare, treeAt, isFree, useOf, freeLabels, turn, nextFree, nobody}
+use Rattle.meaning.specs.NextFree.{nextPlace, next-free}
 use Rattle.meaning.specs.Events.{Moved, still, followedBy, setUse, setLabel, ended, giveUp, give, letGo, takeUp, moveLabel, holder, ofRoot, moveOne, moveFrom, sumFrom}
 use Rattle.event_holder.specs.Move.{sizeOne}
-use Rattle.event_move.proofs.Alike.{move-stays}
+use Rattle.event_move.proofs.Alike.{last-tree, move-stays}
 use Rattle.event_move.proofs.Sizes.{move-size}
 
 -- ---- free labels
@@ -31,10 +32,11 @@ give-up-free i c e =
     count-set isFree (c .labels) (treeAt i c .label - c .base) (ended (useOf (treeAt i c .label) c)) free (ended-free (useOf (treeAt i c .label) c) ∙ ap isFree e)
 
 pub give-free : (i u : ℕ) (c : Card) → 0 < freeLabels c → freeLabels (give i u c .card) + 1 ≡ freeLabels c
-unfolding freeLabels give setLabel setUse withLabels withTrees lowestFree
+unfolding freeLabels give setLabel setUse withLabels withTrees withLast nextFree
 give-free i u c some =
-    let e : c .base + place isFree (c .labels) - c .base ≡ place isFree (c .labels) = omega arith in
-    rw e (add-one _ ∙ count-set-place isFree (c .labels) (mapped u (treeAt i c .name)) (unfold isFree in refl) (unfold freeLabels in some))
+    let e : c .base + nextPlace c - c .base ≡ nextPlace c = omega arith in
+    let f = next-free c (unfold freeLabels in some) in
+    rw e (add-one _ ∙ count-less isFree (c .labels) (nextPlace c) (mapped u (treeAt i c .name)) free (f .1) (unfold isFree in refl) (f .0))
 
 -- ---- one move leaves the other trees
 
@@ -52,7 +54,7 @@ module _ (i j : ℕ) (ne : j ≡ i → ⊥) where
 
   take-up-other : (u : ℕ) (c : Card) → treeAt j (takeUp i u c .card) ≡ treeAt j c
   unfolding takeUp still give
-  take-up-other u c = picked (λ (m : Moved). treeAt j (m .card) ≡ treeAt j c) (eqb u nobody) (λ _. refl) (λ _. moved-other i j _ _ _ c ne)
+  take-up-other u c = picked (λ (m : Moved). treeAt j (m .card) ≡ treeAt j c) (eqb u nobody) (λ _. refl) (λ _. last-tree j _ _ ∙ moved-other i j _ _ _ c ne)
 
   pub one-other : (r : List ℕ) (u : ℕ) (c : Card) → treeAt j (moveOne r u i c .card) ≡ treeAt j c
   unfolding moveOne moveLabel still followedBy

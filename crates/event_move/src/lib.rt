@@ -74,12 +74,13 @@ fn give(
     ensures { λ r. ⌜ (let c = cardOf (now (numbers .entry)) (now (names .entry)) in Wrote (give i u c) id at (now (out .entry)) (now (out .exit)) (cardOf (now (numbers .exit)) (now (names .exit))) (r .at) (r .id)
         × (freeLabels (cardOf (now (numbers .exit)) (now (names .exit))) + 1 ≡ freeLabels c)) ⌝ }
 {
-    let p = memory_labels::lowest_free(numbers);
+    let p = memory_labels::next_free(numbers);
     let label = memory::base(numbers) + p as u64;
     let name = memory_trees::tree_name(names, i);
     let end = at + wire_writer::record_size(name);
     let next = wire_writer::send(id, out, at, u, 0x0400, label, name);
     memory_marks::map_label(numbers, names, p, i, u);
+    memory::set_turn(numbers, p + 1);
     Written { at: end, id: next }
 }
 

@@ -6,18 +6,18 @@ use mathlib.Core.Bool.{Bool, true, false}
 use mathlib.Core.List.{List}
 use lib.ListN.{drop, getD, set}
 use lib.Dec.{ltb}
-use lib.Count.{ones, ones-le, trailingZeros}
+use lib.Count.{ones, ones-le}
 use borrow.Author.Tests.{ltb-true, ltb-false, le-leb, lt-leb, eq-eqb, ne-eqb}
-use Rattle.meaning.specs.Octets.{place, count, same}
+use Rattle.meaning.specs.Octets.{count, same}
 use Rattle.meaning.specs.Lists.{by-test, getD-out}
 use Rattle.meaning.specs.Card.{Tree, Use, withTrees, free, withLabels, isFree, isAwaiting, mappedTo, useOf, freeLabels, mapped, awaiting, treeLimit, labelCount}
 use Rattle.meaning.specs.Events.{setUse}
 use Rattle.octets.specs.Part.{tab}
-use Rattle.octets.proofs.Tab.{tab-length, tab-get, tab-ext, tab-set, place-none, count-none}
-use Rattle.octets.proofs.Bits.{trailing-bit, Says, place-word, place-empty, count-word}
+use Rattle.octets.proofs.Tab.{tab-length, tab-get, tab-ext, tab-set, count-none}
+use Rattle.octets.proofs.Bits.{Says, count-word}
 use Rattle.memory.specs.Sizes.{nameSpace, ownColumn, wordCount, rootOctets, labelNames, rootNames}
-use Rattle.memory.specs.Memory.{baseIn, nextIn, routeCount, treeCount, routeIn, wordAt, isFreeAt, markAt, markUse, isMappedAt, labelIn, ownPlace, carriesAt, treeIn, labelName, cardOf, Relabelled, InBlock}
-use Rattle.memory.proofs.Memory.{treeCount-le, base-same, next-same, routes-same, tree-same, label-same, agree-refl}
+use Rattle.memory.specs.Memory.{baseIn, nextIn, routeCount, treeCount, routeIn, wordAt, isFreeAt, markAt, markUse, isMappedAt, labelIn, ownPlace, carriesAt, treeIn, labelName, cardOf, Relabelled, InBlock, lastIn}
+use Rattle.memory.proofs.Memory.{treeCount-le, base-same, next-same, routes-same, tree-same, label-same, agree-refl, last-same}
 use Rattle.memory.proofs.Marks.{never, mapped-at, mapped-use, unmapped-free, unmapped-above, label-free, label-mapped, label-awaiting, free-in, not-mapped, own-beside}
 
 -- ---- labels
@@ -126,49 +126,18 @@ module _ (ns os : List ℕ) (label p : ℕ) (r : InBlock ns label p) where
 
 -- all labels, from the front
 
-pub labels-start : (ns os : List ℕ) → place isFree (cardOf ns os .labels) ≡ 0 + place isFree (drop 0 (tab labelCount (labelIn ns os)))
-unfolding cardOf
-labels-start ns os = omega arith
-
 pub count-start : (ns os : List ℕ) → freeLabels (cardOf ns os) ≡ 0 + count isFree (drop 0 (tab labelCount (labelIn ns os)))
 unfolding freeLabels cardOf
 count-start ns os = omega arith
 
 -- by words: each says which of its 64 labels are free
 
-says : (ns os : List ℕ) (w : ℕ) → w < wordCount → Says isFree labelCount (labelIn ns os) 64 (w * 64) (wordAt ns w)
+pub says : (ns os : List ℕ) (w : ℕ) → w < wordCount → Says isFree labelCount (labelIn ns os) 64 (w * 64) (wordAt ns w)
 unfolding isFreeAt
 says ns os w h j lt =
     let q : (w * 64 + j) / 64 ≡ w = omega arith in
     let m : (w * 64 + j) % 64 ≡ j = omega arith in
     free-in ns (w * 64 + j) os ∙ rw (q, m) refl
-
--- the first word that is not 0 has the lowest; From w: none is free below word w
-module _ (ns : List ℕ) where
-  abbrev pub Lowest : ℕ → Type 0
-  Lowest r = ((os : List ℕ) → r ≡ place isFree (cardOf ns os .labels)) × (r ≤ labelCount) × (r < labelCount → isFreeAt ns r ≡ true)
-
-  abbrev pub From : ℕ → Type 0
-  From w = (os : List ℕ) → place isFree (cardOf ns os .labels) ≡ w * 64 + place isFree (drop (w * 64) (tab labelCount (labelIn ns os)))
-
-  pub lowest-word : (w : ℕ) → w < wordCount → From w → 0 < wordAt ns w → wordAt ns w < 2 ^ 64 → Lowest (w * 64 + trailingZeros 64 (wordAt ns w))
-  unfolding isFreeAt
-  lowest-word w h from p l =
-      let t = trailing-bit 64 (wordAt ns w) p l in
-      let q : (w * 64 + trailingZeros 64 (wordAt ns w)) / 64 ≡ w = omega (arith, t .0) in
-      let m : (w * 64 + trailingZeros 64 (wordAt ns w)) % 64 ≡ trailingZeros 64 (wordAt ns w) = omega (arith, t .0) in (
-        (λ os. sym (from os ∙ place-word isFree labelCount (labelIn ns os) 64 (w * 64) (wordAt ns w) (omega arith) p l (says ns os w h))),
-        omega (arith, t .0),
-        (λ _. rw (q, m) (t .1)),
-      )
-
-  pub lowest-next : (w : ℕ) → w < wordCount → From w → wordAt ns w ≡ 0 → From (w + 1)
-  lowest-next w h from z os =
-      let e : w * 64 + 64 ≡ (w + 1) * 64 = omega arith in
-      from os ∙ place-empty isFree labelCount (labelIn ns os) 64 (w * 64) (omega arith) (rw z at (says ns os w h)) ∙ rw e refl
-
-  pub lowest-none : (w : ℕ) → 4 ≤ w → w ≤ 4 → From w → Lowest labelCount
-  lowest-none w h k from = ((λ os. sym (from os ∙ place-none isFree labelCount (labelIn ns os) (w * 64) (omega arith) (omega arith))), omega arith, (λ lt. absurd (omega arith)))
 
 -- the ones of the four words
 pub few-in : (ns : List ℕ) → ((w : ℕ) → wordAt ns w < 2 ^ 64) → (w : ℕ) → ones (wordAt ns w) ≤ 64
@@ -193,6 +162,7 @@ module _ (ns ms os : List ℕ) (p : ℕ) (h : p < labelCount) (label : ℕ) (e :
       let n : getD ms 3 0 ≡ getD ns 3 0 = r .rest 3 (omega arith) in
       let b : baseIn ms ≡ baseIn ns = base-same ns ms os os (λ j x y. r .rest j (omega arith)) in
       let i : nextIn ms ≡ nextIn ns = next-same ns ms os os (λ j x y. r .rest j (omega arith)) in
+      let given : lastIn ms ≡ lastIn ns = last-same ns ms os os (λ j x y. r .rest j (omega arith)) (λ j x y. r .rest j (omega arith)) in
       let rs : tab (routeCount ms) (routeIn ms os) ≡ tab (routeCount ns) (routeIn ns os) = routes-same ns ms os os (λ j x y. r .rest j (omega arith)) (λ j x y. r .rest j (omega arith)) (agree-refl rootNames rootOctets os) in
       let ls : tab labelCount (labelIn ms os) ≡ set (tab labelCount (labelIn ns os)) p u =
       tab-set labelCount (labelIn ns os) (labelIn ms os) p u h eu (λ j ne lt. label-same ns ms os os j (r .marks j lt ne) (r .frees j lt ne) (agree-refl (labelNames + j * nameSpace) nameSpace os)) in

@@ -4,3 +4,4 @@ pub mod Parts
 pub mod Head
 pub mod Labels
 pub mod Trees
+pub mod NextFree

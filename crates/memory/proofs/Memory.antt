@@ -14,8 +14,8 @@ use Rattle.meaning.specs.Card.{Route, Tree, Use, labelCount, withLabel, withRou
 use Rattle.meaning.specs.Events.{baseOutside}
 use Rattle.octets.specs.Part.{tab}
 use Rattle.octets.proofs.Tab.{tab-length, tab-get, tab-ext, tab-is}
-use Rattle.memory.specs.Sizes.{rootSpace, nameSpace, routeColumn, ownColumn, rowWidth, rowColumn, branchColumn, rowNumbers, markColumn, wordColumn, wordCount, labelNumbers, treeOctets, labelOctets, rootOctets, labelNames, rootNames}
-use Rattle.memory.specs.Memory.{upTo, textAt, treeName, labelName, rootName, baseIn, nextIn, routeCount, treeCount, routeIn, markAt, isFreeAt, isMappedAt, labelIn, ownPlace, carriesAt, ownLabel, treeIn, cardOf}
+use Rattle.memory.specs.Sizes.{turnPlace, rootSpace, nameSpace, routeColumn, ownColumn, rowWidth, rowColumn, branchColumn, rowNumbers, markColumn, wordColumn, wordCount, labelNumbers, treeOctets, labelOctets, rootOctets, labelNames, rootNames}
+use Rattle.memory.specs.Memory.{upTo, textAt, treeName, labelName, rootName, baseIn, nextIn, lastIn, routeCount, treeCount, routeIn, markAt, isFreeAt, isMappedAt, labelIn, ownPlace, carriesAt, ownLabel, treeIn, cardOf}
 
 -- ---- at most k
 
@@ -85,6 +85,10 @@ module _ (ns ns' os os' : List ℕ) where
   unfolding nextIn
   next-same h = rw (h 1 (omega arith) (omega arith)) refl
 
+  pub last-same : Agree 0 1 ns ns' → Agree turnPlace 1 ns ns' → lastIn ns' ≡ lastIn ns
+  unfolding lastIn baseIn
+  last-same g h = rw (g 0 (omega arith) (omega arith), h turnPlace (omega arith) (omega arith)) refl
+
   pub route-same : (i : ℕ) → Agree (routeColumn + i) 1 ns ns' → Agree (rootNames + i * rootSpace) rootSpace os os' → routeIn ns' os' i ≡ routeIn ns os i
   unfolding routeIn rootName
   route-same i h k = rw (text-same rootLimit (rootNames + i * rootSpace) os os' k, h (routeColumn + i) (omega arith) (omega arith)) refl
@@ -148,27 +152,29 @@ module _ (ns ns' os os' : List ℕ) where
 
 module _ (ns ns' os os' : List ℕ) where
   -- the memory of all but the trees and the labels is as it was
-  pub but-rows : (ts : List Tree) (ls : List Use) → Agree 0 3 ns ns' → Agree routeColumn routeLimit ns ns' → Agree rootNames rootOctets os os' → tab (treeCount ns') (treeIn ns' os') ≡ ts → tab labelCount (labelIn ns' os') ≡ ls → cardOf ns' os' ≡ withTrees ts (withLabels ls (cardOf ns os))
+  pub but-rows : (ts : List Tree) (ls : List Use) → Agree 0 3 ns ns' → Agree turnPlace (1 + routeLimit) ns ns' → Agree rootNames rootOctets os os' → tab (treeCount ns') (treeIn ns' os') ≡ ts → tab labelCount (labelIn ns' os') ≡ ls → cardOf ns' os' ≡ withTrees ts (withLabels ls (cardOf ns os))
   unfolding cardOf withTrees withLabels
   but-rows ts ls head vias roots trees labels =
       let b : baseIn ns' ≡ baseIn ns = base-same ns ns' os os' (λ j x y. head j (omega arith) (omega arith)) in
       let n : nextIn ns' ≡ nextIn ns = next-same ns ns' os os' (λ j x y. head j (omega arith) (omega arith)) in
-      let r : tab (routeCount ns') (routeIn ns' os') ≡ tab (routeCount ns) (routeIn ns os) = routes-same ns ns' os os' (λ j x y. head j (omega arith) (omega arith)) vias roots in
+      let r : tab (routeCount ns') (routeIn ns' os') ≡ tab (routeCount ns) (routeIn ns os) = routes-same ns ns' os os' (λ j x y. head j (omega arith) (omega arith)) (λ j x y. vias j (omega arith) (omega arith)) roots in
+      let given : lastIn ns' ≡ lastIn ns = last-same ns ns' os os' (λ j x y. head j (omega arith) (omega arith)) (λ j x y. vias j (omega arith) (omega arith)) in
       cc
 
   -- of all but the trees
-  pub but-trees : (ts : List Tree) → Agree 0 3 ns ns' → Agree routeColumn routeLimit ns ns' → Agree rootNames rootOctets os os' → ((p : ℕ) → p < labelCount → labelIn ns' os' p ≡ labelIn ns os p) → tab (treeCount ns') (treeIn ns' os') ≡ ts → cardOf ns' os' ≡ withTrees ts (cardOf ns os)
+  pub but-trees : (ts : List Tree) → Agree 0 3 ns ns' → Agree turnPlace (1 + routeLimit) ns ns' → Agree rootNames rootOctets os os' → ((p : ℕ) → p < labelCount → labelIn ns' os' p ≡ labelIn ns os p) → tab (treeCount ns') (treeIn ns' os') ≡ ts → cardOf ns' os' ≡ withTrees ts (cardOf ns os)
   but-trees ts head vias roots labels trees =
       but-rows ts (tab labelCount (labelIn ns os)) head vias roots trees (tab-ext labelCount (labelIn ns' os') (labelIn ns os) labels) ∙ unfold cardOf withTrees withLabels in refl
 
   -- and of all but the routes
-  pub but-routes : (rs : List Route) → Agree 0 2 ns ns' → Agree 3 1 ns ns' → Agree ownColumn (treeLimit + rowNumbers + labelNumbers) ns ns' → Agree 0 rootNames os os' → tab (routeCount ns') (routeIn ns' os') ≡ rs → cardOf ns' os' ≡ withRoutes rs (cardOf ns os)
+  pub but-routes : (rs : List Route) → Agree 0 2 ns ns' → Agree 3 2 ns ns' → Agree ownColumn (treeLimit + rowNumbers + labelNumbers) ns ns' → Agree 0 rootNames os os' → tab (routeCount ns') (routeIn ns' os') ≡ rs → cardOf ns' os' ≡ withRoutes rs (cardOf ns os)
   unfolding cardOf withRoutes
   but-routes rs head count rows names routes =
       let b : baseIn ns' ≡ baseIn ns = base-same ns ns' os os' (λ j x y. head j (omega arith) (omega arith)) in
       let n : nextIn ns' ≡ nextIn ns = next-same ns ns' os os' (λ j x y. head j (omega arith) (omega arith)) in
-      let t : tab (treeCount ns') (treeIn ns' os') ≡ tab (treeCount ns) (treeIn ns os) = trees-same ns ns' os os' (λ j x y. head j (omega arith) (omega arith)) count (λ j x y. rows j (omega arith) (omega arith)) (λ j x y. rows j (omega arith) (omega arith)) (λ j x y. rows j (omega arith) (omega arith)) (λ j x y. names j (omega arith) (omega arith)) in
+      let t : tab (treeCount ns') (treeIn ns' os') ≡ tab (treeCount ns) (treeIn ns os) = trees-same ns ns' os os' (λ j x y. head j (omega arith) (omega arith)) (λ j x y. count j (omega arith) (omega arith)) (λ j x y. rows j (omega arith) (omega arith)) (λ j x y. rows j (omega arith) (omega arith)) (λ j x y. rows j (omega arith) (omega arith)) (λ j x y. names j (omega arith) (omega arith)) in
       let l : tab labelCount (labelIn ns' os') ≡ tab labelCount (labelIn ns os) = labels-same ns ns' os os' (λ j x y. rows j (omega arith) (omega arith)) (λ j x y. names j (omega arith) (omega arith)) in
+      let given : lastIn ns' ≡ lastIn ns = last-same ns ns' os os' (λ j x y. head j (omega arith) (omega arith)) (λ j x y. count j (omega arith) (omega arith)) in
       cc
 
 -- the same places of the same list

@@ -20,7 +20,7 @@ use Rattle.memory.specs.Memory.{treeName, baseIn, treeCount, isFreeAt, m
 use Rattle.memory.proofs.Memory.{treeCount-le, base-range, own-kept, tree-with, tree-same, agree-refl, agree-set, tree-at}
 use Rattle.memory.proofs.Marks.{never, mapped-use, unmapped-above, label-mapped, label-awaiting, remarked, remarked-free, carried-in, carried-out, not-mapped, not-named, own-some, own-none}
 use Rattle.memory.proofs.Labels.{use-in, block-under, maps-out, relabelled, beside}
-use Rattle.memory.proofs.Head.{base-away, next-away, routes-away, labels-away}
+use Rattle.memory.proofs.Head.{base-away, next-away, routes-away, labels-away, last-away}
 
 -- ---- what a tree's numbers say
 
@@ -110,7 +110,7 @@ module _ (ns os : List ℕ) (i : ℕ) (l : Numbers ns) (h : i < treeCount ns) (i
       (row-own k v j low high (omega (arith, treeCount-le ns)))
       (agree-set (rowColumn + j * rowWidth) rowWidth ns k v (λ a b. ne (omega arith)))
       (agree-refl (j * nameSpace) nameSpace os)) in
-      cc (base-away ns os k v (omega arith), next-away ns os k v (omega arith), routes-away ns os k v (λ a b. omega arith), labels-away ns os k v (omega arith))
+      cc (base-away ns os k v (omega arith), next-away ns os k v (omega arith), last-away ns os k v (omega arith) (λ e. omega arith), routes-away ns os k v (λ a b. omega arith), labels-away ns os k v (omega arith))
 
   pub set-branch : (n v : ℕ) → n < 16
       → cardOf (set ns (branchColumn + i * rowWidth + n) v) os ≡ withTrees (set (cardOf ns os .trees) i (withBranch n v (treeAt i (cardOf ns os)))) (cardOf ns os)

@@ -1,17 +1,17 @@
 -- The card that the lent memory denotes: any content denotes one. docs/MEMORY.md draws the layout. Assumes nothing.
 use Prim.Native.Nat.{ℕ, _+_, _*_, _-_, _/_, _%_, _≤_, _<_}
-use mathlib.Core.Bool.{Bool, not, _&&_}
+use mathlib.Core.Bool.{Bool, true, not, _&&_}
 use mathlib.Core.Path.{_≡_}
 use mathlib.Core.List.{List}
-use lib.ListN.{length, getD}
-use lib.Dec.{eqb, ltb}
-use Rattle.meaning.specs.Octets.{pick}
+use lib.ListN.{length, getD, drop}
+use lib.Dec.{eqb, leb, ltb}
+use Rattle.meaning.specs.Octets.{pick, place}
 use Rattle.meaning.specs.Wire.{rootLimit, nameLimit}
-use Rattle.meaning.specs.Card.{Route, Tree, Use, free, mapped, awaiting, Card, useOf, treeLimit, routeLimit, labelCount, neighbourCount}
+use Rattle.meaning.specs.Card.{Route, Tree, Use, free, mapped, awaiting, Card, isFree, useOf, treeLimit, routeLimit, labelCount, neighbourCount}
 use Rattle.meaning.specs.Events.{baseOutside}
 use Rattle.octets.specs.Part.{tab}
 use Rattle.octets.specs.Bits.{bit}
-use Rattle.memory.specs.Sizes.{rootSpace, nameSpace, routeColumn, ownColumn, rowWidth, rowColumn, branchColumn, markColumn, wordColumn, labelNames, rootNames}
+use Rattle.memory.specs.Sizes.{rootSpace, nameSpace, turnPlace, routeColumn, ownColumn, rowWidth, rowColumn, branchColumn, markColumn, wordColumn, labelNames, rootNames}
 
 -- at most k
 unfoldable pub upTo : ℕ → ℕ → ℕ
@@ -103,6 +103,19 @@ treeIn ns os i = record {
   label = ownLabel ns i (ownPlace ns i);
 }
 
+-- ---- the last label given
+
+-- the place after that of the last label given, from 1 to labelCount; any other number is none
+abbrev pub turnIn : List ℕ → ℕ
+turnIn ns = getD ns turnPlace 0
+
+-- the label before place v of the block of a base; 0 where v is none of 1 to labelCount
+unfoldable pub labelBefore : ℕ → ℕ → ℕ
+labelBefore base v = pick (ltb 0 v && leb v labelCount) (base + v - 1) 0
+
+unfoldable pub lastIn : List ℕ → ℕ
+lastIn ns = labelBefore (baseIn ns) (turnIn ns)
+
 -- ---- the card
 
 unfoldable pub cardOf : List ℕ → List ℕ → Card
@@ -112,6 +125,7 @@ cardOf ns os = record {
   routes = tab (routeCount ns) (routeIn ns os);
   trees = tab (treeCount ns) (treeIn ns os);
   labels = tab labelCount (labelIn ns os);
+  last = lastIn ns;
 }
 
 -- ---- a change of one label
@@ -130,3 +144,9 @@ pub record InBlock (ns : List ℕ) (label p : ℕ) : Type 0 where
   pub limit : p ≤ labelCount
   pub inside : p < labelCount → label ≡ baseIn ns + p
   pub outside : labelCount ≤ p → (os : List ℕ) → useOf label (cardOf ns os) ≡ free
+
+-- ---- a search for a free label
+
+-- the first free one from place i on is at place r; labelCount where none is free there
+abbrev pub FirstFree : List ℕ → ℕ → ℕ → Type 0
+FirstFree ns i r = ((os : List ℕ) → r ≡ i + place isFree (drop i (cardOf ns os .labels))) × (r ≤ labelCount) × (r < labelCount → isFreeAt ns r ≡ true)

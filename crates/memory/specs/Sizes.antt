@@ -18,8 +18,12 @@ nameSpace = 1 + nameLimit
 
 -- ---- numbers: the head, and then the columns
 
+-- the place after that of the last label given stands before the routes
+abbrev pub turnPlace : ℕ
+turnPlace = 4
+
 abbrev pub routeColumn : ℕ
-routeColumn = 4
+routeColumn = turnPlace + 1
 
 abbrev pub ownColumn : ℕ
 ownColumn = routeColumn + routeLimit

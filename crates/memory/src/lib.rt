@@ -4,10 +4,10 @@ ghost use mathlib.Core.Path.{_≡_};
 ghost use mathlib.Core.List.{List, _∷_};
 ghost use Prim.Native.Nat.{ℕ, _+_, _-_, _≤_, _<_};
 ghost use lib.ListN.{length, replicate};
-ghost use Rattle.meaning.specs.Card.{withNext, routeLimit, treeLimit};
+ghost use Rattle.meaning.specs.Card.{turn, withNext, withLast, labelCount, routeLimit, treeLimit};
 ghost use Rattle.memory.specs.Sizes.{Numbers};
 ghost use Rattle.memory.specs.Parts.{Written, Closed};
-ghost use Rattle.memory.specs.Memory.{cardOf, baseIn, treeCount, routeCount, textAt};
+ghost use Rattle.memory.specs.Memory.{cardOf, baseIn, labelBefore, treeCount, routeCount, textAt};
 use meaning::LABEL_COUNT;
 use meaning::NAME_LIMIT;
 use meaning::NEIGHBOUR_COUNT;
@@ -20,7 +20,9 @@ pub const ROOT_SPACE: usize = 1 + ROOT_LIMIT;
 
 pub const NAME_SPACE: usize = 1 + NAME_LIMIT;
 
-pub const ROUTE_COLUMN: usize = 4;
+pub const TURN_PLACE: usize = 4;
+
+pub const ROUTE_COLUMN: usize = TURN_PLACE + 1;
 
 pub const OWN_COLUMN: usize = ROUTE_COLUMN + ROUTE_LIMIT;
 
@@ -84,6 +86,23 @@ pub fn set_next_id(numbers: &mut [u64], id: u32)
     ensures { λ _. ⌜ ((os : List ℕ) → cardOf (now (numbers .exit)) os ≡ withNext id (cardOf (now (numbers .entry)) os)) ⌝ }
 {
     numbers[1] = id as u64;
+}
+
+// The place of the block at which the search for a free label begins: that after the last one given.
+pub fn turn(numbers: &[u64]) -> usize
+    requires { ⌜ Numbers (now numbers) ⌝ }
+    ensures { λ r. ⌜ ((os : List ℕ) → r ≡ turn (cardOf (now (numbers .entry)) os)) × (r ≤ labelCount) ⌝ }
+{
+    let v = numbers[TURN_PLACE];
+    if LABELS < v { 0 } else { v as usize }
+}
+
+// The label before place v of the block was given last; none where v is 0.
+pub fn set_turn(numbers: &mut [u64], v: usize)
+    requires { ⌜ Numbers (now numbers) ⌝ }
+    ensures { λ _. ⌜ ((os : List ℕ) → cardOf (now (numbers .exit)) os ≡ withLast (labelBefore (baseIn (now (numbers .entry))) v) (cardOf (now (numbers .entry)) os)) ⌝ }
+{
+    numbers[TURN_PLACE] = v as u64;
 }
 
 pub fn route_count(numbers: &[u64]) -> usize

@@ -2,12 +2,12 @@
 ghost use mathlib.Core.Path.{_≡_};
 ghost use mathlib.Core.Bool.{true, false};
 ghost use mathlib.Core.List.{List};
-ghost use Prim.Native.Nat.{ℕ, _+_, _-_, _≤_, _<_};
-ghost use Rattle.meaning.specs.Octets.{place};
+ghost use Prim.Native.Nat.{ℕ, _+_, _*_, _-_, _≤_, _<_};
 ghost use Rattle.meaning.specs.Card.{isFree, isAwaiting, mappedTo, useOf, freeLabels, free, awaiting, labelCount};
 ghost use Rattle.meaning.specs.Events.{setUse, labelsShort};
-ghost use Rattle.memory.specs.Sizes.{Numbers, Names};
-ghost use Rattle.memory.specs.Memory.{cardOf, baseIn, labelName, isFreeAt, isMappedAt, labelIn, Relabelled, InBlock};
+ghost use Rattle.meaning.specs.NextFree.{nextPlace};
+ghost use Rattle.memory.specs.Sizes.{Numbers, Names, wordCount};
+ghost use Rattle.memory.specs.Memory.{cardOf, baseIn, labelName, isFreeAt, isMappedAt, labelIn, Relabelled, InBlock, FirstFree};
 use meaning::LABEL_COUNT;
 use meaning::NAME_LIMIT;
 use memory::FOURTH_WORD;
@@ -137,12 +137,12 @@ pub fn labels_short(numbers: &[u64], needed: usize) -> bool
     free_labels(numbers) < needed
 }
 
-// The place of the lowest free label; 256 where none is free.
-pub fn lowest_free(numbers: &[u64]) -> usize
-    requires { ⌜ Numbers (now numbers) ⌝ }
-    ensures { λ r. ⌜ ((os : List ℕ) → r ≡ place isFree (cardOf (now (numbers .entry)) os .labels)) × (r ≤ labelCount) × (r < labelCount → isFreeAt (now (numbers .entry)) r ≡ true) ⌝ }
+// The place of the first free label of word w or behind it; LABEL_COUNT where none is free there.
+fn free_from_word(numbers: &[u64], from: usize) -> usize
+    requires { ⌜ Numbers (now numbers) × (from ≤ wordCount) ⌝ }
+    ensures { λ r. ⌜ FirstFree (now (numbers .entry)) (from * 64) r ⌝ }
 {
-    let mut w = 0;
+    let mut w = from;
     while w < 4 {
         let x = numbers[WORD_COLUMN + w];
         if x != 0 {
@@ -151,6 +151,35 @@ pub fn lowest_free(numbers: &[u64]) -> usize
         w += 1;
     }
     LABEL_COUNT
+}
+
+// The place of the first free label from place i on; LABEL_COUNT where none is free there. The word of place i is looked at
+// without its bits below i.
+fn free_from(numbers: &[u64], i: usize) -> usize
+    requires { ⌜ Numbers (now numbers) × (i ≤ labelCount) ⌝ }
+    ensures { λ r. ⌜ FirstFree (now (numbers .entry)) i r ⌝ }
+{
+    if LABEL_COUNT <= i {
+        return LABEL_COUNT;
+    }
+    let x = numbers[WORD_COLUMN + i / 64] >> (i % 64);
+    if x != 0 {
+        return i + u64::trailing_zeros(x) as usize;
+    }
+    free_from_word(numbers, i / 64 + 1)
+}
+
+// The place of the label that is given out next: the first free one after the last given, going round the block; LABEL_COUNT where
+// none is free.
+pub fn next_free(numbers: &[u64]) -> usize
+    requires { ⌜ Numbers (now numbers) ⌝ }
+    ensures { λ r. ⌜ ((os : List ℕ) → r ≡ nextPlace (cardOf (now (numbers .entry)) os)) × (r ≤ labelCount) × (r < labelCount → isFreeAt (now (numbers .entry)) r ≡ true) ⌝ }
+{
+    let p = free_from(numbers, memory::turn(numbers));
+    if p < LABEL_COUNT {
+        return p;
+    }
+    free_from_word(numbers, 0)
 }
 
 // A label that is not mapped is free from now on.

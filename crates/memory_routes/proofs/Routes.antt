@@ -65,7 +65,7 @@ remove-route ns vs os qs i n hl hn hi cv cr =
     (rw (count, ← hn)
     (tab-cut n i (routeIn ns os) (routeIn ms qs) (record { root = []; via = 0 }) hi
     (λ j lt. route-same ns ms os qs j (λ k x y. keep k (λ e. omega arith) (λ u v. omega arith)) (λ k x y. cr .rest k (λ u v. omega arith)))
-    (λ j le lt. route-carried ns ms os qs (j + 1) j (λ k h. getD-set-other vs 2 (routeColumn + j + k) (n - 1) 0 (λ e. omega arith) ∙ lower (routeColumn + i) (routeColumn + n) 1 (4 + (j + 1)) (routeColumn + j) 1 ns vs cv (omega arith) (omega arith) (omega arith) k h)
+    (λ j le lt. route-carried ns ms os qs (j + 1) j (λ k h. getD-set-other vs 2 (routeColumn + j + k) (n - 1) 0 (λ e. omega arith) ∙ lower (routeColumn + i) (routeColumn + n) 1 (routeColumn + (j + 1)) (routeColumn + j) 1 ns vs cv (omega arith) (omega arith) (omega arith) k h)
     (lower (rootNames + i * rootSpace) (rootNames + n * rootSpace) rootSpace (rootNames + (j + 1) * rootSpace) (rootNames + j * rootSpace) rootSpace os qs cr (omega arith) (omega arith) (omega arith)))))
   where
     ms : List ℕ
@@ -108,7 +108,7 @@ set-route ns os o i via hl e h =
     rw (← e)
     (but-routes ns ms os os _
     (agree-set 0 2 ns (routeColumn + i) via (λ u v. omega arith))
-    (agree-set 3 1 ns (routeColumn + i) via (λ u v. omega arith))
+    (agree-set 3 2 ns (routeColumn + i) via (λ u v. omega arith))
     (agree-set ownColumn (treeLimit + rowNumbers + labelNumbers) ns (routeColumn + i) via (λ u v. omega (arith, limit)))
     (agree-refl 0 rootNames os)
     (rw (count, put-in (tab (routeCount ns) (routeIn ns os)) i (record { root = o; via = via }) (rw tab-length h))

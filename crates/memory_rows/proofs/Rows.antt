@@ -16,9 +16,9 @@ use Rattle.meaning.specs.Events.{baseOutside}
 use Rattle.octets.specs.Part.{tab}
 use Rattle.octets.proofs.Tab.{tab-ext, tab-snoc, tab-cut}
 use Rattle.octets.proofs.Bits.{all-set}
-use Rattle.memory.specs.Sizes.{nameSpace, ownColumn, rowWidth, rowColumn, branchColumn, markColumn, wordColumn, wordCount, Numbers, noLabel}
+use Rattle.memory.specs.Sizes.{nameSpace, ownColumn, rowWidth, rowColumn, branchColumn, markColumn, wordColumn, wordCount, Numbers, noLabel, turnPlace}
 use Rattle.memory.specs.Parts.{Written, Closed}
-use Rattle.memory.specs.Memory.{upTo, textAt, treeName, baseIn, nextIn, routeCount, treeCount, routeIn, wordAt, isFreeAt, labelIn, ownPlace, ownLabel, treeIn, cardOf}
+use Rattle.memory.specs.Memory.{upTo, textAt, treeName, baseIn, nextIn, routeCount, treeCount, routeIn, wordAt, isFreeAt, labelIn, ownPlace, ownLabel, treeIn, cardOf, turnIn, lastIn, labelBefore}
 use Rattle.memory.proofs.Memory.{upTo-le, upTo-in, free-same, own-same, own-kept, tree-same, label-same, but-trees}
 use Rattle.memory.proofs.Marks.{label-free, not-far, own-none}
 use Rattle.memory.proofs.Parts.{Carries, lower, text-carried, text-put}
@@ -94,6 +94,10 @@ full-rest ns v j h =
     ∙ getD-set-other (set ns wordColumn v) (wordColumn + 1) j v 0 (λ q. omega arith)
     ∙ getD-set-other ns wordColumn j v 0 (λ q. omega arith)
 
+last-none : (ns : List ℕ) → turnIn ns ≡ 0 → lastIn ns ≡ 0
+unfolding lastIn labelBefore
+last-none ns e = rw e refl
+
 pub start-fresh : (ns zs os : List ℕ) (base : ℕ) → Numbers ns → 16 ≤ base → base ≤ 1048320 → zs ≡ replicate (length ns) 0 → cardOf (full 18446744073709551615 (set (set zs 0 base) 1 1)) os ≡ fresh base
 unfolding cardOf fresh nextIn
 start-fresh ns zs os base h lo hi e =
@@ -103,6 +107,7 @@ start-fresh ns zs os base h lo hi e =
     let none = no-rows ms os (rest 2 (omega arith) (omega arith)) (rest 3 (omega arith) (omega arith)) in
     let r : tab (routeCount ms) (routeIn ms os) ≡ [] = none .0 in
     let t : tab (treeCount ms) (treeIn ms os) ≡ [] = none .1 in
+    let given : lastIn ms ≡ 0 = last-none ms (rest turnPlace (omega arith) (omega arith)) in
     let l : tab labelCount (labelIn ms os) ≡ replicate labelCount free = tab-replicate labelCount (labelIn ms os) free (λ p lt. label-free ms p os (all-free ms (full-word ks v (simp length-set long)) p lt)) in
     cc
   where

@@ -149,6 +149,34 @@ trailing-bit (suc d) w p h =
     let b = trailing-bit d (w / 2) (omega arith) (half-below d w h) in
     rw (trailing-even d w z) (omega (arith, b .0), bit-next (trailingZeros d (w / 2)) w ∙ b .1))
 
+-- more places than the word needs: the trailing zeros are the same
+pub trailing-wide : (e d w : ℕ) → 0 < w → w < 2 ^ d → trailingZeros (d + e) w ≡ trailingZeros d w
+trailing-wide e zero w p h = absurd (omega (arith, lt-one h))
+trailing-wide e (suc d) w p h =
+    let q : suc d + e ≡ suc (d + e) = omega arith in
+    rw q
+    (by-test (bit 0 w)
+    (λ b. trailing-odd (d + e) w (odd w b) ∙ sym (trailing-odd d w (odd w b)))
+    (λ b.
+    let z = even w b in
+    trailing-even (d + e) w z ∙ ap suc (trailing-wide e d (w / 2) (omega arith) (half-below d w h)) ∙ sym (trailing-even d w z)))
+
+-- `w >> s`: the bits from place s on
+bit-shifted : (s j w : ℕ) → bit j (w / 2 ^ s) ≡ bit (s + j) w
+unfolding bit
+bit-shifted s j w = ap (λ (n : ℕ). eqb (n % 2) 1) (shr-shr w s j)
+
+pub shifted-below : (s d w : ℕ) → w < 2 ^ (s + d) → w / 2 ^ s < 2 ^ d
+shifted-below zero d w h =
+    let e : w / 1 ≡ w = omega arith in
+    let z : 0 + d ≡ d = omega arith in
+    rw e (rw z at h)
+shifted-below (suc s) d w h =
+    let one : suc s ≡ 1 + s = omega arith in
+    let more : suc s + d ≡ suc (s + d) = omega arith in
+    let halved : w / 2 ^ suc s ≡ w / 2 / 2 ^ s = ap (λ (n : ℕ). w / 2 ^ n) one ∙ sym (shr-shr w 1 s) in
+    rw halved (shifted-below s d (w / 2) (half-below (s + d) w (rw more at h)))
+
 module _ {ℓ} {A : Type ℓ} (t : A → Bool) (n : ℕ) (f : ℕ → A) where
   -- of the d elements from place i on, the bits of w say which pass
   abbrev pub Says : ℕ → ℕ → ℕ → Type 0
@@ -161,6 +189,11 @@ module _ {ℓ} {A : Type ℓ} (t : A → Bool) (n : ℕ) (f : ℕ → A) where
   says-next d i w s j h =
       let e : i + 1 + j ≡ i + suc j = omega arith in
       ap (λ (k : ℕ). t (f k)) e ∙ s (suc j) (omega arith) ∙ bit-next j w
+
+  pub says-shifted : (s d i w : ℕ) → Says (s + d) i w → Says d (i + s) (w / 2 ^ s)
+  says-shifted s d i w said j h =
+      let e : i + s + j ≡ i + (s + j) = omega arith in
+      ap (λ (k : ℕ). t (f k)) e ∙ said (s + j) (omega arith) ∙ sym (bit-shifted s j w)
 
   pub place-word : (d i w : ℕ) → i + d ≤ n → 0 < w → w < 2 ^ d → Says d i w → i + place t (drop i (tab n f)) ≡ i + trailingZeros d w
   place-word zero i w h p l s = absurd (omega (arith, lt-one l))

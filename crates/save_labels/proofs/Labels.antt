@@ -12,14 +12,17 @@ use lib.Dec.{eqb, ltb}
 use borrow.Author.Tests.{lt-ltb, le-ltb, ltb-true, ltb-false}
 use Rattle.meaning.specs.Octets.{pick, place, any, same, twoAt, fourAt}
 use Rattle.meaning.specs.Lists.{by-test, place-finds, same-eq, same-no}
-use Rattle.meaning.specs.Card.{Tree, Use, free, mapped, awaiting, Card, fresh, withNext, withRoutes, withTrees, withLabels, withLabel, bare, treeAt, named, labelCount}
+use Rattle.meaning.specs.Card.{Tree, Use, free, mapped, awaiting, Card, fresh, withNext, withRoutes, withTrees, withLabels, withLabel, bare, treeAt, named, labelCount, withLast, isFree}
 use Rattle.meaning.specs.Events.{setLabel}
-use Rattle.meaning.specs.Save.{nameIn, useRead, usesRead, isMappedFor, labelled, allLabelled, onceEach, sameName, tableIn, headSize, routeSize, treeSize, useSize}
+use Rattle.meaning.specs.Save.{nameIn, useRead, usesRead, isMappedFor, labelled, allLabelled, onceEach, sameName, tableIn, headSize, routeSize, treeSize, useSize, highestUsed, settled}
 use Rattle.octets.specs.Part.{tab}
-use Rattle.memory.specs.Memory.{cardOf, baseIn, treeCount, labelIn}
+use Rattle.memory.specs.Memory.{cardOf, baseIn, treeCount, labelIn, isFreeAt, labelBefore}
 use Rattle.memory.proofs.Memory.{base-range, trees-length, labels-length}
-use Rattle.memory.proofs.Marks.{never}
+use Rattle.memory.proofs.Marks.{never, free-in}
 use Rattle.memory.proofs.Trees.{label-at}
+use Rattle.memory.proofs.Head.{label-before}
+use Rattle.meaning.specs.SaveLaws.{highest-is, highest-free}
+use Rattle.octets.proofs.Tab.{tab-get}
 use Rattle.save_rows.specs.Stages.{headRead, treesBegin, rowsRead}
 use Rattle.save_fields.proofs.Read.{four-drop}
 use Rattle.save_rows.proofs.Rows.{trees-bare}
@@ -282,8 +285,34 @@ module _ (o : List ℕ) where
   unfolding rowsRead withTrees treeAt
   rows-unlabelled c e j lt = rw e (trees-bare (getD o 12 0) j (drop (treesBegin o) o))
 
-  pub table-whole : (n routes trees : ℕ) (c d t : Card) → c ≡ rowsRead o
+  pub table-whole : (n routes trees : ℕ) (c d t s : Card) → c ≡ rowsRead o
       → d ≡ withLabels (usesRead (c .base) n (drop (headSize + routes * routeSize + trees * treeSize) o) (c .labels)) c → t ≡ withTrees (allLabelled (d .base) (d .labels) (d .trees)) d
-      → n ≡ twoAt o 13 → routes ≡ getD o 11 0 → trees ≡ getD o 12 0 → t ≡ tableIn o
-  unfolding tableIn rowsRead headRead treesBegin withLabels withTrees withRoutes withNext fresh
-  table-whole n routes trees c d t ec ed et en er es = rw (et, ed, ec, en, er, es, ← drop-drop (getD o 12 0 * treeSize) (headSize + getD o 11 0 * routeSize) o) refl
+      → n ≡ twoAt o 13 → routes ≡ getD o 11 0 → trees ≡ getD o 12 0 → s ≡ settled t → s ≡ tableIn o
+  unfolding tableIn rowsRead headRead treesBegin settled withLast withLabels withTrees withRoutes withNext fresh
+  table-whole n routes trees c d t s ec ed et en er es ez = rw (ez, et, ed, ec, en, er, es, ← drop-drop (getD o 12 0 * treeSize) (headSize + getD o 11 0 * routeSize) o) refl
+
+-- ---- the highest label in use, from the block's end down
+
+-- none is in use from place p on
+abbrev pub NoneFrom : List ℕ → ℕ → Type 0
+NoneFrom ns p = (q : ℕ) → p ≤ q → q < labelCount → isFreeAt ns q ≡ true
+
+module _ (ns os : List ℕ) where
+  at-place : (q : ℕ) → q < labelCount → isFree (getD (cardOf ns os .labels) q free) ≡ isFreeAt ns q
+  unfolding cardOf
+  at-place q h = ap isFree (tab-get labelCount (labelIn ns os) q free h) ∙ free-in ns q os
+
+  pub used-highest : (p : ℕ) → 0 < p → p ≤ labelCount → isFreeAt ns (p - 1) ≡ false → NoneFrom ns p → labelBefore (baseIn ns) p ≡ highestUsed (baseIn ns) (cardOf ns os .labels)
+  used-highest p some few used none =
+      let e : p - 1 + 1 ≡ p = omega arith in
+      let before : labelBefore (baseIn ns) p ≡ baseIn ns + (p - 1) = rw e at (label-before (baseIn ns) (p - 1) (omega arith)) in
+      before ∙ sym (highest-is (baseIn ns) (cardOf ns os .labels) (p - 1) (rw labels-length (omega arith)) (at-place (p - 1) (omega arith) ∙ used)
+      (λ q lo hi. let k : q < labelCount = rw labels-length at hi in at-place q k ∙ none q (omega arith) k))
+
+  pub used-none : NoneFrom ns 0 → labelBefore (baseIn ns) 0 ≡ highestUsed (baseIn ns) (cardOf ns os .labels)
+  unfolding labelBefore
+  used-none none = sym (highest-free (baseIn ns) (cardOf ns os .labels) (λ q hi. let k : q < labelCount = rw labels-length at hi in at-place q k ∙ none q (omega arith) k))
+
+  pub settled-is : (ms : List ℕ) (v : ℕ) → cardOf ms os ≡ withLast (labelBefore (baseIn ns) v) (cardOf ns os) → labelBefore (baseIn ns) v ≡ highestUsed (baseIn ns) (cardOf ns os .labels) → cardOf ms os ≡ settled (cardOf ns os)
+  unfolding settled cardOf
+  settled-is ms v e h = e ∙ ap (λ (l : ℕ). withLast l (cardOf ns os)) h

@@ -1,13 +1,14 @@
 // A save's labels in use, and with them the label that each tree carries: out of its octets, into the memory that holds its trees.
 ghost use mathlib.Core.Path.{_≡_};
 ghost use mathlib.Core.Bool.{true};
-ghost use Prim.Native.Nat.{_-_, _≤_, _<_};
+ghost use mathlib.Core.List.{List};
+ghost use Prim.Native.Nat.{ℕ, _-_, _≤_, _<_};
 ghost use lib.ListN.{drop, set, getD};
 ghost use Rattle.meaning.specs.Octets.{place, fourAt};
 ghost use Rattle.meaning.specs.Card.{withTrees, withLabels, treeAt, labelCount, routeLimit, treeLimit};
-ghost use Rattle.meaning.specs.Save.{useRead, usesRead, isMappedFor, labelled, allLabelled, sameName, onceEach, tableIn};
+ghost use Rattle.meaning.specs.Save.{useRead, usesRead, isMappedFor, labelled, allLabelled, sameName, onceEach, tableIn, highestUsed, settled};
 ghost use Rattle.memory.specs.Sizes.{Numbers, Names};
-ghost use Rattle.memory.specs.Memory.{cardOf, treeCount, isMappedAt};
+ghost use Rattle.memory.specs.Memory.{cardOf, baseIn, treeCount, isMappedAt, labelBefore};
 ghost use Rattle.save_rows.specs.Stages.{rowsRead};
 ghost use Rattle.save_labels.specs.Labels.{Unlabelled, Ready};
 use meaning::HEAD_SIZE;
@@ -100,6 +101,32 @@ fn label_trees(numbers: &mut [u64], names: &[u8])
 // ---- both
 
 // The labels, where no two trees have one name.
+// ---- the last label given
+
+// The place after that of the highest label in use; 0 where none is in use.
+fn above_used(numbers: &[u64]) -> usize
+    requires { ⌜ Numbers (now numbers) ⌝ }
+    ensures { λ r. ⌜ ((os : List ℕ) → labelBefore (baseIn (now (numbers .entry))) r ≡ highestUsed (baseIn (now (numbers .entry))) (cardOf (now (numbers .entry)) os .labels)) ⌝ }
+{
+    let mut p = LABEL_COUNT;
+    while 0 < p {
+        if !memory_labels::is_free(numbers, p - 1) {
+            return p;
+        }
+        p -= 1;
+    }
+    0
+}
+
+// A save does not carry the last label given: the highest in use is taken for it.
+fn settle(numbers: &mut [u64])
+    requires { ⌜ Numbers (now numbers) ⌝ }
+    ensures { λ _. ⌜ ((os : List ℕ) → cardOf (now (numbers .exit)) os ≡ settled (cardOf (now (numbers .entry)) os)) ⌝ }
+{
+    let v = above_used(numbers);
+    memory::set_turn(numbers, v);
+}
+
 pub fn read_labels(octets: &[u8], numbers: &mut [u64], names: &mut [u8])
     requires { ⌜ Numbers (now numbers) × Names (now names) × (getD (now octets) 11 0 ≤ routeLimit) × (getD (now octets) 12 0 ≤ treeLimit)
         × (cardOf (now numbers) (now names) ≡ rowsRead (now octets)) × (onceEach sameName (cardOf (now numbers) (now names) .trees) ≡ true) ⌝ }
@@ -116,4 +143,5 @@ pub fn read_labels(octets: &[u8], numbers: &mut [u64], names: &mut [u8])
         names,
     );
     label_trees(numbers, names);
+    settle(numbers);
 }

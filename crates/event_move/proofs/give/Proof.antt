@@ -6,8 +6,8 @@ use borrow.Author.Needs.{needs}
 use Rattle.event_move.proofs.give.Statement.{statement}
 use Rattle.event_move.proofs.give.Tie as tie
 
-lowest-free-requires : tie.Need-lowest-free-requires
-lowest-free-requires c κs = search needs
+next-free-requires : tie.Need-next-free-requires
+next-free-requires c κs = search needs
 
 base-requires : tie.Need-base-requires
 base-requires c κs = search needs
@@ -33,8 +33,14 @@ map-label-requires : tie.Need-map-label-requires
 map-label-requires c κs =
     let f = c .before .before .before .before .before .before .before .before .before .before .before in
     let s = f .before .before .before .before .before in
-    let p = free-place _ (s .args .names .now) _ (f .lowest-free .ensures .0 _) (s .pre .5) in
-    (s .pre .0, s .pre .1, p, s .pre .2, s .pre .3, s .pre .4, f .lowest-free .ensures .2 p)
+    let p = free-place _ (s .args .names .now) _ (f .next-free .ensures .0 _) (s .pre .5) in
+    (s .pre .0, s .pre .1, p, s .pre .2, s .pre .3, s .pre .4, f .next-free .ensures .2 p)
+
+add-set-turn : tie.Need-add-set-turn
+add-set-turn c = search needs
+
+set-turn-requires : tie.Need-set-turn-requires
+set-turn-requires c κs = search needs
 
 same-length : tie.Need-same-length
 same-length c = search needs
@@ -47,19 +53,21 @@ same-length-3 c = search needs
 
 returns : tie.Need-returns
 returns c =
-    let w = c .before .before .before .before .before .before .before .before .before in
+    let t = c .before .before in
+    let m = t .before .before .before .before .before .before in
+    let w = m .before .before .before .before .before in
     let k = w .before .before in
     let n = k .before in
     let b = n .before .before in
     let f = b .before .before in
     let s = f .before .before .before .before .before in
-    rw (k .record-size .ensures) (gave (s .args .i) (s .args .u) _ _ (s .args .id) (s .args .at) _ _ _ (s .args .names .now) _ _ _ _ (b .base .ensures .0) (s .pre .5) (f .lowest-free .ensures .0 _) (n .tree-name .ensures .0 _ (s .pre .2)) (w .send .ensures .0) (w .send .ensures .1) (c .before .before .before .before .map-label .ensures))
+    rw (k .record-size .ensures) (gave (s .args .i) (s .args .u) _ _ (s .args .id) (s .args .at) _ _ _ _ (s .args .names .now) _ _ _ _ (b .base .ensures .0) (s .pre .5) (f .next-free .ensures .0 _) (n .tree-name .ensures .0 _ (s .pre .2)) (w .send .ensures .0) (w .send .ensures .1) (m .map-label .ensures) (t .set-turn .ensures _))
 
 pub give-spec : {M : Type 1} → statement M
 give-spec =
     tie.close
     (tie.spec
-    lowest-free-requires
+    next-free-requires
     base-requires
     add-label
     tree-name-requires
@@ -67,6 +75,8 @@ give-spec =
     add-end
     send-requires
     map-label-requires
+    add-set-turn
+    set-turn-requires
     same-length
     same-length-2
     same-length-3

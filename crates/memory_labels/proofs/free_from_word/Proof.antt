@@ -1,22 +1,23 @@
-use Prim.Native.Nat.{_+_, _-_, _≤_}
+use Prim.Native.Nat.{_+_, _*_, _-_, _≤_}
 use native.Mathlib.Omega.{arith}
+use mathlib.Core.Path.{refl}
 use lib.Count.{trailing-le}
 use Rattle.meaning.specs.Lists.{positive}
 use Rattle.memory.specs.Sizes.{wordColumn}
 use Rattle.memory.specs.Memory.{wordAt}
 use borrow.Author.Needs.{needs}
-use Rattle.memory.proofs.Labels.{labels-start, From, lowest-word, lowest-next, lowest-none}
-use Rattle.memory_labels.proofs.lowest_free.Statement.{statement}
-use Rattle.memory_labels.proofs.lowest_free.Tie as tie
+use Rattle.memory.proofs.NextFree.{From, first-word, first-next, first-none}
+use Rattle.memory_labels.proofs.free_from_word.Statement.{statement}
+use Rattle.memory_labels.proofs.free_from_word.Tie as tie
 
 abbrev Inv-loop : tie.InvT-loop
-Inv-loop numbers w₀ w = (w ≤ 4) × From numbers w
+Inv-loop numbers from w₀ w = (w ≤ 4) × From numbers (from * 64) w
 
 abbrev μ-loop : tie.MeasureT-loop
-μ-loop numbers w₀ w = 4 - w
+μ-loop numbers from w₀ w = 4 - w
 
 loop-holds : tie.Need-loop-holds Inv-loop μ-loop
-loop-holds c = (omega arith, (λ os. labels-start _ os))
+loop-holds c = (c .pre .1, (λ os. refl))
 
 add-x : tie.Need-add-x Inv-loop μ-loop
 add-x c = search needs
@@ -43,7 +44,7 @@ add-result c =
 returns : tie.Need-returns Inv-loop μ-loop
 returns c =
     let l = c .before .before .before in
-    lowest-word _ (l .loop .w) (c .before .before .loop-test .taken) (l .loop .inv .1) (positive _ (c .if1 .taken)) (c .before .shared-slice-known .given (wordColumn + l .loop .w) .fits)
+    first-word _ _ (l .loop .w) (c .before .before .loop-test .taken) (l .loop .inv .1) (positive _ (c .if1 .taken)) (c .before .shared-slice-known .given (wordColumn + l .loop .w) .fits)
 
 add-w : tie.Need-add-w Inv-loop μ-loop
 add-w c = search needs
@@ -54,13 +55,13 @@ loop-less c = search needs
 loop-again : tie.Need-loop-again Inv-loop μ-loop
 loop-again c =
     let l = c .before .before .before in
-    (omega arith, lowest-next _ (l .loop .w) (c .before .before .loop-test .taken) (l .loop .inv .1) (c .if1 .left))
+    (omega arith, first-next _ _ (l .loop .w) (c .before .before .loop-test .taken) (l .loop .inv .1) (c .if1 .left))
 
 returns-2 : tie.Need-returns-2 Inv-loop μ-loop
-returns-2 c = let l = c .before in lowest-none _ (l .loop .w) (c .loop-test .left) (l .loop .inv .0) (l .loop .inv .1)
+returns-2 c = let l = c .before in first-none _ _ (l .loop .w) (c .loop-test .left) (l .loop .inv .0) (l .loop .inv .1)
 
-pub lowest-free-spec : {M : Type 1} → statement M
-lowest-free-spec =
+pub free-from-word-spec : {M : Type 1} → statement M
+free-from-word-spec =
     tie.close
     (tie.spec
     Inv-loop
