@@ -80,6 +80,8 @@ pub struct Card {
     /// The roots with a route, in the order of their first entry.
     roots: Vec<Vec<u8>>,
     labels: Vec<LabelUse>,
+    /// The label given last, by whatever event; free or not.
+    last_given: Option<u32>,
     next_identifier: u32,
 }
 
@@ -91,12 +93,14 @@ impl Card {
             routes: BTreeMap::new(),
             roots: Vec::new(),
             labels: vec![LabelUse::Free; LABELS as usize],
+            last_given: None,
             next_identifier: 1,
         }
     }
 
-    /// A card as it stood, with its routes in their order. Whether it keeps
-    /// the rules is the caller's care.
+    /// A card as it stood, with its routes in their order; its highest label
+    /// in use counts as the one given last. Whether it keeps the rules is the
+    /// caller's care.
     pub fn standing(
         base: u32,
         next_identifier: u32,
@@ -104,7 +108,9 @@ impl Card {
         trees: Vec<Tree>,
         labels: Vec<LabelUse>,
     ) -> Card {
+        let highest_used = labels.iter().rposition(|held| *held != LabelUse::Free);
         Card {
+            last_given: highest_used.map(|place| base + place as u32),
             base,
             trees,
             roots: routes.iter().map(|(root, _)| root.clone()).collect(),
@@ -304,6 +310,29 @@ impl Card {
         (self.base..).zip(&self.labels)
     }
 
+    /// The first free label after the one given last, going round the block.
+    fn next_label(&self) -> Option<u32> {
+        let first = self.last_given.map_or(0, |last| last - self.base + 1);
+        let block = (0..LABELS).map(|step| self.base + (first + step) % LABELS);
+        let free = |label: &u32| self.label_use(*label) == Some(&LabelUse::Free);
+        block.into_iter().find(free)
+    }
+
+    /// The card as it comes back from a save, which does not carry what was
+    /// given last.
+    #[cfg(test)]
+    pub fn swapped(&self) -> Card {
+        let used = self.labels().filter(|(_, held)| **held != LabelUse::Free);
+        Card {
+            last_given: used.last().map(|(label, _)| label),
+            ..self.clone()
+        }
+    }
+
+    pub fn last_given(&self) -> Option<u32> {
+        self.last_given
+    }
+
     /// The name of each tree and of each label in use.
     pub fn names(&self) -> impl Iterator<Item = &Name> {
         let trees = self.trees.iter().map(|tree| &tree.name);
@@ -420,14 +449,10 @@ impl Draft {
         }
     }
 
-    /// Gives the lowest free label and sends it.
+    /// Gives the label whose turn it is and sends it.
     fn announce(&mut self, name: &Name, upstream: u32) -> Result<(), Refusal> {
-        let label = self
-            .card
-            .labels()
-            .find(|(_, held)| **held == LabelUse::Free)
-            .map(|(label, _)| label)
-            .ok_or(Refusal::LabelsShort)?;
+        let label = self.card.next_label().ok_or(Refusal::LabelsShort)?;
+        self.card.last_given = Some(label);
         self.set_label(label, LabelUse::Mapped(upstream, name.clone()));
         self.send(Kind::Mapping, upstream, name, label);
         Ok(())

@@ -222,10 +222,10 @@ impl Page {
         }
         self.case(
             7,
-            "route to neighbour 3: Withdraw 17 to 0, Mapping 16 to 3, identifiers 6 and 7",
+            "route to neighbour 3: Withdraw 17 to 0, Mapping 18 to 3, not 16, identifiers 6 and 7",
         );
         self.route(ROOT, 3);
-        self.ask(&[16, 17], &[tree_a()]);
+        self.ask(&[16, 17, 18], &[tree_a()]);
     }
 
     fn eight(&mut self) {

@@ -105,13 +105,14 @@ fn cases_5_to_7() {
     assert_eq!(answers, ["take 13", "take 0", "take 13"]);
     let free: Vec<&String> = cases[6].iter().skip(4).step_by(5).collect();
     assert_eq!(free, ["free 254", "free 255", "free 255"]);
-    let written = record(0, WITHDRAW, 6, 17) + &record(3, MAPPING, 7, 16);
+    let written = record(0, WITHDRAW, 6, 17) + &record(3, MAPPING, 7, 18);
     assert_eq!(
         cases[7],
         [
             &format!("route 0 {written}"),
-            "label 1:300",
             "label nothing",
+            "label nothing",
+            "label 1:300",
             "tree 1:300",
             "free 254"
         ]

@@ -270,6 +270,13 @@ impl Maker {
         }
     }
 
+    /// Names for the day: such as have these lengths, or such as can be saved.
+    fn settle(&mut self, roots: usize, names: (usize, usize), lengths: &[usize]) {
+        let saved = self.rng.percent(40);
+        let lengths = if saved { SAVED_LENGTHS } else { lengths };
+        self.world = World::new(&mut self.rng, roots, names, lengths);
+    }
+
     fn route_roots(&mut self, count: usize) {
         let roots: Vec<Vec<u8>> = self.world.roots.iter().take(count).cloned().collect();
         for root in roots {
@@ -301,7 +308,7 @@ pub fn make(kind: usize, seed: u64, lines: usize) -> Vec<Vec<u8>> {
 
 fn open_ordinary(maker: &mut Maker) {
     let roots = maker.rng.between(3, 7);
-    maker.world = World::new(&mut maker.rng, roots, (6, 4), ALL_LENGTHS);
+    maker.settle(roots, (6, 4), ALL_LENGTHS);
     maker.route_roots(2);
     maker.grow(4);
 }
@@ -312,7 +319,7 @@ fn step_ordinary(maker: &mut Maker) {
 
 /// To 32 roots, 64 trees and no free label.
 fn open_full(maker: &mut Maker) {
-    maker.world = World::new(&mut maker.rng, MOST_ROOTS + 8, (34, 2), FEW_LONG);
+    maker.settle(MOST_ROOTS + 8, (34, 2), FEW_LONG);
     maker.route_roots(MOST_ROOTS);
     maker.grow(MOST_TREES);
     for _ in 0..60 {
@@ -341,7 +348,7 @@ fn step_full(maker: &mut Maker) {
 }
 
 fn open_moves(maker: &mut Maker) {
-    maker.world = World::new(&mut maker.rng, 4, (24, 10), FEW_LONG);
+    maker.settle(4, (24, 10), FEW_LONG);
     maker.route_roots(3);
     maker.grow(36);
 }
@@ -355,7 +362,7 @@ fn step_moves(maker: &mut Maker) {
 }
 
 fn open_exhaust(maker: &mut Maker) {
-    maker.world = World::new(&mut maker.rng, 5, (14, 6), FEW_LONG);
+    maker.settle(5, (14, 6), FEW_LONG);
     maker.route_roots(4);
     maker.grow(20);
 }
@@ -365,7 +372,7 @@ fn step_exhaust(maker: &mut Maker) {
 }
 
 fn open_held(maker: &mut Maker) {
-    maker.world = World::new(&mut maker.rng, 5, (12, 5), FEW_LONG);
+    maker.settle(5, (12, 5), FEW_LONG);
     maker.route_roots(4);
     maker.grow(20);
 }
@@ -376,7 +383,7 @@ fn step_held(maker: &mut Maker) {
 
 /// Few trees: a save of a full card makes a line of 46 thousand digits.
 fn open_saves(maker: &mut Maker) {
-    maker.world = World::new(&mut maker.rng, 4, (3, 2), SAVED_LENGTHS);
+    maker.settle(4, (3, 2), SAVED_LENGTHS);
     maker.give(Order::Room(LONGEST_SAVE as u32));
     maker.route_roots(3);
     maker.grow(3);

@@ -78,7 +78,7 @@ impl Page {
             self.save_in(room);
         }
         let save = self.saved();
-        self.comment("on another card it is the same table, which counts on: identifier 4, label 16 once it is released, then 18");
+        self.comment("on another card it is the same table, which counts on: identifier 4, label 18 though 16 is released, then 19");
         self.order(Order::Start(99));
         self.restore(&save);
         self.order(Order::Save);

@@ -133,9 +133,10 @@ fn every_length() {
 #[test]
 fn what_is_written_is_read_back() {
     let mut rng = Rng::new(1);
-    for kind in 0..days::KINDS.len() {
+    let mut saved = 0;
+    for (kind, seed) in (0..days::KINDS.len()).flat_map(|k| [(k, 8), (k, 9), (k, 10)]) {
         let mut bench = Bench::new();
-        for (place, line) in days::make(kind, 9, 400).iter().enumerate() {
+        for (place, line) in days::make(kind, seed, 400).iter().enumerate() {
             if let Said::Order(order) = bench::read_line(line) {
                 bench.obey(&order);
             }
@@ -148,22 +149,26 @@ fn what_is_written_is_read_back() {
             };
             let mut other = Card::start(99).1;
             assert_eq!(other.restore(&save), Ok(()));
-            assert_eq!(other, bench.card);
+            assert_eq!(other, bench.card.swapped());
+            saved += 1;
             let spoiled = save_damage::spoil(&mut rng, &save);
             if other.restore(&spoiled).is_ok() {
                 assert_eq!(other.save(LONGEST_SAVE), Ok(spoiled));
             } else {
-                assert_eq!(other, bench.card);
+                assert_eq!(other, bench.card.swapped());
             }
         }
     }
+    assert!(saved > 200, "{saved}");
 }
 
-/// A restored card goes on just as the saved one does.
+/// A restored card goes on just as the saved one does, if that takes its
+/// highest label in use as the last given.
 #[test]
 fn a_restored_card_goes_on() {
     let lines = days::make(1, 3, 600);
     let (mut one, mut other) = (Bench::new(), Bench::new());
+    let mut swaps = 0;
     for (place, line) in lines.iter().enumerate() {
         let Said::Order(order) = bench::read_line(line) else {
             continue;
@@ -172,6 +177,9 @@ fn a_restored_card_goes_on() {
         if let (0, Ok(save)) = (place % 50, one.card.save(LONGEST_SAVE)) {
             other.card = Card::start(16).1;
             assert_eq!(other.card.restore(&save), Ok(()));
+            one.card = one.card.swapped();
+            swaps += 1;
         }
     }
+    assert!(swaps > 8, "{swaps}");
 }
