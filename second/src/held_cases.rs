@@ -113,7 +113,7 @@ impl Page {
     }
 
     /// Trees of another root use up all labels: 32 leaves, eight labels each.
-    fn use_up(&mut self) {
+    pub fn use_up(&mut self) {
         for number in 101..=132 {
             let element = wire::write_element(&numbered(OTHER_ROOT, number));
             self.order(Order::Join(element));

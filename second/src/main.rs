@@ -16,6 +16,7 @@ mod notice_records;
 mod odd_lines;
 mod refusal;
 mod rng;
+mod round_cases;
 mod rows;
 mod save;
 mod save_cases;
@@ -177,6 +178,7 @@ fn write_gate_input(output: &mut impl Write) -> io::Result<()> {
         held_cases::day(),
         save_cases::day(),
         long_cases::day(),
+        round_cases::day(),
     ] {
         writeln!(output, "{}", page.join("\n"))?;
     }

@@ -40,7 +40,7 @@ const LABEL_17: usize = LABEL_16 + LABEL;
 
 impl Page {
     /// What the card that the page's orders lead to would write.
-    fn saved(&self) -> Vec<u8> {
+    pub fn saved(&self) -> Vec<u8> {
         let mut bench = Bench::new();
         for line in &self.lines {
             if let Said::Order(order) = bench::read_line(line.as_bytes()) {
@@ -55,7 +55,7 @@ impl Page {
         self.order(Order::Save);
     }
 
-    fn restore(&mut self, octets: &[u8]) {
+    pub fn restore(&mut self, octets: &[u8]) {
         self.order(Order::Restore(octets.to_vec()));
     }
 
