@@ -329,6 +329,7 @@ impl Card {
         }
     }
 
+    #[cfg(test)]
     pub fn last_given(&self) -> Option<u32> {
         self.last_given
     }

@@ -20,7 +20,7 @@ pub struct Kind {
 }
 
 const DAMAGED: usize = 4;
-const MIXED: usize = 10;
+const MIXED: usize = 11;
 
 pub const KINDS: [Kind; MIXED + 1] = [
     kind("ordinary", open_ordinary, step_ordinary),
@@ -33,6 +33,7 @@ pub const KINDS: [Kind; MIXED + 1] = [
     kind("lines", open_ordinary, step_lines),
     kind("held", open_held, step_held),
     kind("saves", open_saves, step_saves),
+    kind("round", open_round, step_round),
     kind("mixed", open_ordinary, step_mixed),
 ];
 
@@ -139,6 +140,20 @@ pub const HELD: &Recipe = &[
     (1, stray_release),
     (1, ended_route),
     (1, new_route),
+];
+
+const ROUND: &Recipe = &[
+    (4, moved_trees),
+    (6, new_tree),
+    (4, new_leaf),
+    (1, further_branch),
+    (3, branch_withdraw),
+    (5, last_goes),
+    (3, leaf_leave),
+    (6, awaited_release),
+    (1, stray_release),
+    (1, new_route),
+    (1, ended_route),
 ];
 
 pub struct Maker {
@@ -270,6 +285,13 @@ impl Maker {
         }
     }
 
+    /// How many octets the order would write, given room.
+    fn needed_room(&self, order: &Order) -> usize {
+        let mut trial = self.card().clone();
+        let answer = bench::event_answer(&mut trial, order, bench::WHOLE_BUFFER);
+        answer.map_or(0, |records| records.len())
+    }
+
     /// Names for the day: such as have these lengths, or such as can be saved.
     fn settle(&mut self, roots: usize, names: (usize, usize), lengths: &[usize]) {
         let saved = self.rng.percent(40);
@@ -295,9 +317,15 @@ impl Maker {
     }
 }
 
+/// By the name, so that a new kind leaves the days of the others alone.
+fn seed_for(name: &str, seed: u64) -> u64 {
+    let mix = |sum: u64, octet| sum.wrapping_mul(31).wrapping_add(u64::from(octet));
+    name.bytes().fold(seed, mix)
+}
+
 /// A day of exactly so many lines.
 pub fn make(kind: usize, seed: u64, lines: usize) -> Vec<Vec<u8>> {
-    let mut maker = Maker::new(seed.wrapping_mul(KINDS.len() as u64) + kind as u64);
+    let mut maker = Maker::new(seed_for(KINDS[kind].name, seed));
     (KINDS[kind].open)(&mut maker);
     while maker.lines.len() < lines {
         (KINDS[kind].step)(&mut maker);
@@ -379,6 +407,43 @@ fn open_held(maker: &mut Maker) {
 
 fn step_held(maker: &mut Maker) {
     maker.run_short((12, 1, 9), 10, (HELD, 40));
+}
+
+fn open_round(maker: &mut Maker) {
+    restart(maker);
+    maker.settle(4, (12, 6), FEW_LONG);
+    maker.route_roots(4);
+    maker.grow(20);
+}
+
+/// Labels go round the block again and again, and find its free ones here and
+/// there; events that are refused and swaps of the card come between.
+fn step_round(maker: &mut Maker) {
+    match maker.rng.below(100) {
+        0 => swap(maker),
+        1..=5 => refused_first(maker),
+        _ => maker.run_short((40, 5, 50), 8, (ROUND, 30)),
+    }
+}
+
+/// The card goes on as its save has it.
+fn swap(maker: &mut Maker) {
+    maker.give(Order::Save);
+    if let Ok(save) = maker.card().save(maker.bench.room) {
+        maker.give(Order::Restore(save));
+    }
+}
+
+/// An event in one octet less than it needs, and then with room.
+fn refused_first(maker: &mut Maker) {
+    let order = maker.choose(&[(2, moved_trees), (1, new_leaf)]);
+    let room = maker.bench.room as u32;
+    if let Some(short) = maker.needed_room(&order).checked_sub(1) {
+        maker.give(Order::Room(short as u32));
+        maker.give(order.clone());
+        maker.give(Order::Room(room));
+    }
+    maker.give(order);
 }
 
 /// Few trees: a save of a full card makes a line of 46 thousand digits.
@@ -600,9 +665,7 @@ fn step_room(maker: &mut Maker) {
         ORDINARY
     };
     let order = maker.choose(recipe);
-    let mut trial = maker.card().clone();
-    let needed = bench::event_answer(&mut trial, &order, bench::WHOLE_BUFFER)
-        .map_or(0, |records| records.len());
+    let needed = maker.needed_room(&order);
     let room = room_near(&mut maker.rng, needed);
     maker.give(Order::Room(room));
     maker.give(order);

@@ -1,4 +1,5 @@
 use super::*;
+use crate::card::LabelUse;
 use crate::notice::Notice;
 use std::collections::{BTreeMap, BTreeSet};
 
@@ -161,6 +162,40 @@ fn a_held_day_has_its_occasions() {
             occasion(before, order, number)
         });
         assert!(met.len() == 10 && met.values().all(|n| *n >= 5), "{met:?}");
+    }
+}
+
+/// Where the labels that an event gave lie, after the last given before it.
+fn turn(before: &Card, number: u8, after: &Card) -> Option<&'static str> {
+    let (last, given) = (before.last_given()?, after.last_given());
+    let Some(given) = given.filter(|given| *given != last) else {
+        let needed_more = number == 16 && before == after;
+        return needed_more.then_some("refused, not moved");
+    };
+    let free = |label: u32| {
+        let found = before.labels().find(|(other, _)| *other == label);
+        found.is_some_and(|(_, held)| *held == LabelUse::Free)
+    };
+    Some(if given < last {
+        "round the block"
+    } else if given == last + 1 {
+        "the very next"
+    } else if (last + 1..given).all(|label| !free(label)) {
+        "over labels in use"
+    } else {
+        "several"
+    })
+}
+
+#[test]
+fn a_round_day_goes_round() {
+    for seed in 1..=3 {
+        let met = occasions("round", seed, |before, order, number, after| match order {
+            Order::Restore(_) if before.last_given() != after.last_given() => Some("set back"),
+            Order::Restore(_) | Order::Start(_) => None,
+            _ => turn(before, number, after),
+        });
+        assert!(met.len() >= 5 && met.values().all(|n| *n >= 3), "{met:?}");
     }
 }
 

@@ -44,7 +44,7 @@ const USAGE: &str = "usage: second run [FILE]
 
 /// Seeds and lines of each kind's part of the gate's standard input.
 const GATE_SEEDS: [u64; 2] = [1, 2];
-const GATE_LINES: [(&str, usize); 11] = [
+const GATE_LINES: [(&str, usize); 12] = [
     ("ordinary", 120),
     ("full", 240),
     ("moves", 120),
@@ -54,6 +54,7 @@ const GATE_LINES: [(&str, usize); 11] = [
     ("room", 140),
     ("held", 260),
     ("saves", 90),
+    ("round", 160),
     ("lines", 50),
     ("mixed", 150),
 ];

@@ -227,12 +227,15 @@ const STRANGE: &[u8] = b"\x00\r\x0b\x7f\xff#- \t+0xg.:";
 /// Every line of the list, and lines on both sides of each length's edge.
 pub fn every_edge() -> Vec<Vec<u8>> {
     let mut lines: Vec<Vec<u8>> = FIXED.iter().map(|line| line.to_vec()).collect();
-    for length in [LONGEST_LINE, LONGEST_LINE + 1] {
-        for (start, filler) in [(&b"free #"[..], b'x'), (b"#", b'#'), (b"", b' ')] {
-            let mut line = start.to_vec();
-            line.resize(length, filler);
-            lines.push(line);
-        }
+    for (start, filler, over) in [
+        (&b"free #"[..], b'x', 0),
+        (b"free #", b'x', 1),
+        (b"#", b'#', 1),
+        (b"", b' ', 1),
+    ] {
+        let mut line = start.to_vec();
+        line.resize(LONGEST_LINE + over, filler);
+        lines.push(line);
     }
     for octets in [LONGEST_HEX, LONGEST_HEX + 1] {
         let hex = "0f".repeat(octets);
