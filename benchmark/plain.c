@@ -17,6 +17,7 @@ enum { MAPPED = 1, AWAITING = 17, MARK = 0xff, SLOT_SHIFT = 8 };
 struct table {
     uint64_t base, next_id, route_count, tree_count;
     uint64_t used_slots, leaves;
+    uint64_t turn; /* the place after that of the last label given */
     uint64_t free_labels[CARD_LABELS / 64];
     uint64_t via[CARD_ROOTS];
     uint64_t order[CARD_TREES / 8];
@@ -247,13 +248,18 @@ static bool any_free(const struct table *t)
     return (t->free_labels[0] | t->free_labels[1] | t->free_labels[2] | t->free_labels[3]) != 0;
 }
 
-static size_t take_lowest_free(struct table *t)
+/* The first free label after the last given, going round the block; some label is free. */
+static size_t take_next_free(struct table *t)
 {
-    int w = 0;
-    while (t->free_labels[w] == 0)
-        w++;
-    size_t p = (size_t)w * 64 + (size_t)__builtin_ctzll(t->free_labels[w]);
-    t->free_labels[w] &= t->free_labels[w] - 1;
+    size_t w = t->turn / 64 % (CARD_LABELS / 64);
+    uint64_t here = t->free_labels[w] & ~0ull << t->turn % 64;
+    while (here == 0) {
+        w = (w + 1) % (CARD_LABELS / 64);
+        here = t->free_labels[w];
+    }
+    size_t p = w * 64 + (size_t)__builtin_ctzll(here);
+    t->free_labels[w] &= ~(1ull << p % 64);
+    t->turn = (p + 1) % CARD_LABELS;
     return p;
 }
 
@@ -291,11 +297,11 @@ static bool needs_label(const struct table *t, size_t slot, uint32_t route)
     return has_branch_but(t->branches[slot], route);
 }
 
-/* The tree is given the lowest free label, and the neighbour is told. */
+/* The tree is given the next free label, and the neighbour is told. */
 static void give_label(struct card c, struct output *o, size_t slot, uint32_t to)
 {
     struct table *t = c.table;
-    size_t p = take_lowest_free(t);
+    size_t p = take_next_free(t);
     t->mark[p] = (MAPPED + to) | slot << SLOT_SHIFT;
     t->own_label[slot] = p;
     keep(c.texts->label[p], kept(c.texts->tree[slot]));
@@ -593,6 +599,7 @@ uint32_t plain_start(uint64_t *numbers, uint32_t base)
     bool taken = base >= CARD_BASE_LEAST && base <= CARD_BASE_MOST;
     t->base = taken ? base : CARD_BASE_LEAST;
     t->next_id = 1;
+    t->turn = 0;
     t->route_count = t->tree_count = t->used_slots = t->leaves = 0;
     memset(t->free_labels, 0xff, sizeof t->free_labels);
     memset(t->mark, 0, sizeof t->mark);

@@ -34,7 +34,7 @@ extern "C" {
 #endif
 
 enum {
-    CARD_NUMBERS = 1448,        /* elements of `numbers` */
+    CARD_NUMBERS = 1449,        /* elements of `numbers` */
     CARD_NAMES = 48864,         /* octets of `names` */
     CARD_NEIGHBOURS = 16,       /* neighbours are 0 to 15; elements of `branches` */
     CARD_TREES = 64,            /* most trees */
