@@ -227,6 +227,6 @@ feedOfUse l c (awaiting n a) = nothing
 unfoldable pub lookupLabel : ℕ → Card → Feed
 lookupLabel l c = feedOfUse l c (useOf l c)
 
--- by the octets of an element
+-- by the octets of an element; those that 6, 7 or 18 refuse name none
 unfoldable pub lookupName : List ℕ → Card → Feed
 lookupName e c = pick (eqb (elementRefusal e) 0) (feedOf (routeOf (rootIn e) c) (treeOf e c)) nothing

@@ -44,13 +44,21 @@ refuses e n = anew e n [] 256 16 []
 abbrev pub maps : Event → Row
 maps e = anew e 0 (recordOf 1 (tell 0 mapping A 16)) 255 16 (1 ∷ 100 ∷ [])
 
+-- Mapping <A, 100> with another opaque value
+unfoldable pub holds : List ℕ → Event
+holds o = said (fec (element 1 (rootIn A) o) (label 100 []))
+
+-- it is taken
+abbrev pub fills : List ℕ → Row
+fills o = anew (holds o) 0 (recordOf 1 (tell 0 mapping (element 1 (rootIn A) o) 16)) 255 16 (1 ∷ 100 ∷ [])
+
 -- a tree of a 16-octet root
 unfoldable pub other : List ℕ
-other = element 2 (replicate 16 32) (9 ∷ [])
+other = element 2 (replicate 16 32) (1 ∷ 0 ∷ 1 ∷ 9 ∷ [])
 
 -- one whose root begins as A's
 unfoldable pub long : List ℕ
-long = element 2 (rootIn A ++ replicate 12 0) (9 ∷ [])
+long = element 2 (rootIn A ++ replicate 12 0) (1 ∷ 0 ∷ 1 ∷ 9 ∷ [])
 
 unfoldable pub readings : List Row
 readings =
@@ -93,6 +101,33 @@ readings =
     refuses (said (fec (odd 6 1 4 129 (replicate 7 7)) (label 100 []))) 6 ∷
     refuses (said (fec (odd 6 1 4 0 []) (label 100 []))) 7 ∷
     refuses (said (fec (odd 6 1 4 0 (replicate 7 7)) (label 100 []))) 6 ∷
+    -- 18: an element that runs one octet past the value; one octet behind an element; a head cut behind its type, behind the length's first octet; so behind a whole element
+    refuses (holds (1 ∷ 0 ∷ 2 ∷ 9 ∷ [])) 18 ∷
+    refuses (holds (1 ∷ 0 ∷ 1 ∷ 9 ∷ 9 ∷ [])) 18 ∷
+    refuses (holds (1 ∷ [])) 18 ∷
+    refuses (holds (1 ∷ 0 ∷ [])) 18 ∷
+    refuses (holds (1 ∷ 0 ∷ 1 ∷ 9 ∷ 1 ∷ 0 ∷ [])) 18 ∷
+    -- of type 255: a head of three octets, of four; a value that runs one octet past
+    refuses (holds (255 ∷ 0 ∷ 0 ∷ [])) 18 ∷
+    refuses (holds (255 ∷ 0 ∷ 7 ∷ 0 ∷ [])) 18 ∷
+    refuses (holds (255 ∷ 0 ∷ 7 ∷ 0 ∷ 2 ∷ 9 ∷ [])) 18 ∷
+    -- the length counts in two octets: 0x0101 is 257
+    refuses (holds (1 ∷ 1 ∷ 1 ∷ 9 ∷ [])) 18 ∷
+    -- an element with no value is one; two elements; extended ones, without a value and with one; an extended one behind a plain one whose value is 255; type 0 is a type
+    fills (1 ∷ 0 ∷ 0 ∷ []) ∷
+    fills (1 ∷ 0 ∷ 1 ∷ 9 ∷ 2 ∷ 0 ∷ 0 ∷ []) ∷
+    fills (255 ∷ 0 ∷ 7 ∷ 0 ∷ 0 ∷ []) ∷
+    fills (255 ∷ 0 ∷ 7 ∷ 0 ∷ 1 ∷ 9 ∷ []) ∷
+    fills (1 ∷ 0 ∷ 1 ∷ 255 ∷ 255 ∷ 0 ∷ 7 ∷ 0 ∷ 1 ∷ 9 ∷ []) ∷
+    fills (0 ∷ 0 ∷ 0 ∷ []) ∷
+    -- 6 and 7 before 18; 18 before 8 and 9
+    refuses (said (fec (odd 6 1 4 2 (9 ∷ [])) (label 100 []))) 6 ∷
+    refuses (holds (replicate 129 7)) 7 ∷
+    refuses (said (fec (odd 6 1 4 1 (1 ∷ [])) (label 15 []))) 18 ∷
+    refuses (said (fec (odd 6 1 4 1 (1 ∷ [])) (label 100 (tlv 0x0001 [] [])))) 18 ∷
+    -- in a Withdraw, which is not answered then, and in a Release
+    refuses (heard 5 withdraw (element 1 (rootIn A) (1 ∷ [])) 100) 18 ∷
+    refuses (heard 5 release (element 1 (rootIn A) (1 ∷ [])) 16) 18 ∷
     -- 7 before 8
     refuses (said (fec (odd 6 1 4 0 []) (tlv 0x0200 (0 ∷ 0 ∷ 100 ∷ []) []))) 7 ∷
     -- 8: three octets, five; a bit above the twenty (reading 4); before 9
@@ -146,6 +181,8 @@ readings =
     refuses (join (1 ∷ [])) 6 ∷
     refuses (join (wide 0)) 7 ∷
     refuses (leave (wide 129)) 7 ∷
+    refuses (join (element 1 (rootIn A) (1 ∷ []))) 18 ∷
+    refuses (leave (element 1 (rootIn A) (1 ∷ 0 ∷ 2 ∷ 9 ∷ []))) 18 ∷
     -- a route order: 1 before 6; 6; no route for an unknown root is the route that it has (reading 6)
     refuses (route (1 ∷ []) 18) 1 ∷
     refuses (route (1 ∷ []) 17) 6 ∷
@@ -218,7 +255,7 @@ heldRows =
 
 -- the k-th tree of A's root
 unfoldable pub kin : ℕ → List ℕ
-kin k = element 1 (rootIn A) (k ∷ [])
+kin k = element 1 (rootIn A) (1 ∷ 0 ∷ 1 ∷ k ∷ [])
 
 -- on the card of case 1, n of them, each with a leaf and so with a label
 unfoldable pub grown : ℕ → Card
@@ -383,7 +420,7 @@ endRows =
 -- 64 trees of a 16-octet root with the longest names, each with a leaf and a label mapped to neighbour 0; the other labels are free
 unfoldable pub load : ℕ → ℕ → List Tree
 load zero k = []
-load (suc n) k = record { name = element 2 (replicate 16 32) (k ∷ replicate 127 0); branches = replicate 16 0; leaf = true; label = 16 + k } ∷ load n (suc k)
+load (suc n) k = record { name = element 2 (replicate 16 32) (k ∷ (two 125 ++ replicate 125 0)); branches = replicate 16 0; leaf = true; label = 16 + k } ∷ load n (suc k)
 
 unfoldable pub loaded : Card
 loaded =
@@ -419,9 +456,10 @@ unfoldable pub others : Bool
 others =
     same (rootsOf (rerouted .routes)) (root 1 ++ (root 2 ++ root 0))
     && startsAs 15 17 16 && startsAs 16 0 16 && startsAs 1048320 0 1048320 && startsAs 1048321 17 16
-    -- Reading 11: a lookup by name; octets that 6 or 7 refuse name none
+    -- Reading 11: a lookup by name; octets that 6, 7 or 18 refuse name none
     && same (feed (lookupName (kin 0) (grown 2))) (1 ∷ []) && same (feed (lookupName A (grown 2))) []
     && same (feed (lookupName [] (grown 2))) [] && same (feed (lookupName (wide 0) (grown 2))) []
+    && same (feed (lookupName (element 1 (rootIn A) (1 ∷ [])) (grown 2))) []
     -- a branch that is held stays out of a lookup by name too, until the upstream is another
     && same (feed (lookupName (kin 8) paired)) [] && same (feed (lookupName (kin 9) paired)) (3 ∷ 100 ∷ [])
     && same (feed (lookupName (kin 8) (event enough paired (route (rootIn A) 3) .card))) (0 ∷ 100 ∷ [])
@@ -444,5 +482,5 @@ pub corners-shown : NoneWrong (wrong 1 firstCard firstCard readings)
     × NoneWrong (wrong 1 lone firstCard loneRows)
     × T others
     × T mostMoved
-unfolding computing readings other long packed fec label said odd wrong firstCard agrees flat feed A wide heard wrote kin grown scarce left crowd usedBy fullCard fullRows scarceRows lastRows root rooted rootRows rootedRows endRows heldRows paired needyRows countedRows rootsOf rerouted startsAs others load loaded mostMoved late restRows lone loneRows
+unfolding computing readings other long packed fec label said holds odd wrong firstCard agrees flat feed A wide heard wrote kin grown scarce left crowd usedBy fullCard fullRows scarceRows lastRows root rooted rootRows rootedRows endRows heldRows paired needyRows countedRows rootsOf rerouted startsAs others load loaded mostMoved late restRows lone loneRows
 corners-shown = (tt, tt, tt, tt, tt, tt, tt, tt, tt, tt, tt, tt, tt, tt)

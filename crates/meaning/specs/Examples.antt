@@ -1,11 +1,11 @@
 -- The starred cases 1 to 10 of "Both sides of the edge", as one table of which one test is computed.
 -- Assumes nothing.
-use Prim.Native.Nat.{ℕ, suc}
+use Prim.Native.Nat.{ℕ, suc, _-_}
 use mathlib.Core.Bool.{Bool, true, false, _&&_}
 use mathlib.Core.List.{List, [], _∷_, _++_}
-use lib.ListN.{replicate}
+use lib.ListN.{take, replicate}
 use lib.Dec.{eqb}
-use Rattle.meaning.specs.Octets.{pick, same}
+use Rattle.meaning.specs.Octets.{pick, same, two}
 use Rattle.meaning.specs.Wire.{rootIn, element, mapping, withdraw, release, octetsOf, recordOf}
 use Rattle.meaning.specs.Card.{Card, freeLabels, Branch, Feed, lookupLabel, sentLimit}
 use Rattle.meaning.specs.Events.{Out, tell, Event, receive, route, event, start}
@@ -70,9 +70,9 @@ NoneWrong (n ∷ ns) = TheseRowsAreWrong (n ∷ ns)
 unfoldable pub A : List ℕ
 A = 6 ∷ 0 ∷ 1 ∷ 4 ∷ 192 ∷ 0 ∷ 2 ∷ 1 ∷ 0 ∷ 7 ∷ 1 ∷ 0 ∷ 4 ∷ 0 ∷ 0 ∷ 0 ∷ 7 ∷ []
 
--- A with an opaque value of n octets
+-- A with an opaque value of n octets: one element, of type 1, where n is 3 or more
 unfoldable pub wide : ℕ → List ℕ
-wide n = element 1 (rootIn A) (replicate n 7)
+wide n = element 1 (rootIn A) (take n (1 ∷ (two (n - 3) ++ replicate (n - 3) 7)))
 
 unfoldable pub firstCard : Card
 firstCard = event enough (start 16 .card) (route (rootIn A) 0) .card

@@ -25,7 +25,7 @@ statusOf number =
     -- Missing Message Parameters
     0x16 when eqb number 5 else
     -- Unknown FEC
-    0x0C when eqb number 6 || eqb number 7 else
+    0x0C when eqb number 6 || eqb number 7 || eqb number 18 else
     -- Malformed TLV Value
     0x08 when eqb number 8 else
     -- Unknown TLV

@@ -96,9 +96,9 @@ rows =
     row 26 5 15 head 0 [] 1 ∷
     row 26 5 16 head 0 [] 1 ∷
     row 26 5 17 head 0 [] 1 ∷
+    row 26 5 18 head 0 (told 5 0x00 0x0C ofHead) 2 ∷
     row 26 5 0 head 0 [] 1 ∷
-    -- and numbers above 17, the refusals of other requests and none, write nothing
-    row 26 5 18 head 0 [] 1 ∷
+    -- and numbers above 18, the refusals of other requests and none, write nothing
     row 26 5 19 head 0 [] 1 ∷
     row 26 5 20 head 0 [] 1 ∷
     row 26 5 21 head 0 [] 1 ∷

@@ -81,7 +81,7 @@ pub record Told (number status : ℕ) : Type 0 where
   pub fits : statusCode status < 4294967296
   pub unknown : eqb number 3 ≡ eqb status 0x04
 
--- a refusal that has a status is one of ten
+-- a refusal that has a status is one of eleven
 pub told : (number : ℕ) → eqb (statusOf number) 0 ≡ false → Told number (statusOf number)
 unfolding statusOf _when_else_ isStatus any statusCode isFatal
 told n h =
@@ -95,7 +95,8 @@ told n h =
     (λ e₈. by-test (eqb n 9) (λ e. at 9 (eqb-true n 9 e) (record { known = refl; back = refl; fits = omega arith; unknown = refl }))
     (λ e₉. by-test (eqb n 11) (λ e. at 11 (eqb-true n 11 e) (record { known = refl; back = refl; fits = omega arith; unknown = refl }))
     (λ e₁₁. by-test (eqb n 12) (λ e. at 12 (eqb-true n 12 e) (record { known = refl; back = refl; fits = omega arith; unknown = refl }))
-    (λ e₁₂. let z : true ≡ false = rw (e₂, e₃, e₄, e₅, e₆, e₇, e₈, e₉, e₁₁, e₁₂) at h in let z′ : _≡_ {A = ℕ} 0 1 = cc in absurd (omega arith)))))))))))
+    (λ e₁₂. by-test (eqb n 18) (λ e. at 18 (eqb-true n 18 e) (record { known = refl; back = refl; fits = omega arith; unknown = refl }))
+    (λ e₁₈. let z : true ≡ false = rw (e₂, e₃, e₄, e₅, e₆, e₇, e₈, e₉, e₁₁, e₁₂, e₁₈) at h in let z′ : _≡_ {A = ℕ} 0 1 = cc in absurd (omega arith))))))))))))
   where
     at : (k : ℕ) → n ≡ k → Told k (statusOf k) → Told n (statusOf n)
     at k e t = subst (λ (m : ℕ). Told m (statusOf m)) (sym e) t

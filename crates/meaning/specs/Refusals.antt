@@ -1,6 +1,6 @@
--- What a refusal is: the number given is that of the first test that applies, where the tests stand by rising number (in a route order: 1, 6, 15, 12, 16);
+-- What a refusal is: the number given is that of the first test that applies, where the tests stand by rising number, 18 between 7 and 8 (in a route order: 1, 6, 15, 12, 16);
 -- and a refusal gives back the card it got, and no octet. Assumes nothing.
-use Prim.Native.Nat.{ℕ, suc, zero-le}
+use Prim.Native.Nat.{ℕ, suc, _+_, zero-le}
 use mathlib.Core.Path.{_≡_, refl, ap, _∙_}
 use mathlib.Core.Bool.{Bool, true, false, not, _&&_}
 use mathlib.Core.List.{List, [], _∷_, _++_}
@@ -9,7 +9,7 @@ use lib.Dec.{eqb, ltb}
 use borrow.Author.Tests.{le-ltb}
 use Rattle.meaning.specs.Octets.{pick, any, twoAt, _when_else_}
 use Rattle.meaning.specs.Lists.{by-test}
-use Rattle.meaning.specs.Wire.{isElement, isOpaque, opaqueIn, elementRefusal, isOverrun, tlvs, mapping, withdraw, release, Message, bodyOf, fecOf, labelOf, must, isSized, isKind, isOrdered, isLabel, messageRefusal, messageIn, Sent, records}
+use Rattle.meaning.specs.Wire.{isElement, isOpaque, isFilled, opaqueIn, elementRefusal, isOverrun, tlvs, mapping, withdraw, release, Message, bodyOf, fecOf, labelOf, must, isSized, isKind, isOrdered, isLabel, messageRefusal, messageIn, Sent, records}
 use Rattle.meaning.specs.Card.{Tree, Card, withBranch, withLeaf, treeOf, routeOf}
 use Rattle.meaning.specs.Events.{Out, Outcome, refused, taken, unless, refuse, accept, roomShort, finish, tell, labelsShort, need, upstream, holderOf, treesFull, treeRefusal, enter, become, otherLabel, onMapping, lessBranch, onWithdraw, notAwaited, onRelease, onMessage, noNeighbour, onOctets, onJoin, notLeaf, onLeave, needAll, notRoute, notRoot, routesFull, routeRefusal, reRoute, onRoute, Event, receive, join, leave, route, outcome, event}
 
@@ -30,12 +30,12 @@ firstOf (t ∷ ts) = t .number when t .applies else firstOf ts
 -- ---- the tests of each event, in order
 
 unfoldable pub elementTests : List ℕ → List Test
-elementTests e = (6 if not (isElement e)) ∷ (7 if not (isOpaque (opaqueIn e))) ∷ []
+elementTests e = (6 if not (isElement e)) ∷ (7 if not (isOpaque (opaqueIn e))) ∷ (18 if not (isFilled (opaqueIn e))) ∷ []
 
 unfoldable pub messageTests : List ℕ → List Test
 messageTests s =
     (2 if not (isSized s)) ∷ (3 if not (isKind (twoAt s 0))) ∷ (4 if isOverrun (tlvs (drop 8 s))) ∷ (5 if not (isOrdered s))
-    ∷ (6 if not (isElement (fecOf s .value))) ∷ (7 if not (isOpaque (opaqueIn (fecOf s .value)))) ∷ (8 if not (isLabel (labelOf s .value)))
+    ∷ (6 if not (isElement (fecOf s .value))) ∷ (7 if not (isOpaque (opaqueIn (fecOf s .value)))) ∷ (18 if not (isFilled (opaqueIn (fecOf s .value)))) ∷ (8 if not (isLabel (labelOf s .value)))
     ∷ (9 if any must (drop 2 (bodyOf s))) ∷ []
 
 unfoldable pub treeTests : Card → Tree → List Test
@@ -163,19 +163,19 @@ module _ (room : ℕ) (c : Card) where
   octets-answer n s =
       one 0 _ _ _
       (ap (λ (k : ℕ). answer (unless k (onMessage c n (messageIn s)))) (message-is s)
-      ∙ unless-answer (messageTests s) _ _ (unfold messageTests in more (more (more (more (more (more (more (more none)))))))) (message-answer n (messageIn s)))
+      ∙ unless-answer (messageTests s) _ _ (unfold messageTests in more (more (more (more (more (more (more (more (more none))))))))) (message-answer n (messageIn s)))
 
   join-answer : (e : List ℕ) → answer (onJoin c e) ≡ firstOf (elementTests e ++ (treeTests c (withLeaf true (treeOf e c)) ++ roomTest room c (enter c [] (withLeaf true (treeOf e c)))))
   unfolding onJoin
   join-answer e =
       ap (λ (k : ℕ). answer (unless k (become c [] (withLeaf true (treeOf e c))))) (element-is e)
-      ∙ unless-answer (elementTests e) _ _ (unfold elementTests in more (more none)) (become-answer [] _)
+      ∙ unless-answer (elementTests e) _ _ (unfold elementTests in more (more (more none))) (become-answer [] _)
 
   leave-answer : (e : List ℕ) → answer (onLeave c e) ≡ firstOf (elementTests e ++ (treeTests c (withLeaf false (treeOf e c)) ++ ((14 if notLeaf (treeOf e c)) ∷ roomTest room c (enter c [] (withLeaf false (treeOf e c))))))
   unfolding onLeave
   leave-answer e =
       ap (λ (k : ℕ). answer (unless k (unless (treeRefusal c t) (unless (14 when notLeaf (treeOf e c) else 0) (enter c [] t))))) (element-is e)
-      ∙ unless-answer (elementTests e) _ _ (unfold elementTests in more (more none))
+      ∙ unless-answer (elementTests e) _ _ (unfold elementTests in more (more (more none)))
       (ap (λ (k : ℕ). answer (unless k (unless (14 when notLeaf (treeOf e c) else 0) (enter c [] t)))) (tree-is c t)
       ∙ unless-answer (treeTests c t) _ _ (unfold treeTests in more (more none)) (one 13 _ _ _ (enter-answer [] t)))
     where
@@ -220,31 +220,36 @@ module _ (room : ℕ) (c : Card) where
   answer-first (leave e) = leave-answer e
   answer-first (route r via) = route-answer r via
 
--- ---- the tests stand by rising number, so the first that applies is the lowest
+-- ---- the tests stand by rising number, 18 alone between 7 and 8, so the first that applies is the lowest but for it
 
+-- the place of a number in that order
+unfoldable pub rank : ℕ → ℕ
+rank n = pick (eqb n 18) 15 (n + n)
+
+-- (n is such a place)
 unfoldable pub rises : ℕ → List Test → Bool
 rises n [] = true
-rises n (t ∷ ts) = ltb n (t .number) && rises (t .number) ts
+rises n (t ∷ ts) = ltb n (rank (t .number)) && rises (rank (t .number)) ts
 
 module _ (room : ℕ) (c : Card) (n : ℕ) (s a : List ℕ) (l : ℕ) where
   pub mapping-rises : rises 0 ((1 if noNeighbour n) ∷ (messageTests s ++ mappingTests room c n a l)) ≡ true
-  unfolding rises messageTests mappingTests treeTests roomTest
+  unfolding rises rank messageTests mappingTests treeTests roomTest
   mapping-rises = refl
 
   pub withdraw-rises : rises 0 ((1 if noNeighbour n) ∷ (messageTests s ++ withdrawTests room c n a l)) ≡ true
-  unfolding rises messageTests withdrawTests treeTests roomTest
+  unfolding rises rank messageTests withdrawTests treeTests roomTest
   withdraw-rises = refl
 
   pub release-rises : rises 0 ((1 if noNeighbour n) ∷ (messageTests s ++ releaseTests room c n a l)) ≡ true
-  unfolding rises messageTests releaseTests roomTest
+  unfolding rises rank messageTests releaseTests roomTest
   release-rises = refl
 
   pub join-rises : rises 0 (eventTests room c (join a)) ≡ true
-  unfolding rises eventTests elementTests treeTests roomTest
+  unfolding rises rank eventTests elementTests treeTests roomTest
   join-rises = refl
 
   pub leave-rises : rises 0 (eventTests room c (leave a)) ≡ true
-  unfolding rises eventTests elementTests treeTests roomTest
+  unfolding rises rank eventTests elementTests treeTests roomTest
   leave-rises = refl
 
 -- ---- a refusal leaves all as it was

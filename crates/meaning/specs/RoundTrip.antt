@@ -12,7 +12,7 @@ use lib.Seq.{drop-cons, drop-drop, take-append-seam, drop-append-seam}
 use lib.Dec.{eqb, leb}
 use borrow.Author.Tests.{eqb-true, ltb-true, leb-true, eq-eqb, ne-eqb, le-leb, not-false}
 use Rattle.meaning.specs.Octets.{any, two, four, twoAt, fourAt, _when_else_}
-use Rattle.meaning.specs.Wire.{addressLength, familyIn, rootLength, opaqueLength, rootIn, opaqueIn, isElement, opaqueLimit, isOpaque, elementRefusal, element, framed, after, tlvs, tlv, Message, isKind, isSized, isLabel, isOrdered, isOverrun, messageIn, octetsOf, messageRefusal, fecOf, labelOf, bodyOf, found, Sent, recordOf, records, nextId, recordsF, nameLimit}
+use Rattle.meaning.specs.Wire.{addressLength, familyIn, rootLength, opaqueLength, rootIn, opaqueIn, isElement, opaqueLimit, isOpaque, isFilled, elementRefusal, element, framed, after, tlvs, tlv, Message, isKind, isSized, isLabel, isOrdered, isOverrun, messageIn, octetsOf, messageRefusal, fecOf, labelOf, bodyOf, found, Sent, recordOf, records, nextId, recordsF, nameLimit}
 use Rattle.meaning.specs.WireLaws.{tlvs-end, tlvs-step, element-0}
 use Rattle.meaning.specs.Lists.{by-test, no-when}
 
@@ -24,7 +24,7 @@ both false false e = (e, e)
 
 -- ---- names
 
--- what 6 and 7 leave
+-- what 6, 7 and 18 leave
 pub record Whole (e : List ℕ) : Type 0 where
   pub kind : getD e 0 0 ≡ 6
   pub family : (familyIn e ≤ 2) × (rootLength e ≤ 16)
@@ -33,6 +33,7 @@ pub record Whole (e : List ℕ) : Type 0 where
   pub some : 0 < length (opaqueIn e)
   pub fits : length (opaqueIn e) ≤ opaqueLimit
   pub opaque : length (opaqueIn e) ≡ opaqueLength e
+  pub filled : isFilled (opaqueIn e) ≡ true
 
 known : (f : ℕ) → 0 < addressLength f → (f ≤ 2) × (addressLength f ≤ 16)
 unfolding addressLength
@@ -44,9 +45,9 @@ known f h =
     (λ k. absurd (not-suc-le-zero (rw (e, k) at h))))
 
 module _ (e : List ℕ) (ok : elementRefusal e ≡ 0) where
-  pub element-ok : (isElement e ≡ true) × (isOpaque (opaqueIn e) ≡ true)
+  pub element-ok : (isElement e ≡ true) × (isOpaque (opaqueIn e) ≡ true) × (isFilled (opaqueIn e) ≡ true)
   unfolding elementRefusal
-  element-ok = let r = no-when 5 (not (isElement e)) _ ok in (not-false _ (r .0), not-false _ (no-when 6 _ _ (r .1) .0))
+  element-ok = let r = no-when 5 (not (isElement e)) _ ok in let o = no-when 6 (not (isOpaque (opaqueIn e))) _ (r .1) in (not-false _ (r .0), not-false _ (o .0), not-false _ (no-when 17 _ _ (o .1) .0))
 
   pub whole : Whole e
   unfolding isElement isOpaque rootLength opaqueIn
@@ -64,6 +65,7 @@ module _ (e : List ℕ) (ok : elementRefusal e ≡ 0) where
         some = ltb-true _ _ (o .0);
         fits = leb-true _ _ (o .1);
         opaque = length-drop (6 + addressLength (familyIn e)) e ∙ (omega arith);
+        filled = element-ok .2;
       }
 
 four-first : (e : List ℕ) → 4 ≤ length e → e ≡ getD e 0 0 ∷ getD e 1 0 ∷ getD e 2 0 ∷ getD e 3 0 ∷ drop 4 e
@@ -117,7 +119,7 @@ element-parts e ok =
     ∙ ap (λ (x : ℕ). 6 ∷ familyIn e / 256 % 256 ∷ familyIn e % 256 ∷ x ∷ (rootIn e ++ (getD e (4 + r) 0 ∷ getD e (4 + r + 1) 0 ∷ opaqueIn e))) (w .address ∙ sym (root-size e long))
     ∙ ap₂ (λ (x y : ℕ). 6 ∷ familyIn e / 256 % 256 ∷ familyIn e % 256 ∷ length (rootIn e) ∷ (rootIn e ++ (x ∷ y ∷ opaqueIn e))) (opq .0) (opq .1)
 
--- Two names that 6 and 7 pass are equal exactly where family, root and opaque value are.
+-- Two names that 6, 7 and 18 pass are equal exactly where family, root and opaque value are.
 pub same-parts : (a b : List ℕ) → elementRefusal a ≡ 0 → elementRefusal b ≡ 0
     → a ≡ b ↔ ((familyIn a ≡ familyIn b) × (rootIn a ≡ rootIn b) × (opaqueIn a ≡ opaqueIn b))
 same-parts a b ok ok′ = (
@@ -199,7 +201,7 @@ module _ (id : ℕ) (m : Message) (g : Sayable m) where
   unfolding messageRefusal fecOf labelOf bodyOf found isOverrun isOrdered _when_else_ any
   message-taken =
       let ok = element-ok (m .name) (g .name) in
-      rw (sized-back, kind-back, g .kind, body-back, ok .0, ok .1, label-back) refl
+      rw (sized-back, kind-back, g .kind, body-back, ok .0, ok .1, ok .2, label-back) refl
 
 -- ---- records: what is written is read back
 
@@ -274,10 +276,11 @@ heard n s near e =
     let p5 = no-when 4 _ _ (p4 .1) in
     let p6 = no-when 5 _ _ (p5 .1) in
     let p7 = no-when 6 _ _ (p6 .1) in
-    let p8 = no-when 7 _ _ (p7 .1) in
+    let p18 = no-when 17 _ _ (p7 .1) in
+    let p8 = no-when 7 _ _ (p18 .1) in
     let l = label-ok (labelOf s .value) (not-false _ (p8 .0)) in
-    record { near = near; name = element-0 (fecOf s .value) (not-false _ (p6 .0)) (not-false _ (p7 .0)); low = l .0; high = l .1 }
+    record { near = near; name = element-0 (fecOf s .value) (not-false _ (p6 .0)) (not-false _ (p7 .0)) (not-false _ (p18 .0)); low = l .0; high = l .1 }
 
--- a name that 6 and 7 pass has at most 22 octets besides its opaque value
+-- a name that 6, 7 and 18 pass has at most 22 octets besides its opaque value
 pub name-fits : (e : List ℕ) → elementRefusal e ≡ 0 → length e ≤ nameLimit
 name-fits e ok = let w = whole e ok in omega (arith, w .fills, w .family, w .fits, w .opaque)

@@ -7,7 +7,7 @@ use mathlib.Core.List.{List, [], _∷_, _++_}
 use lib.ListN.{replicate}
 use lib.Dec.{eqb}
 use Rattle.meaning.specs.Octets.{same, all}
-use Rattle.meaning.specs.Wire.{rootIn, element, mapping}
+use Rattle.meaning.specs.Wire.{rootIn, opaqueIn, element, mapping}
 use Rattle.meaning.specs.Card.{Card, free, mapped, fresh, withLabels, withLast}
 use Rattle.meaning.specs.Events.{Out, Event, join, leave, route, event, start}
 use Rattle.meaning.specs.Computing.{computing}
@@ -23,7 +23,7 @@ computingSaves = 0
 
 -- a tree of the root 2001:db8::1, for which there is no route
 unfoldable pub B : List ℕ
-B = element 2 (0x20 ∷ 0x01 ∷ 0x0D ∷ 0xB8 ∷ 0 ∷ 0 ∷ 0 ∷ 0 ∷ 0 ∷ 0 ∷ 0 ∷ 0 ∷ 0 ∷ 0 ∷ 0 ∷ 1 ∷ []) (9 ∷ [])
+B = element 2 (0x20 ∷ 0x01 ∷ 0x0D ∷ 0xB8 ∷ 0 ∷ 0 ∷ 0 ∷ 0 ∷ 0 ∷ 0 ∷ 0 ∷ 0 ∷ 0 ∷ 0 ∷ 0 ∷ 1 ∷ []) (9 ∷ 0 ∷ 0 ∷ [])
 
 unfoldable pub after : Card → List Event → Card
 after c [] = c
@@ -88,7 +88,7 @@ treeB =
     0x10 ∷
     0x20 ∷ 0x01 ∷ 0x0D ∷ 0xB8 ∷ 0x00 ∷ 0x00 ∷ 0x00 ∷ 0x00 ∷ 0x00 ∷ 0x00 ∷ 0x00 ∷ 0x00 ∷ 0x00 ∷ 0x00 ∷ 0x00 ∷ 0x01 ∷
     -- the opaque value's length, and 32 octets of space
-    0x01 ∷
+    0x03 ∷
     0x09 ∷ 0x00 ∷ 0x00 ∷ 0x00 ∷ 0x00 ∷ 0x00 ∷ 0x00 ∷ 0x00 ∷ 0x00 ∷ 0x00 ∷ 0x00 ∷ 0x00 ∷ 0x00 ∷ 0x00 ∷ 0x00 ∷ 0x00 ∷
     0x00 ∷ 0x00 ∷ 0x00 ∷ 0x00 ∷ 0x00 ∷ 0x00 ∷ 0x00 ∷ 0x00 ∷ 0x00 ∷ 0x00 ∷ 0x00 ∷ 0x00 ∷ 0x00 ∷ 0x00 ∷ 0x00 ∷ 0x00 ∷
     -- leaf
@@ -166,7 +166,7 @@ room-shown = refl
 
 -- a name of B's root with a value of n octets, as `wide` is one of A's
 unfoldable pub wideB : ℕ → List ℕ
-wideB n = element 2 (rootIn B) (replicate n 7)
+wideB n = element 2 (rootIn B) (opaqueIn (wide n))
 
 -- in a tree alone, for which there is no route
 unfoldable pub inTree : ℕ → Card

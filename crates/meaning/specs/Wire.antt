@@ -1,7 +1,7 @@
 -- What goes over the wire: RFC 5036's messages and TLVs, RFC 6388's P2MP FEC element, read and written.
--- A message is read into three things, or refused by the lowest number, of 2 to 9, that applies.
+-- A message is read into three things, or refused by the first number, of 2 to 7, 18, 8 and 9, that applies.
 -- Assumes nothing.
-use Prim.Native.Nat.{ℕ, zero, suc, _+_, _*_, _%_}
+use Prim.Native.Nat.{ℕ, zero, suc, _+_, _*_, _-_, _%_}
 use mathlib.Core.Bool.{Bool, true, false, not, _&&_, _||_}
 use mathlib.Core.List.{List, [], _∷_, _++_}
 use lib.ListN.{take, drop, getD, length}
@@ -62,9 +62,31 @@ recordLimit = 24 + nameLimit
 unfoldable pub isOpaque : List ℕ → Bool
 isOpaque o = ltb 0 (length o) && leb (length o) opaqueLimit
 
--- 6, 7, or 0
+-- ---- what 18 asks of an opaque value: RFC 6388's elements, one behind the other, fill it
+
+-- the octets of the first element's head: type 1 and length 2, or type 255, extended type 2 and length 2
+unfoldable pub headLength : List ℕ → ℕ
+headLength o = pick (eqb (getD o 0 0) 255) 5 3
+
+-- where the first element ends: its length field is the last of its head (octets past the end are read as 0, and an element that reaches there is too long)
+unfoldable pub firstEnd : List ℕ → ℕ
+firstEnd o = headLength o + twoAt o (headLength o - 2)
+
+-- An element takes three octets at least: the octets' number and one is enough of a count.
+unfoldable pub isFilledF : ℕ → List ℕ → Bool
+isFilledF zero o = false
+isFilledF (suc n) o =
+    let more = isFilledF n (drop (firstEnd o) o) in
+    let some = pick (leb (firstEnd o) (length o)) more false in
+    pick (eqb (length o) 0) true some
+
+-- (no octet at all is refused 7)
+unfoldable pub isFilled : List ℕ → Bool
+isFilled o = isFilledF (suc (length o)) o
+
+-- 6, 7, 18, or 0
 unfoldable pub elementRefusal : List ℕ → ℕ
-elementRefusal e = 6 when not (isElement e) else 7 when not (isOpaque (opaqueIn e)) else 0
+elementRefusal e = 6 when not (isElement e) else 7 when not (isOpaque (opaqueIn e)) else 18 when not (isFilled (opaqueIn e)) else 0
 
 -- the element of a family, a root and an opaque value
 unfoldable pub element : ℕ → List ℕ → List ℕ → List ℕ
@@ -157,7 +179,7 @@ isOrdered s = eqb (fecOf s .typeField) 0x0100 && eqb (labelOf s .typeField) 0x02
 unfoldable pub isLabel : List ℕ → Bool
 isLabel v = eqb (length v) 4 && leb 16 (fourAt v 0) && leb (fourAt v 0) 1048575
 
--- the lowest of 2 to 9 that applies, or 0
+-- the first of 2 to 7, 18, 8 and 9 that applies, or 0
 unfoldable pub messageRefusal : List ℕ → ℕ
 messageRefusal s =
     2 when not (isSized s) else
@@ -166,6 +188,7 @@ messageRefusal s =
     5 when not (isOrdered s) else
     6 when not (isElement (fecOf s .value)) else
     7 when not (isOpaque (opaqueIn (fecOf s .value))) else
+    18 when not (isFilled (opaqueIn (fecOf s .value))) else
     8 when not (isLabel (labelOf s .value)) else
     9 when any must (drop 2 (bodyOf s)) else 0
 

@@ -143,9 +143,15 @@ treeNames =
     -- the opaque value's length
     refuses (bAlone 20 (0 ∷ [])) ∷
     refuses (bAlone 20 (0 ∷ 0 ∷ [])) ∷
-    takes (bAlone 20 (2 ∷ [])) ∷
-    takes (bAlone 20 (32 ∷ [])) ∷
-    refuses (bAlone 20 (33 ∷ [])) ∷
+    takes (bAlone 20 (6 ∷ 9 ∷ 0 ∷ 3 ∷ [])) ∷
+    takes (bAlone 20 (32 ∷ 9 ∷ 0 ∷ 29 ∷ [])) ∷
+    refuses (bAlone 20 (33 ∷ 9 ∷ 0 ∷ 30 ∷ [])) ∷
+    refuses (bAlone 20 (33 ∷ 9 ∷ 0 ∷ 29 ∷ [])) ∷
+    -- a value whose elements do not fill it
+    refuses (bAlone 20 (2 ∷ [])) ∷
+    refuses (bAlone 20 (4 ∷ [])) ∷
+    refuses (bAlone 20 (3 ∷ 9 ∷ 0 ∷ 1 ∷ [])) ∷
+    takes (bAlone 20 (6 ∷ [])) ∷
     []
 
 unfoldable pub branches : List Row
@@ -215,9 +221,10 @@ labelFields =
     -- the name: root's length, opaque value's length, padding
     refuses (in16 9 (5 ∷ [])) ∷
     refuses (in16 26 (0 ∷ [])) ∷
-    takes (in16 26 (8 ∷ [])) ∷
-    takes (in16 26 (32 ∷ [])) ∷
-    refuses (in16 26 (33 ∷ [])) ∷
+    refuses (in16 26 (8 ∷ [])) ∷
+    takes (in16 26 (10 ∷ [])) ∷
+    takes (in16 26 (32 ∷ 1 ∷ 0 ∷ 29 ∷ [])) ∷
+    refuses (in16 26 (33 ∷ 1 ∷ 0 ∷ 29 ∷ [])) ∷
     refuses (in16 14 (1 ∷ [])) ∷
     refuses (in16 58 (1 ∷ [])) ∷
     []

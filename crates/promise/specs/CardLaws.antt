@@ -68,7 +68,7 @@ module _ (c : Card) (some-free : 0 < freeLabels c) where
 unfoldable pub shape : Tree → Tree
 shape t = withLabel 0 t
 
--- sixteen places, and a name that 6 and 7 pass
+-- sixteen places, and a name that 6, 7 and 18 pass
 unfoldable pub Proper : Tree → Type 0
 Proper t = (length (t .branches) ≡ 16) × (elementRefusal (t .name) ≡ 0)
 

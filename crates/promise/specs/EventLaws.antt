@@ -74,7 +74,7 @@ none-quiet : (gs : List Given) → Quiet gs []
 unfolding Quiet noteAll NoneLive AllSendable
 none-quiet gs = (refl, tt, tt)
 
--- what is known of a message that 1 to 9 pass, from neighbour n
+-- what is known of a message that 1 to 9 and 18 pass, from neighbour n
 release-quiet : (gs : List Given) (n : ℕ) (a : List ℕ) (l : ℕ) → Heard n a l → Quiet gs (tell n release a l ∷ [])
 unfolding Quiet noteAll noteSent NoneLive AllSendable isKind
 release-quiet gs n a l g = (

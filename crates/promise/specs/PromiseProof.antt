@@ -383,7 +383,7 @@ module _ (p : Past) (u : Upheld p) where
       feed-from a n (p .accepted) (set bs n 0) 0 16 (length-set bs n 0 ∙ size) (λ i h. at i h ∙ ap (λ (x : ℕ). pick (eqb x n) [] (branchesSaid a x (p .accepted))) (omega arith)) in
       λ i. record { branches = (branches ∙ ap (λ (x : ℕ). branchesBy a x 0 16 (p .accepted)) e) i; leaf = u .reads a .leaf i }
 
-  -- what 6 or 7 refuses names no tree
+  -- what 6, 7 or 18 refuses names no tree
   no-tree : (a : List ℕ) → eqb (elementRefusal a) 0 ≡ false → treeOf a (p .card) ≡ bare a
   no-tree a e =
       by-test (ltb (treePlace a (p .card)) (length (p .card .trees)))

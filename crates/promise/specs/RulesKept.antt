@@ -177,7 +177,7 @@ enter-taken c first t =
     let m : Moved = relabel i (holderOf c t) (entered c t) in
     (m .sent, swept i (m .card), refl)
 
--- After any history, a Withdraw that 1 to 9 pass is answered by the Release that it names, whatever stands.
+-- After any history, a Withdraw that 1 to 9 and 18 pass is answered by the Release that it names, whatever stands.
 pub withdraw-answered : (base : ℕ) (steps : List Step) (n : ℕ) (s : List ℕ) → noNeighbour n ≡ false → messageRefusal s ≡ 0 → messageIn s .kind ≡ withdraw
     → (ms : List Sent) × (after : Card) × (outcome (history base steps .card) (receive n s) ≡ taken (tell n release (messageIn s .name) (messageIn s .label) ∷ ms) after)
 unfolding outcome onOctets onMessage onWithdraw become unless _when_else_
@@ -186,7 +186,7 @@ withdraw-answered base steps n s near ok w =
     let r = enter-taken (history base steps .card) (tell n release (m .name) (m .label) ∷ []) (lessBranch n (m .label) (treeOf (m .name) (history base steps .card))) in
     (r .0, r .1, rw (near, ok, ne-eqb (m .kind) mapping (λ k. omega arith), eq-eqb (m .kind) withdraw w, withdraw-fits base steps n (m .name) (m .label)) (r .2))
 
--- And a leave of a leaf, that 6 and 7 pass, is taken.
+-- And a leave of a leaf, that 6, 7 and 18 pass, is taken.
 pub leave-answered : (base : ℕ) (steps : List Step) (e : List ℕ) → elementRefusal e ≡ 0 → treeOf e (history base steps .card) .leaf ≡ true
     → (ms : List Sent) × (after : Card) × (outcome (history base steps .card) (leave e) ≡ taken ms after)
 unfolding outcome onLeave unless _when_else_
