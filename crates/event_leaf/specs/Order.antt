@@ -6,7 +6,7 @@ use Rattle.meaning.specs.Octets.{_when_else_}
 use Rattle.meaning.specs.Card.{Card, withLeaf, treeOf}
 use Rattle.meaning.specs.Events.{Outcome, unless, treeRefusal, enter, become, notLeaf}
 
--- a leaf order on octets that 6 and 7 pass
+-- a leaf order on octets that 6, 7 and 18 pass
 unfoldable pub joinOf : Card → List ℕ → Outcome
 joinOf c a = become c [] (withLeaf true (treeOf a c))
 

@@ -25,11 +25,23 @@ module _ (n : ℕ) where
       (λ e. status-at k d (eqb-true n k e) p h)
       (λ e. status-at (k + 1) d (omega (arith, eqb-false n k e)) q h)
 
-  pub status-none : (n ≡ 2 → ⊥) → (n ≡ 3 → ⊥) → (n ≡ 4 → ⊥) → (n ≡ 5 → ⊥) → (n ≡ 6 → ⊥) → (n ≡ 7 → ⊥) → (n ≡ 8 → ⊥) → (n ≡ 9 → ⊥) → (n ≡ 11 → ⊥) → (n ≡ 12 → ⊥)
+  pub status-none : (n ≡ 2 → ⊥) → (n ≡ 3 → ⊥) → (n ≡ 4 → ⊥) → (n ≡ 5 → ⊥) → (n ≡ 6 → ⊥) → (n ≡ 7 → ⊥) → (n ≡ 8 → ⊥) → (n ≡ 9 → ⊥) → (n ≡ 11 → ⊥) → (n ≡ 12 → ⊥) → (n ≡ 18 → ⊥)
       → (0 ≡ statusOf n) × (0 < 32)
   unfolding statusOf _when_else_
-  status-none a b c d e f g h i j =
-      (rw (ne-eqb n 2 a, ne-eqb n 3 b, ne-eqb n 4 c, ne-eqb n 5 d, ne-eqb n 6 e, ne-eqb n 7 f, ne-eqb n 8 g, ne-eqb n 9 h, ne-eqb n 11 i, ne-eqb n 12 j) refl, omega arith)
+  status-none a b c d e f g h i j k =
+      (rw (ne-eqb n 2 a, ne-eqb n 3 b, ne-eqb n 4 c, ne-eqb n 5 d, ne-eqb n 6 e, ne-eqb n 7 f, ne-eqb n 8 g, ne-eqb n 9 h, ne-eqb n 11 i, ne-eqb n 12 j, ne-eqb n 18 k) refl, omega arith)
+
+  -- the numbers between two that are told otherwise
+  pub status-few : 2 ≤ n → n < 8 → (n ≡ 2 → ⊥) → (n ≡ 3 → ⊥) → (n ≡ 4 → ⊥) → (n ≡ 5 → ⊥) → (0x0C ≡ statusOf n) × (0x0C < 32)
+  unfolding statusOf _when_else_
+  status-few l u a b c d = status-pair 6 0x0C (omega arith) (omega arith) refl refl (omega arith)
+
+  pub status-ten : 8 ≤ n → n < 11 → (n ≡ 8 → ⊥) → (n ≡ 9 → ⊥) → (0 ≡ statusOf n) × (0 < 32)
+  unfolding statusOf _when_else_
+  status-ten l u a b = status-at 10 0 (omega arith) refl (omega arith)
+
+  pub status-high : 13 ≤ n → (n ≡ 18 → ⊥) → (0 ≡ statusOf n) × (0 < 32)
+  status-high l a = status-none (λ e. omega arith) (λ e. omega arith) (λ e. omega arith) (λ e. omega arith) (λ e. omega arith) (λ e. omega arith) (λ e. omega arith) (λ e. omega arith) (λ e. omega arith) (λ e. omega arith) a
 
 module _ (d : ℕ) where
   pub known-at : (k : ℕ) → d ≡ k → isStatus k ≡ true → true ≡ isStatus d

@@ -1,7 +1,8 @@
-// A tree's name, the octets of one P2MP element of RFC 6388: its root, and the refusals 6 and 7.
+// A tree's name, the octets of one P2MP element of RFC 6388: its root, and the refusals 6, 7 and 18.
 ghost use mathlib.Core.Path.{_≡_};
-ghost use Prim.Native.Nat.{_≤_};
-ghost use Rattle.meaning.specs.Wire.{addressLength, rootLength, rootIn, elementRefusal, rootLimit};
+ghost use Prim.Native.Nat.{_+_, _≤_, _<_};
+ghost use lib.ListN.{length, drop};
+ghost use Rattle.meaning.specs.Wire.{addressLength, rootLength, rootIn, firstEnd, isFilled, elementRefusal, rootLimit, nameLimit};
 use meaning::OPAQUE_LIMIT;
 use meaning::ROOT_LIMIT;
 
@@ -38,7 +39,35 @@ pub fn root_of(e: &[u8]) -> &[u8]
     &e[4..end]
 }
 
-// 6, 7, or 0.
+// Where the element of an opaque value ends that begins at a place: type 1 octet, length 2 and a value; or type 255, extended type 2, length 2 and a value.
+// Octets past the end are read as 0, and an end behind them tells of them.
+fn element_end(s: &[u8], at: usize) -> usize
+    requires { ⌜ (at < length (now s)) × (length (now s) ≤ nameLimit) ⌝ }
+    ensures { λ r. ⌜ (r ≡ at + firstEnd (drop at (now (s .entry)))) × (at < r) ⌝ }
+{
+    if octets::at(s, at) == 255 {
+        return at + 5 + octets::two_at(s, at + 3) as usize;
+    }
+    at + 3 + octets::two_at(s, at + 1) as usize
+}
+
+// Whether whole elements fill the octets from a place on.
+fn is_filled(s: &[u8], from: usize) -> bool
+    requires { ⌜ (from ≤ length (now s)) × (length (now s) ≤ nameLimit) ⌝ }
+    ensures { λ r. ⌜ r ≡ isFilled (drop from (now (s .entry))) ⌝ }
+{
+    let mut at = from;
+    while at < s.len() {
+        let end = element_end(s, at);
+        if s.len() < end {
+            return false;
+        }
+        at = end;
+    }
+    true
+}
+
+// 6, 7, 18, or 0.
 pub fn element_refusal(e: &[u8]) -> u32
     ensures { λ r. ⌜ r ≡ elementRefusal (now (e .entry)) ⌝ }
 {
@@ -62,5 +91,8 @@ pub fn element_refusal(e: &[u8]) -> u32
     if OPAQUE_LIMIT < k {
         return 7;
     }
-    0
+    if is_filled(e, 6 + n) {
+        return 0;
+    }
+    18
 }

@@ -9,7 +9,7 @@ use borrow.Author.Tests.{le-leb, lt-leb, eq-eqb, ne-eqb, not-true, not-false}
 use Rattle.meaning.specs.Octets.{any, twoAt, _when_else_}
 use Rattle.meaning.specs.Lists.{no-when}
 use Rattle.meaning.specs.Wire as wire
-use Rattle.meaning.specs.Wire.{tlvs, isOverrun, found, must, isElement, isOpaque, opaqueIn, elementRefusal, isSized, isKind, bodyOf, fecOf, labelOf, isOrdered, isLabel, messageRefusal, messageIn}
+use Rattle.meaning.specs.Wire.{tlvs, isOverrun, found, must, isElement, isOpaque, isFilled, opaqueIn, elementRefusal, isSized, isKind, bodyOf, fecOf, labelOf, isOrdered, isLabel, messageRefusal, messageIn}
 use Rattle.meaning.specs.RoundTrip.{element-ok}
 use Rattle.wire_reader.specs.Read.{tlvAt, endOf, labelIn, headRefusal, Ordered}
 use Rattle.wire_reader.specs.declared.Tlv.the-variants.{Whole}
@@ -121,6 +121,7 @@ module _ (s : List ℕ) (e l : ℕ) (o : Ordered s e l) where
   refusal-after : messageRefusal s ≡
       6 when not (isElement nameAt) else
       7 when not (isOpaque (opaqueIn nameAt)) else
+      18 when not (isFilled (opaqueIn nameAt)) else
       8 when not (isLabel labelAt) else
       9 when any must (found (tlvs (drop l s))) else 0
   unfolding messageRefusal isOrdered fecOf labelOf _when_else_
@@ -129,19 +130,19 @@ module _ (s : List ℕ) (e l : ℕ) (o : Ordered s e l) where
   pub name-refused : (n : ℕ) → n ≡ elementRefusal nameAt → (n ≡ 0 → ⊥) → (n ≡ messageRefusal s) × (0 < n)
   unfolding elementRefusal
   name-refused n q z = (
-    q ∙ when-same 6 _ _ _ (λ h. z (q ∙ h)) (λ z. when-same 7 _ 0 _ z (λ z. absurd (z refl))) ∙ sym refusal-after,
+    q ∙ when-same 6 _ _ _ (λ h. z (q ∙ h)) (λ z. when-same 7 _ _ _ z (λ z. when-same 18 _ 0 _ z (λ z. absurd (z refl)))) ∙ sym refusal-after,
     omega arith,
   )
 
   module _ (named : elementRefusal nameAt ≡ 0) where
     pub label-refused : 0 ≡ labelIn labelAt → 8 ≡ messageRefusal s
     unfolding _when_else_
-    label-refused q = let n = element-ok nameAt named in sym (refusal-after ∙ rw (n .0, n .1, label-none labelAt q))
+    label-refused q = let n = element-ok nameAt named in sym (refusal-after ∙ rw (n .0, n .1, n .2, label-none labelAt q))
 
     module _ (k : ℕ) (q : k ≡ labelIn labelAt) (z : k ≡ 0 → ⊥) where
       refusal-last : messageRefusal s ≡ 9 when any must (found (tlvs (drop l s))) else 0
       unfolding _when_else_
-      refusal-last = let n = element-ok nameAt named in refusal-after ∙ rw (n .0, n .1, label-some labelAt k q z .0)
+      refusal-last = let n = element-ok nameAt named in refusal-after ∙ rw (n .0, n .1, n .2, label-some labelAt k q z .0)
 
       pub must-refused : any must (found (tlvs (drop l s))) ≡ true → 9 ≡ messageRefusal s
       unfolding _when_else_

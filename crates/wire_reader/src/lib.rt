@@ -1,4 +1,4 @@
-// One LDP message in: RFC 5036's TLVs, and the refusals 2 to 9.
+// One LDP message in: RFC 5036's TLVs, and the refusals 2 to 9 and 18.
 ghost use mathlib.Core.Path.{_≡_};
 ghost use mathlib.Core.Bool.{false, not};
 ghost use lib.ListN.{drop};
@@ -209,7 +209,7 @@ fn head_refusal(message: &[u8]) -> u32
     3
 }
 
-// The refusals 6 to 9, where the ends of the first two TLVs are known.
+// The refusals 6, 7, 18, 8 and 9, where the ends of the first two TLVs are known.
 fn read_body(message: &[u8], fec: usize, end: usize) -> Read
     requires { ⌜ Ordered (now message) fec end ⌝ }
     ensures { λ r. ⌜ Reads (now (message .entry)) r ⌝ }

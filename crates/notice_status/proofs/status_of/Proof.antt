@@ -1,9 +1,9 @@
--- `notice_writer::status_of` meets its contract: each arm by its number, and any other number by what it is not. Assumes nothing.
+-- `notice_status::status_of` meets its contract: each arm by its number, and any other number by what it is not. Assumes nothing.
 use mathlib.Core.Path.{refl}
 use native.Mathlib.Omega.{arith}
 use Rattle.meaning.specs.Octets.{_when_else_}
 use Rattle.meaning.specs.Notice.{statusOf}
-use Rattle.notice_status.proofs.Status.{status-at, status-pair, status-none}
+use Rattle.notice_status.proofs.Status.{status-at, status-pair, status-none, status-few, status-ten, status-high}
 use Rattle.notice_status.proofs.status_of.Statement.{statement}
 use Rattle.notice_status.proofs.status_of.Tie as tie
 
@@ -46,26 +46,26 @@ returns-6 c =
 returns-7 : tie.Need-returns-7
 unfolding statusOf _when_else_
 returns-7 c =
-    let start = c .before .before .before in
-    status-pair (start .args .number) 6 _ (omega arith) (omega arith) refl refl (omega arith)
-
-returns-8 : tie.Need-returns-8
-unfolding statusOf _when_else_
-returns-8 c =
     let start = c .before .before .before .before .before in
     status-pair (start .args .number) 11 _ (omega arith) (omega arith) refl refl (omega arith)
 
+returns-8 : tie.Need-returns-8
+returns-8 c = status-none _ (λ e. omega arith) (λ e. omega arith) (λ e. omega arith) (λ e. omega arith) (λ e. omega arith) (λ e. omega arith) (λ e. omega arith) (λ e. omega arith) (λ e. omega arith) (λ e. omega arith) (λ e. omega arith)
+
 returns-9 : tie.Need-returns-9
-returns-9 c = status-none _ (λ e. omega arith) (λ e. omega arith) (λ e. omega arith) (λ e. omega arith) (λ e. omega arith) (λ e. omega arith) (λ e. omega arith) (λ e. omega arith) (λ e. omega arith) (λ e. omega arith)
+returns-9 c = let other = c .before .before .before .match .rest in status-ten _ (c .before .if2 .left) (c .if3 .taken) (other .0 .1) (other .1)
 
 returns-10 : tie.Need-returns-10
-unfolding statusOf _when_else_
-returns-10 c =
-    let start = c .before .before .before .before in
-    status-at (start .args .number) 10 _ (omega arith) refl (omega arith)
+returns-10 c = let other = c .before .before .before .before .match .rest in status-high _ (c .if4 .left) (other .0 .0 .1)
 
 returns-11 : tie.Need-returns-11
-returns-11 c = status-none _ (λ e. omega arith) (λ e. omega arith) (λ e. omega arith) (λ e. omega arith) (λ e. omega arith) (λ e. omega arith) (λ e. omega arith) (λ e. omega arith) (λ e. omega arith) (λ e. omega arith)
+unfolding statusOf _when_else_
+returns-11 c =
+    let start = c .before in
+    status-at (start .args .number) 18 _ (omega arith) refl (omega arith)
+
+returns-12 : tie.Need-returns-12
+returns-12 c = let other = c .before .before .match .rest in status-few _ (c .before .if1 .left) (c .if2 .taken) (other .0 .0 .0 .0 .0 .0 .1) (other .0 .0 .0 .0 .0 .1) (other .0 .0 .0 .0 .1) (other .0 .0 .0 .1)
 
 pub status-of-spec : {M : Type 1} → statement M
 status-of-spec =
@@ -81,4 +81,5 @@ status-of-spec =
     returns-8
     returns-9
     returns-10
-    returns-11)
+    returns-11
+    returns-12)

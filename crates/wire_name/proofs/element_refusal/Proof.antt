@@ -2,8 +2,8 @@
 -- Assumes nothing.
 use native.Mathlib.Omega.{arith}
 use mathlib.Core.Path.{sym}
-use Rattle.meaning.specs.WireLaws.{element-kind, element-family, element-length, element-fill, element-whole, element-7, element-0, opaque-length, opaque-none, opaque-long, opaque-right}
-use Rattle.wire_name.proofs.Name.{opaque-at}
+use Rattle.meaning.specs.WireLaws.{element-kind, element-family, element-length, element-fill, element-whole, element-7, element-18, element-0, opaque-length, opaque-none, opaque-long, opaque-right}
+use Rattle.wire_name.proofs.Name.{opaque-at, filled-in}
 use borrow.Author.Needs.{needs}
 use Rattle.wire_name.proofs.element_refusal.Statement.{statement}
 use Rattle.wire_name.proofs.element_refusal.Tie as tie
@@ -53,10 +53,23 @@ returns-6 c =
     let k = opaque-at _ _ _ (c .before .before .before .before .before .before .before .root-length .ensures .0) (c .before .before .before .two-at .ensures .0) in
     sym (element-7 _ (element-whole _ (omega arith) (omega arith) (omega arith) (omega arith)) (opaque-long _ _ (opaque-length _ (omega arith)) (omega arith)))
 
+add-is-filled : tie.Need-add-is-filled
+add-is-filled c = search needs
+
+is-filled-requires : tie.Need-is-filled-requires
+is-filled-requires c κs = search needs
+
 returns-7 : tie.Need-returns-7
 returns-7 c =
-    let k = opaque-at _ _ _ (c .before .before .before .before .before .before .before .root-length .ensures .0) (c .before .before .before .two-at .ensures .0) in
-    sym (element-0 _ (element-whole _ (omega arith) (omega arith) (omega arith) (omega arith)) (opaque-right _ _ (opaque-length _ (omega arith)) (omega arith) (omega arith)))
+    let root = c .before .before .before .before .before .before .before .before .before .root-length .ensures .0 in
+    let k = opaque-at _ _ _ root (c .before .before .before .before .before .two-at .ensures .0) in
+    sym (element-0 _ (element-whole _ (omega arith) (omega arith) (omega arith) (omega arith)) (opaque-right _ _ (opaque-length _ (omega arith)) (omega arith) (omega arith)) (filled-in _ _ _ _ root (c .before .is-filled .ensures) (c .if7 .taken)))
+
+returns-8 : tie.Need-returns-8
+returns-8 c =
+    let root = c .before .before .before .before .before .before .before .before .before .root-length .ensures .0 in
+    let k = opaque-at _ _ _ root (c .before .before .before .before .before .two-at .ensures .0) in
+    sym (element-18 _ (element-whole _ (omega arith) (omega arith) (omega arith) (omega arith)) (opaque-right _ _ (opaque-length _ (omega arith)) (omega arith) (omega arith)) (filled-in _ _ _ _ root (c .before .is-filled .ensures) (c .if7 .left)))
 
 pub element-refusal-spec : {M : Type 1} → statement M
 element-refusal-spec =
@@ -75,4 +88,7 @@ element-refusal-spec =
     returns-4
     returns-5
     returns-6
-    returns-7)
+    add-is-filled
+    is-filled-requires
+    returns-7
+    returns-8)
