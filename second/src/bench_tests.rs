@@ -19,8 +19,8 @@ fn the_example() {
 
 #[test]
 fn leaf_comes_before_branches() {
-    let element = "06000104c0000201000101";
-    let message = "0400001b00000001 0100000b 06000104c0000201000101 02000004 00000064";
+    let element = "06000104c00002010003010000";
+    let message = "0400001d00000001 0100000d 06000104c00002010003010000 02000004 00000064";
     let message = message.replace(' ', "");
     let input = format!("take 9 {message}\njoin {element}\ntake 2 {message}\ntree {element}\n");
     assert_eq!(
@@ -113,7 +113,7 @@ fn hex_of_either_case_up_to_4096_octets() {
 
 #[test]
 fn a_message_of_4096_octets_is_taken() {
-    let message = "04000fec00000001 0100000b 06000104c0000201000101 02000004 00000064";
+    let message = "04000fec00000001 0100000d 06000104c00002010003010000 02000004 00000064";
     let message = message.replace(' ', "");
     let filling = 4096 - message.len() / 2 - 4;
     let line = format!(
@@ -147,18 +147,18 @@ fn sizes() {
 
 #[test]
 fn room_stays_over_a_start() {
-    let element = "06000104c0000201000101";
+    let element = "06000104c00002010003010000";
     let input = format!(
-        "room 34\nstart 20\nroute c0000201 3\njoin {element}\nroom 35\njoin {element}\n\
+        "room 36\nstart 20\nroute c0000201 3\njoin {element}\nroom 37\njoin {element}\n\
          start 15\nlabel 16\nroute c0000201 3\njoin {element}\nlabel 16\nlabel 20\n"
     );
     let record = |label: &str| {
-        format!("4c4400030400001b000000010100000b06000104c000020100010102000004000000{label}")
+        format!("4c4400030400001d000000010100000d06000104c0000201000301000002000004000000{label}")
     };
     assert_eq!(
         output(input.as_bytes()),
         format!(
-            "room 34\nstart 0\nroute 0\njoin 16\nroom 35\njoin 0 {}\nstart 17\nlabel nothing\n\
+            "room 36\nstart 0\nroute 0\njoin 16\nroom 37\njoin 0 {}\nstart 17\nlabel nothing\n\
              route 0\njoin 0 {}\nlabel leaf\nlabel nothing\n",
             record("14"),
             record("10")

@@ -5,11 +5,13 @@ use crate::bench::{answer_number, WHOLE_BUFFER};
 mod held;
 
 const ROOT: [u8; 4] = [192, 0, 2, 1];
+/// Of a tree that `name` names.
+const RECORD: usize = 37;
 
 fn name(number: u8) -> TreeName {
     TreeName {
         root: ROOT.to_vec(),
-        opaque: vec![number],
+        opaque: crate::formed::bare(number),
     }
 }
 
@@ -125,7 +127,7 @@ fn withdraw_and_release() {
 #[test]
 fn a_withdraw_needs_room_for_both_records() {
     let mut card = grown(1);
-    let record = 4 + 30 + 1;
+    let record = RECORD;
     assert_eq!(
         tell_in(&mut card, 1, Kind::Withdraw, 1, 100, 2 * record - 1),
         16
@@ -173,10 +175,10 @@ fn routes_without_an_upstream_hold_no_label() {
 #[test]
 fn records_of_a_move_come_tree_by_tree() {
     let mut card = grown(2);
-    let records = card.route(&ROOT, 7, 4 * 35).expect("it fits");
+    let records = card.route(&ROOT, 7, 4 * RECORD).expect("it fits");
     let heads: Vec<(u8, u8, u8)> = records
-        .chunks(35)
-        .map(|record| (record[3], record[5], record[34]))
+        .chunks(RECORD)
+        .map(|record| (record[3], record[5], record[RECORD - 1]))
         .collect();
     assert_eq!(heads, [(0, 2, 16), (7, 0, 18), (0, 2, 17), (7, 0, 19)]);
 }
@@ -217,8 +219,8 @@ fn a_route_order_tests_15_then_12_then_16() {
         let label = 15 + u32::from(number);
         assert_eq!(tell(&mut card, 0, Kind::Release, number, label), 0);
     }
-    assert_eq!(answer_number(&card.route(&ROOT, 5, 64 * 35 - 1)), 16);
-    assert_eq!(answer_number(&card.route(&ROOT, 5, 64 * 35)), 0);
+    assert_eq!(answer_number(&card.route(&ROOT, 5, 64 * RECORD - 1)), 16);
+    assert_eq!(answer_number(&card.route(&ROOT, 5, 64 * RECORD)), 0);
 }
 
 #[test]
@@ -231,8 +233,11 @@ fn new_trees_test_11_then_12_then_16() {
     assert_eq!(tell(&mut card, 1, Kind::Withdraw, 64, 100), 0);
     assert_eq!(tell_in(&mut card, 1, Kind::Mapping, 65, 100, 0), 12);
     assert_eq!(tell(&mut card, 0, Kind::Release, 1, 16), 0);
-    assert_eq!(tell_in(&mut card, 1, Kind::Mapping, 65, 100, 34), 16);
-    assert_eq!(tell_in(&mut card, 1, Kind::Mapping, 65, 100, 35), 0);
+    assert_eq!(
+        tell_in(&mut card, 1, Kind::Mapping, 65, 100, RECORD - 1),
+        16
+    );
+    assert_eq!(tell_in(&mut card, 1, Kind::Mapping, 65, 100, RECORD), 0);
 }
 
 #[test]
@@ -242,14 +247,14 @@ fn families_do_not_mix() {
     long_root.resize(16, 0);
     let long = TreeName {
         root: long_root.clone(),
-        opaque: vec![1],
+        opaque: name(1).opaque,
     };
     let element = wire::write_element(&long);
     assert_eq!(card.find_tree(&element), None);
     assert_eq!(card.join(&element, 0), Ok(Vec::new()));
     assert_eq!(card.free_labels(), 255);
     let records = card.route(&long_root, 2, 100).expect("it fits");
-    assert_eq!(records.len(), 4 + 42 + 1);
+    assert_eq!(records.len(), 4 + 42 + 3);
     assert_eq!(card.find_label(17).map(|f| f.leaf), Some(true));
     assert_eq!(card.find_label(16).map(|f| f.leaf), Some(false));
 }

@@ -3,9 +3,12 @@
 
 use crate::bench::{Order, WHOLE_BUFFER};
 use crate::card::{NO_ROUTE, THIS_NODE};
+use crate::formed;
 use crate::wire::{self, Kind, TreeName};
 
 pub const ROOT: [u8; 4] = [192, 0, 2, 1];
+/// Of a tree that has a number, under a root of 4 octets.
+pub const NUMBERED_RECORD: usize = 4 + 30 + formed::SHORTEST;
 pub const OTHER_ROOT: [u8; 4] = [192, 0, 2, 2];
 const THIRD_ROOT: [u8; 4] = [192, 0, 2, 3];
 
@@ -92,7 +95,7 @@ pub fn notices() -> Vec<String> {
 fn longest_name(root: &[u8], number: u8) -> TreeName {
     TreeName {
         root: root.to_vec(),
-        opaque: vec![number; wire::LONGEST_OPAQUE],
+        opaque: formed::single(number, wire::LONGEST_OPAQUE, number),
     }
 }
 
@@ -106,7 +109,7 @@ pub fn tree_a() -> TreeName {
 pub fn numbered(root: [u8; 4], number: u8) -> TreeName {
     TreeName {
         root: root.to_vec(),
-        opaque: vec![number],
+        opaque: formed::bare(number),
     }
 }
 
@@ -258,12 +261,12 @@ impl Page {
             10,
             "opaque of 128 octets taken, 129 refused 7; length not filling the TLV refused 6",
         );
-        let filled = [7; wire::LONGEST_OPAQUE + 1];
+        let filled = |length| formed::single(7, length, 7);
         let elements = [
-            element_claiming(128, &filled[..128]),
-            element_claiming(129, &filled),
-            element_claiming(6, &filled[..7]),
-            element_claiming(8, &filled[..7]),
+            element_claiming(128, &filled(128)),
+            element_claiming(129, &filled(129)),
+            element_claiming(6, &filled(7)),
+            element_claiming(8, &filled(7)),
         ];
         for element in elements {
             self.fresh();
@@ -346,7 +349,7 @@ impl Page {
 
     fn refused_and_told(&mut self) {
         let element = wire::write_element(&tree_a());
-        let filled = [7; wire::LONGEST_OPAQUE + 1];
+        let filled = |length| formed::single(7, length, 7);
         let no_tlv = |code, identifier| wire::write_frame(code, identifier, &[]);
         let cut_short = no_tlv(0x0400, 2)[..7].to_vec();
         self.told(2, cut_short);
@@ -355,8 +358,12 @@ impl Page {
         self.told(3, no_tlv(0x8401, 3));
         self.told(4, wire::write_frame(0x0400, 4, &[1, 0, 0, 1]));
         self.told(5, no_tlv(0x0400, 5));
-        self.told(6, mapping(6, &element_claiming(6, &filled[..7]), 100, &[]));
-        self.told(7, mapping(7, &element_claiming(129, &filled), 100, &[]));
+        self.told(6, mapping(6, &element_claiming(6, &filled(7)), 100, &[]));
+        self.told(
+            7,
+            mapping(7, &element_claiming(129, &filled(129)), 100, &[]),
+        );
+        self.told(18, mapping(18, &element_claiming(7, &[7; 7]), 100, &[]));
         self.told(8, mapping(8, &element, 15, &[]));
         let further = wire::write_tlv(0x0104, &[]);
         self.told(9, mapping(9, &element, 100, &further));

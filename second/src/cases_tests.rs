@@ -183,7 +183,7 @@ fn case_11() {
 fn case_12() {
     let case = &outputs()[12];
     assert_eq!(case[3..8], case[9..14]);
-    let release = "4c4400010403001b000000020100000b06000104c00002010001090200000400000064";
+    let release = "4c4400010403001d000000020100000d06000104c000020100030900000200000400000064";
     assert_eq!(case[8], format!("take 0 {release}"));
 }
 
@@ -224,7 +224,7 @@ fn thirty_two_roots_have_a_route() {
         lines[34..39],
         ["route 15", "route 15", "route 0", "route 0", "route 15"]
     );
-    let mapping = "4c4400040400001b000000010100000b06000104c00002010001010200000400000010";
+    let mapping = "4c4400040400001d000000010100000d06000104c000020100030100000200000400000010";
     assert_eq!(
         lines[39..42],
         ["route 0", &format!("route 0 {mapping}"), "route 15"]
@@ -253,8 +253,9 @@ fn refused_messages_and_their_notices() {
         ("take 5", notice(1, 4, 0x16, &copied(5, 0x0400))),
         ("take 6", notice(1, 5, 0x0c, &copied(6, 0x0400))),
         ("take 7", notice(1, 6, 0x0c, &copied(7, 0x0400))),
-        ("take 8", notice(1, 7, 0x8000_0008, &copied(8, 0x0400))),
-        ("take 9", notice(1, 8, 0x06, &copied(9, 0x0400))),
+        ("take 18", notice(1, 7, 0x0c, &copied(18, 0x0400))),
+        ("take 8", notice(1, 8, 0x8000_0008, &copied(8, 0x0400))),
+        ("take 9", notice(1, 9, 0x06, &copied(9, 0x0400))),
     ];
     for (pair, (take, notice)) in lines[2..].chunks(2).zip(&expected) {
         assert_eq!(pair, [*take, notice.as_str()]);
@@ -263,7 +264,7 @@ fn refused_messages_and_their_notices() {
     assert_eq!(
         lines[after..after + 3],
         [
-            &format!("take 0 {}", record(0, MAPPING, 9, 16)),
+            &format!("take 0 {}", record(0, MAPPING, 10, 16)),
             "take 10",
             "notice 0"
         ]
@@ -273,13 +274,13 @@ fn refused_messages_and_their_notices() {
 #[test]
 fn a_notice_of_every_number() {
     let lines = run(&notices().join("\n"));
-    let lines = &lines[2 + 18 + 3..][..28];
+    let lines = &lines[2 + 20 + 3..][..28];
     let told: Vec<(usize, &String)> = (0..)
         .zip(lines)
         .filter(|(_, line)| *line != "notice 0")
         .collect();
     let numbers: Vec<usize> = told.iter().map(|(number, _)| *number).collect();
-    assert_eq!(numbers, [2, 3, 4, 5, 6, 7, 8, 9, 11, 12]);
+    assert_eq!(numbers, [2, 3, 4, 5, 6, 7, 8, 9, 11, 12, 18]);
     let codes = [
         0x8000_0005,
         0x04,
@@ -291,8 +292,9 @@ fn a_notice_of_every_number() {
         0x06,
         0x0e,
         0x0e,
+        0x0c,
     ];
-    for ((identifier, (_, line)), code) in (10..).zip(told).zip(codes) {
+    for ((identifier, (_, line)), code) in (11..).zip(told).zip(codes) {
         assert_eq!(*line, notice(0, identifier, code, "a1b2c3d40402"));
     }
 }
@@ -300,18 +302,18 @@ fn a_notice_of_every_number() {
 #[test]
 fn edges_of_notices() {
     let lines = run(&notices().join("\n"));
-    let lines = &lines[2 + 18 + 3 + 28..];
+    let lines = &lines[2 + 20 + 3 + 28..];
     let (none, whole) = ("000000000000", "ffffffff8400");
     let two = |identifier, copied| notice(1, identifier, 0x8000_0005, copied);
     let three = |identifier, copied| notice(1, identifier, 0x04, copied);
     assert_eq!(
         lines[..6],
         [
-            two(20, none),
-            two(21, none),
-            two(22, whole),
-            three(23, none),
-            three(24, none),
+            two(22, none),
+            two(23, none),
+            two(24, whole),
+            three(25, none),
+            three(26, none),
             "notice 0".to_string()
         ]
     );
@@ -320,18 +322,18 @@ fn edges_of_notices() {
         lent,
         [
             "notice 16",
-            &two(25, whole),
+            &two(27, whole),
             "notice 0",
             "notice 0",
             "notice 16",
-            &two(26, whole)
+            &two(28, whole)
         ]
     );
-    assert_eq!(lines[18], notice(15, 27, 0x8000_0005, whole));
+    assert_eq!(lines[18], notice(15, 29, 0x8000_0005, whole));
     assert_eq!(
         lines[19..23],
         ["room 25", "notice 1", "notice 1", "notice 1"]
     );
-    let written = record(0, WITHDRAW, 28, 16) + &record(3, MAPPING, 29, 17);
+    let written = record(0, WITHDRAW, 30, 16) + &record(3, MAPPING, 31, 17);
     assert_eq!(lines[24], format!("route 0 {written}"));
 }

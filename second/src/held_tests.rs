@@ -1,9 +1,8 @@
 //! Request [2]: no branch back to the upstream. The route of ROOT is neighbour
-//! 0 at first; a record for a tree of one opaque octet has 35 octets.
+//! 0 at first.
 
 use super::*;
 
-const RECORD: usize = 35;
 const MAPPING: u8 = 0;
 const WITHDRAW: u8 = 2;
 const RELEASE: u8 = 3;
@@ -11,7 +10,7 @@ const RELEASE: u8 = 3;
 /// Neighbour, kind and label of each record of trees of ROOT.
 fn told(answer: Result<Vec<u8>, Refusal>) -> Vec<(u8, u8, u8)> {
     let records = answer.expect("it is taken");
-    let heads = records.chunks(RECORD).map(|r| (r[3], r[5], r[34]));
+    let heads = records.chunks(RECORD).map(|r| (r[3], r[5], r[RECORD - 1]));
     heads.collect()
 }
 
@@ -59,7 +58,7 @@ fn scarce(neighbours: &[u32], free: usize) -> Card {
     let text = |number| {
         wire::write_element(&TreeName {
             root: other.to_vec(),
-            opaque: vec![number],
+            opaque: name(number).opaque,
         })
     };
     for number in 101..=132 {
@@ -72,7 +71,7 @@ fn scarce(neighbours: &[u32], free: usize) -> Card {
     for place in 0..free as u32 {
         let tree = TreeName {
             root: other.to_vec(),
-            opaque: vec![101 + place as u8],
+            opaque: name(101 + place as u8).opaque,
         };
         let release = wire::write_message(Kind::Release, 5, &tree, 16 + place);
         card.take(0, &release, 0).expect("it is awaited");
@@ -312,7 +311,7 @@ fn release_others(card: &mut Card, first: u32, count: usize) {
     for place in first..first + count as u32 {
         let tree = TreeName {
             root: vec![10, 0, 0, 1],
-            opaque: vec![101 + place as u8],
+            opaque: name(101 + place as u8).opaque,
         };
         let release = wire::write_message(Kind::Release, 5, &tree, 16 + place);
         card.take(0, &release, 0).expect("it is awaited");

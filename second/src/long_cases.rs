@@ -2,16 +2,17 @@
 
 use crate::bench::Order;
 use crate::cases::{mapping, Page, ROOT};
+use crate::formed;
 use crate::save::LONGEST_SAVE;
 use crate::wire::{self, Kind, TreeName, LONGEST_OPAQUE};
 
 const LONG_ROOT: [u8; 16] = [0x20, 0x01, 0x0d, 0xb8, 0, 0, 0, 0, 0, 0, 0, 0, 0, 0, 0, 1];
 /// Both sides of what is taken and of what form one of a save has space for.
-const LENGTHS: [usize; 7] = [1, 32, 33, 90, 127, LONGEST_OPAQUE, LONGEST_OPAQUE + 1];
+const LENGTHS: [usize; 7] = [3, 32, 33, 90, 127, LONGEST_OPAQUE, LONGEST_OPAQUE + 1];
 
 pub fn day() -> Vec<String> {
     let mut page = Page::new();
-    page.comment("request [5]: opaque values of 1, 32, 33, 90, 127 and 128 octets are taken, of 129 refused 7; what exceeds 32 is saved by no form-one save");
+    page.comment("request [5]: opaque values of 3, 32, 33, 90, 127 and 128 octets are taken, of 129 refused 7; what exceeds 32 is saved by no form-one save");
     page.room(LONGEST_SAVE);
     for root in [&ROOT[..], &LONG_ROOT] {
         for length in LENGTHS {
@@ -26,7 +27,7 @@ pub fn day() -> Vec<String> {
 fn name(root: &[u8], length: usize) -> TreeName {
     TreeName {
         root: root.to_vec(),
-        opaque: vec![7; length],
+        opaque: formed::single(7, length, 7),
     }
 }
 
@@ -70,7 +71,7 @@ impl Page {
     /// Names that differ in their last octet or in their length alone.
     fn near_names(&mut self) {
         self.comment(
-            "two names that differ in their 128th octet alone, and one that lacks it: three trees",
+            "two names that differ in their 128th octet alone, and one of 127: three trees",
         );
         self.fresh();
         let longest = name(&ROOT, LONGEST_OPAQUE);

@@ -8,6 +8,7 @@ mod damage;
 mod days;
 mod differ;
 mod events;
+mod formed;
 mod held_cases;
 mod held_events;
 mod long_cases;
@@ -25,6 +26,7 @@ mod save_rows;
 mod wire;
 mod world;
 
+use refusal::HIGHEST_REFUSAL;
 use std::fs::File;
 use std::io::{self, BufReader, BufWriter, Write};
 use std::process::ExitCode;
@@ -198,7 +200,7 @@ fn write_gate_input(output: &mut impl Write) -> io::Result<()> {
 
 /// How often each answer number and each bad line came out.
 fn refusals(input: BufReader<File>) -> io::Result<Vec<String>> {
-    let mut counts = [0u64; 20];
+    let mut counts = [0u64; HIGHEST_REFUSAL + 1];
     let mut bad_lines = 0u64;
     bench::replay(input, |_, _, answer| {
         if let Some(number) = bench::written_number(&answer) {

@@ -16,7 +16,7 @@ const DATA_BITS: u32 = 0x3fff_ffff;
 const UNKNOWN_TYPE: u32 = 0x04;
 const FATAL: [u32; 3] = [0x05, 0x07, 0x08];
 /// Each refusal of which the neighbour is told, with its status data.
-const TOLD: [(u32, u32); 10] = [
+const TOLD: [(u32, u32); 11] = [
     (2, 0x05),
     (3, UNKNOWN_TYPE),
     (4, 0x07),
@@ -27,6 +27,7 @@ const TOLD: [(u32, u32); 10] = [
     (9, 0x06),
     (11, 0x0e),
     (12, 0x0e),
+    (18, 0x0c),
 ];
 
 /// What a record says.

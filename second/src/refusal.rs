@@ -1,5 +1,7 @@
 //! Why a call is refused. The numbers are those of the requirement's table.
 
+pub const HIGHEST_REFUSAL: usize = 22;
+
 #[derive(Clone, Copy, Debug, PartialEq, Eq)]
 pub enum Refusal {
     Neighbour = 1,
@@ -19,6 +21,9 @@ pub enum Refusal {
     RootsFull = 15,
     Room = 16,
     Base = 17,
+    /// An opaque value that forms no elements, of request [8]; tested after 7
+    /// and before 8.
+    OpaqueForm = 18,
     /// Octets that no table would write, of request [3], or a table that the
     /// form has no space for, of request [5].
     NoSave = 19,

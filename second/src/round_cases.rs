@@ -2,7 +2,7 @@
 
 use crate::bench::Order;
 use crate::card::{HIGHEST_BASE, LOWEST_BASE};
-use crate::cases::{numbered, Page, OTHER_ROOT, ROOT};
+use crate::cases::{numbered, Page, NUMBERED_RECORD, OTHER_ROOT, ROOT};
 use crate::save::LONGEST_SAVE;
 use crate::wire::{self, Kind};
 
@@ -61,9 +61,9 @@ impl Page {
     fn refused_events(&mut self) {
         self.comment("refused events do not move it: a join and a route order in too little room, then with room: 17, and 18 and 19");
         self.join_in(0, 1);
-        self.join_in(34, 1);
-        self.join_in(35, 1);
-        for room in [0, 4 * 35 - 1, 4 * 35] {
+        self.join_in(NUMBERED_RECORD - 1, 1);
+        self.join_in(NUMBERED_RECORD, 1);
+        for room in [0, 4 * NUMBERED_RECORD - 1, 4 * NUMBERED_RECORD] {
             self.room(room);
             self.route(ROOT, 5);
         }
@@ -214,7 +214,7 @@ mod tests {
             let word = answer.split(' ').nth(2).unwrap_or("");
             let octets = bench::read_hex(word.as_bytes()).unwrap_or_default();
             if !answer.starts_with("save") {
-                labels.extend(octets.chunks(35).filter_map(mapped));
+                labels.extend(octets.chunks(NUMBERED_RECORD).filter_map(mapped));
             }
             Ok(())
         })
@@ -222,10 +222,11 @@ mod tests {
         labels
     }
 
-    /// The label of a record of a tree with one opaque octet.
+    /// The label of a record of a tree that has a number.
     fn mapped(record: &[u8]) -> Option<u32> {
-        let label = u32::from_be_bytes(record[31..35].try_into().expect("four"));
-        assert_eq!(record[27..29], GENERIC_LABEL.to_be_bytes());
+        let (before, label) = record.split_at(NUMBERED_RECORD - 4);
+        let label = u32::from_be_bytes(label.try_into().expect("four"));
+        assert_eq!(before[29..31], GENERIC_LABEL.to_be_bytes());
         (record[5] == 0).then_some(label)
     }
 

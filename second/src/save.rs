@@ -6,7 +6,7 @@ use crate::card::{
     NEIGHBOURS, THIS_NODE,
 };
 use crate::refusal::Refusal;
-use crate::wire::{TreeName, HIGHEST_LABEL, LOWEST_LABEL};
+use crate::wire::{self, TreeName, HIGHEST_LABEL, LOWEST_LABEL};
 use std::collections::{BTreeMap, BTreeSet};
 use std::rc::Rc;
 
@@ -269,7 +269,8 @@ impl<'a> Reader<'a> {
     fn name(&mut self) -> Option<Name> {
         let root = self.root()?;
         let opaque = self.spaced(OPAQUE_SPACE)?;
-        (!opaque.is_empty()).then(|| Rc::new(TreeName { root, opaque }))
+        let taken = !opaque.is_empty() && wire::forms_elements(&opaque);
+        taken.then(|| Rc::new(TreeName { root, opaque }))
     }
 }
 

@@ -3,6 +3,7 @@
 use crate::bench::{self, Bench, Order, Said};
 use crate::card::{NO_ROUTE, THIS_NODE};
 use crate::cases::{numbered, tree_a, Page, OTHER_ROOT, ROOT};
+use crate::formed;
 use crate::save::{HEAD, LABEL, LONGEST_SAVE, ROUTE, TREE};
 use crate::save_damage::{counted, joined, records};
 use crate::wire::{self, Kind, TreeName};
@@ -26,7 +27,7 @@ fn tree_b() -> TreeName {
     let mut root = vec![0; 16];
     root[..4].copy_from_slice(&[0x20, 0x01, 0x0d, 0xb8]);
     root[15] = 1;
-    let opaque = vec![9];
+    let opaque = formed::bare(9);
     TreeName { root, opaque }
 }
 

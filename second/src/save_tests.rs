@@ -21,7 +21,7 @@ fn swapped() -> Card {
         "start 16",
         "route c0000201 0",
         "take 1 04000021000000010100001106000104c00002010007010004000000070200000400000064",
-        "join 0600021020010db8000000000000000000000001000109",
+        "join 0600021020010db80000000000000000000000010003090000",
         "route c0000201 3",
     ])
 }
@@ -37,7 +37,7 @@ fn hex(text: &str) -> Vec<u8> {
 fn example() -> Vec<u8> {
     let zeros = |count: usize| "00".repeat(count);
     let name_a = format!("04 c0000201 {} 07 01000400000007 {}", zeros(12), zeros(25));
-    let name_b = format!("10 20010db8 {} 01 01 09 {}", zeros(11), zeros(31));
+    let name_b = format!("10 20010db8 {} 01 03 090000 {}", zeros(11), zeros(29));
     hex(&[
         "4c5301 00000010 00000004 01 02 0002".to_string(),
         format!("4c5302 03 04 c0000201 {}", zeros(12)),
@@ -71,7 +71,11 @@ fn room() {
 #[test]
 fn names_beyond_the_space() {
     for (octets, number) in [(32, 0), (33, 19), (90, 19), (128, 19)] {
-        let element = format!("06000104c0000201{octets:04x}{}", "07".repeat(octets));
+        let element = format!(
+            "06000104c0000201{octets:04x}0700{:02x}{}",
+            octets - 3,
+            "07".repeat(octets - 3)
+        );
         let join = format!("join {element}");
         let leave = format!("leave {element}");
         let lines = ["route c0000201 3", &join, &leave];
@@ -113,8 +117,10 @@ fn every_octet() {
     // Counted by hand. A label's four octets: 15, 255 and 240 other values.
     let head = 4 * 255;
     let tree_a = 1 + (15 + 255 + 239) + 15 * 510;
-    let tree_b = 16 * 255 + 31 + 255 + 16 * 510;
-    let label_16 = 15 + 1 + 4 * 255 + 25 + 7 * 255;
+    // An opaque value: longer by elements of three zeros, or of another type
+    // but 255, or with another value.
+    let tree_b = 16 * 255 + 9 + 254 + 16 * 510;
+    let label_16 = 15 + 1 + 4 * 255 + 8 + 254 + 4 * 255;
     let label_17 = 238;
     assert_eq!(taken, 390 + head + tree_a + tree_b + label_16 + label_17);
 }

@@ -12,6 +12,9 @@ pub const LONGEST_OPAQUE: usize = 128;
 pub const LONGEST_RECORD: usize = 4 + 42 + LONGEST_OPAQUE;
 pub const MESSAGE_HEAD: usize = 8;
 
+/// The element type that an extended type follows.
+pub const EXTENDED: u8 = 255;
+
 const P2MP: u8 = 6;
 const MARK: [u8; 2] = [0x4c, 0x44];
 const TLV_HEAD: usize = 4;
@@ -64,7 +67,7 @@ fn two_octets(octets: &[u8]) -> u16 {
     u16::from_be_bytes([octets[0], octets[1]])
 }
 
-/// Refuses 2 to 9, the lowest number first.
+/// Refuses 2 to 9, the lowest number first, and 18 between 7 and 8.
 pub fn read_message(octets: &[u8]) -> Result<Message, Refusal> {
     if octets.len() < MESSAGE_HEAD
         || usize::from(two_octets(&octets[2..])) != octets.len() - UNCOUNTED
@@ -108,7 +111,7 @@ pub fn cut_tlvs(mut rest: &[u8]) -> Result<Vec<Tlv<'_>>, Refusal> {
     Ok(tlvs)
 }
 
-/// The octets of exactly one P2MP element; refuses 6 and 7.
+/// The octets of exactly one P2MP element; refuses 6, 7 and 18.
 pub fn read_element(octets: &[u8]) -> Result<TreeName, Refusal> {
     let address_length = match octets {
         [P2MP, 0, 1, 4, ..] => 4,
@@ -127,10 +130,32 @@ pub fn read_element(octets: &[u8]) -> Result<TreeName, Refusal> {
     if opaque.is_empty() || opaque.len() > LONGEST_OPAQUE {
         return Err(Refusal::OpaqueLength);
     }
+    if !forms_elements(opaque) {
+        return Err(Refusal::OpaqueForm);
+    }
     Ok(TreeName {
         root: root.to_vec(),
         opaque: opaque.to_vec(),
     })
+}
+
+/// Whether elements fill the octets exactly.
+pub fn forms_elements(opaque: &[u8]) -> bool {
+    let mut rest = opaque;
+    while !rest.is_empty() {
+        let Some(after) = after_element(rest) else {
+            return false;
+        };
+        rest = after;
+    }
+    true
+}
+
+/// What follows the first element; None where that runs past the octets.
+fn after_element(octets: &[u8]) -> Option<&[u8]> {
+    let head = if *octets.first()? == EXTENDED { 5 } else { 3 };
+    let length = usize::from(two_octets(octets.get(head - 2..head)?));
+    octets.get(head + length..)
 }
 
 fn read_label(value: &[u8]) -> Result<u32, Refusal> {

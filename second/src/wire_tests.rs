@@ -1,4 +1,5 @@
 use super::*;
+use crate::formed;
 
 /// Mapping <A, 100>, A being root 192.0.2.1 with opaque 01 00 04 00 00 00 07.
 const MAPPING_A: [u8; 37] = [
@@ -54,10 +55,18 @@ fn element_refusal(octets: &[u8]) -> u8 {
     read_element(octets).err().map_or(0, Refusal::number)
 }
 
+/// One element, or octets that are none where they are too few.
+fn of_length(length: usize) -> Vec<u8> {
+    if length < formed::SHORTEST {
+        return vec![2; length];
+    }
+    formed::single(2, length, 2)
+}
+
 fn element_of(root: usize, opaque: usize) -> Vec<u8> {
     write_element(&TreeName {
         root: vec![1; root],
-        opaque: vec![2; opaque],
+        opaque: of_length(opaque),
     })
 }
 
@@ -76,11 +85,11 @@ fn reads_and_writes_the_same_octets() {
 
 #[test]
 fn lengths_are_those_of_the_requirement() {
-    for opaque in 1..=LONGEST_OPAQUE {
+    for opaque in formed::SHORTEST..=LONGEST_OPAQUE {
         for (root, fixed) in [(4, 30), (16, 42)] {
             let name = TreeName {
                 root: vec![1; root],
-                opaque: vec![2; opaque],
+                opaque: of_length(opaque),
             };
             let message = write_message(Kind::Release, 7, &name, 1_048_575);
             assert_eq!(message.len(), fixed + opaque);
@@ -182,7 +191,7 @@ fn refuses_6() {
 fn refuses_7() {
     for root in [4, 16] {
         assert_eq!(element_refusal(&element_of(root, 0)), 7);
-        assert_eq!(element_refusal(&element_of(root, 1)), 0);
+        assert_eq!(element_refusal(&element_of(root, 3)), 0);
         assert_eq!(element_refusal(&element_of(root, 128)), 0);
         assert_eq!(element_refusal(&element_of(root, 129)), 7);
         assert_eq!(element_refusal(&element_of(root, 257)), 7);
@@ -190,6 +199,65 @@ fn refuses_7() {
     let mut not_filled = element_of(4, 129);
     not_filled.pop();
     assert_eq!(element_refusal(&not_filled), 6);
+}
+
+/// Each value, and whether elements fill it.
+pub const OPAQUE_VALUES: [(&[u8], bool); 31] = [
+    (&[1, 0, 0], true),
+    (&[0, 0, 0], true),
+    (&[254, 0, 0], true),
+    (&[1, 0, 1, 9], true),
+    (&[1, 0, 0, 2, 0, 0], true),
+    (&[1, 0, 0, 2, 0, 1, 9], true),
+    (&[2, 0, 2, 255, 255, 3, 0, 1, 9], true),
+    (&[255, 0, 0, 0, 0], true),
+    (&[255, 255, 255, 0, 0], true),
+    (&[255, 0, 1, 0, 2, 8, 9], true),
+    (&[1, 0, 0, 255, 0, 1, 0, 0], true),
+    (&[255, 0, 1, 0, 0, 255, 0, 1, 0, 1, 9], true),
+    (&[1, 0, 1, 255, 2, 0, 0], true),
+    (&[1], false),
+    (&[1, 0], false),
+    (&[255], false),
+    (&[1, 0, 1], false),
+    (&[1, 0, 2, 9], false),
+    (&[1, 0, 0, 9], false),
+    (&[1, 0, 0, 2, 0], false),
+    (&[1, 0, 0, 2, 0, 1], false),
+    (&[1, 1, 0, 9], false),
+    (&[1, 255, 255], false),
+    (&[255, 0], false),
+    (&[255, 0, 0], false),
+    (&[255, 0, 0, 0], false),
+    (&[255, 0, 0, 0, 1], false),
+    (&[255, 0, 0, 1, 0, 9], false),
+    (&[255, 0, 0, 0, 0, 9], false),
+    (&[1, 0, 0, 255, 0, 0], false),
+    (&[1, 0, 0, 255, 0, 0, 0], false),
+];
+
+#[test]
+fn refuses_18() {
+    for (opaque, formed) in OPAQUE_VALUES {
+        for root in [4, 16] {
+            let element = write_element(&TreeName {
+                root: vec![1; root],
+                opaque: opaque.to_vec(),
+            });
+            let number = if formed { 0 } else { 18 };
+            assert_eq!(element_refusal(&element), number, "{opaque:?}");
+            assert_eq!(refusal(&with_element(&element)), number);
+            // 6 and 7 come before it, 8 and 9 behind.
+            assert_eq!(element_refusal(&element[..element.len() - 1]), 6);
+            let bad_label = framed(&[(FEC, &element), (GENERIC_LABEL, &[])]);
+            assert_eq!(refusal(&bad_label), if formed { 8 } else { 18 });
+        }
+    }
+    let too_long = write_element(&TreeName {
+        root: vec![1; 4],
+        opaque: vec![7; LONGEST_OPAQUE + 1],
+    });
+    assert_eq!(element_refusal(&too_long), 7);
 }
 
 #[test]

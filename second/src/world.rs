@@ -1,5 +1,6 @@
 //! The roots and tree names that a made day plays with.
 
+use crate::formed;
 use crate::rng::Rng;
 use crate::save::OPAQUE_SPACE;
 use crate::wire::{TreeName, LONGEST_OPAQUE};
@@ -10,11 +11,11 @@ pub struct World {
 }
 
 /// Opaque values of all sizes, with those at an edge more often.
-pub const ALL_LENGTHS: &[usize] = &[7, 1, 32, 128, 2, 33, 31, 8, 90, 16, 127];
+pub const ALL_LENGTHS: &[usize] = &[7, 3, 32, 128, 4, 33, 31, 8, 90, 5, 16, 127];
 /// Those that a save of form one has space for.
-pub const SAVED_LENGTHS: &[usize] = &[7, 1, 32, 2, 31, 8, 16];
+pub const SAVED_LENGTHS: &[usize] = &[7, 3, 32, 4, 31, 8, 5, 16];
 /// Mostly short, where long names would cost much.
-pub const FEW_LONG: &[usize] = &[7, 1, 33, 2, 32, 8, 128];
+pub const FEW_LONG: &[usize] = &[7, 3, 33, 4, 32, 8, 128];
 const LONG_LENGTHS: [usize; 4] = [OPAQUE_SPACE + 1, 90, LONGEST_OPAQUE - 1, LONGEST_OPAQUE];
 
 impl World {
@@ -45,7 +46,8 @@ impl World {
     /// One root whose trees have the longest records there are.
     pub fn longest(rng: &mut Rng) -> World {
         let root = rng.octets(16);
-        let mut opaque = rng.octets(LONGEST_OPAQUE);
+        let mut opaque = formed::any(rng, LONGEST_OPAQUE - 4);
+        opaque.extend(formed::single(2, 4, 0));
         let names = (0..70).map(|number| {
             opaque[LONGEST_OPAQUE - 1] = number;
             TreeName {
@@ -85,15 +87,16 @@ fn root(number: usize) -> Vec<u8> {
     octets
 }
 
-/// Neighbouring numbers give a name and the same one longer by a zero octet,
-/// or differing in its last octet only where it is not to be longer.
+/// Neighbouring numbers give a name and the same one with an element more, or
+/// differing in its last octet only where it is not to be longer.
 fn opaque(number: usize, length: usize) -> Vec<u8> {
-    let pair = number / 2;
-    let mut octets = vec![0; length];
-    octets[0] = pair as u8 + 1;
-    let may_grow = length != OPAQUE_SPACE && length < LONGEST_OPAQUE;
+    let mut octets = formed::shaped(number / 2, length);
+    let limits = [OPAQUE_SPACE, LONGEST_OPAQUE];
+    let may_grow = limits
+        .iter()
+        .all(|most| length > *most || length + formed::SHORTEST <= *most);
     if number % 2 == 1 && may_grow {
-        octets.push(0);
+        octets.extend(formed::bare(1));
     } else if number % 2 == 1 {
         octets[length - 1] = 255;
     }
@@ -103,6 +106,7 @@ fn opaque(number: usize, length: usize) -> Vec<u8> {
 #[cfg(test)]
 mod tests {
     use super::*;
+    use crate::wire::forms_elements;
 
     #[test]
     fn names_are_distinct() {
@@ -112,6 +116,8 @@ mod tests {
                 assert!(!world.names[..place].contains(name));
             }
             assert_eq!(world.names.len(), 40 + 39 * 3);
+            let mut opaques = world.names.iter().map(|name| &name.opaque);
+            assert!(opaques.all(|opaque| forms_elements(opaque)));
         }
     }
 
