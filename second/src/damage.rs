@@ -1,6 +1,7 @@
 //! Valid messages and elements, spoiled at chosen places. Some of the results
 //! are still valid, on purpose: the edge has two sides.
 
+use crate::formed;
 use crate::rng::Rng;
 use crate::wire;
 
@@ -60,7 +61,7 @@ const MESSAGE_DAMAGE: [OctetsDamage; 6] = [
     |rng, octets| nudge_last_length(rng, octets),
 ];
 
-const ELEMENT_DAMAGE: [OctetsDamage; 12] = [
+const ELEMENT_DAMAGE: [OctetsDamage; 15] = [
     |rng, octets| flip(rng, octets),
     |rng, octets| set(octets, 0, [1, 2, 5, 7, 8, 0][rng.below(6)]),
     |rng, octets| set(octets, rng.between(1, 2), [0, 1, 2, 3][rng.below(4)]),
@@ -71,12 +72,15 @@ const ELEMENT_DAMAGE: [OctetsDamage; 12] = [
     |_, octets| octets.clear(),
     |rng, octets| nudge_opaque_length(rng, octets),
     |rng, octets| resize_opaque(octets, rng.below(wire::LONGEST_OPAQUE + 9)),
-    |rng, octets| resize_opaque(octets, EDGE_LENGTHS[rng.below(EDGE_LENGTHS.len())]),
+    |rng, octets| reform_opaque(rng, octets),
     |_, octets| change_family(octets),
+    misform,
+    misform,
+    misform,
 ];
 
 /// On both sides of what is taken, and of what form one of a save has.
-const EDGE_LENGTHS: [usize; 9] = [0, 1, 32, 33, 90, 127, 128, 129, 263];
+const EDGE_LENGTHS: [usize; 11] = [0, 1, 2, 3, 32, 33, 90, 127, 128, 129, 263];
 
 /// A valid message made exactly so long by a TLV that is to be stepped over.
 pub fn pad_message(octets: &[u8], length: usize) -> Vec<u8> {
@@ -226,11 +230,47 @@ fn nudge_opaque_length(rng: &mut Rng, octets: &mut [u8]) {
     }
 }
 
-/// An opaque value of any length, rightly counted.
-fn resize_opaque(octets: &mut Vec<u8>, length: usize) {
+/// Another opaque value, rightly counted.
+fn change_opaque(octets: &mut Vec<u8>, change: impl FnOnce(&mut Vec<u8>)) {
     if let Some(place) = opaque_length_place(octets) {
-        octets.resize(place + 2 + length, 7);
-        octets[place..place + 2].copy_from_slice(&(length as u16).to_be_bytes());
+        let mut opaque = octets.split_off(place + 2);
+        change(&mut opaque);
+        octets[place..].copy_from_slice(&(opaque.len() as u16).to_be_bytes());
+        octets.extend(opaque);
+    }
+}
+
+/// Cut, or longer by octets that form nothing.
+fn resize_opaque(octets: &mut Vec<u8>, length: usize) {
+    change_opaque(octets, |opaque| opaque.resize(length, 7));
+}
+
+/// A well-formed value at the edge of a length, where there can be one.
+fn reform_opaque(rng: &mut Rng, octets: &mut Vec<u8>) {
+    let length = EDGE_LENGTHS[rng.below(EDGE_LENGTHS.len())];
+    change_opaque(octets, |opaque| {
+        *opaque = if length < formed::SHORTEST {
+            rng.octets(length)
+        } else {
+            formed::any(rng, length)
+        };
+    });
+}
+
+/// Elements that do not fill the value, or just do.
+fn misform(rng: &mut Rng, octets: &mut Vec<u8>) {
+    change_opaque(octets, |opaque| misform_opaque(rng, opaque));
+}
+
+pub fn misform_opaque(rng: &mut Rng, opaque: &mut Vec<u8>) {
+    match rng.below(9) {
+        0 | 1 => nudge_length(rng, opaque, 1),
+        2 => opaque.extend([1, 0, 0].iter().take(rng.between(1, 3))),
+        3 => opaque.extend([255, 0, 1, 0, 0].iter().take(rng.between(1, 5))),
+        4 => set(opaque, 0, wire::EXTENDED),
+        5 => drop(opaque.pop()),
+        6 => opaque.truncate(rng.between(1, 2)),
+        _ => *opaque = formed::VALUES[rng.below(formed::VALUES.len())].0.to_vec(),
     }
 }
 

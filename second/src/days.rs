@@ -5,6 +5,7 @@ use crate::bench::{self, Bench, Order, Said};
 use crate::card::{Card, MOST_ROOTS, MOST_TREES};
 use crate::damage;
 use crate::events::*;
+use crate::formed;
 use crate::held_events::*;
 use crate::odd_lines;
 use crate::rng::Rng;
@@ -636,9 +637,12 @@ fn random_element(rng: &mut Rng) -> Vec<u8> {
     if let Some(field) = octets.get_mut(8..10) {
         field.copy_from_slice(&[0, rng.below(most_opaque) as u8]);
     }
+    let claimed = octets.get(9).map_or(0, |&octet| usize::from(octet));
     if rng.percent(50) {
-        let fitting = 10 + octets.get(9).map_or(0, |&octet| usize::from(octet));
-        octets.truncate(fitting);
+        octets.truncate(10 + claimed);
+    } else if rng.percent(60) && claimed >= formed::SHORTEST {
+        octets.truncate(10);
+        octets.extend(formed::any(rng, claimed));
     }
     octets
 }

@@ -2,6 +2,7 @@
 
 use crate::bench::Order;
 use crate::card::{Card, LabelUse, Name, Route, Tree, NEIGHBOURS, NO_ROUTE, THIS_NODE};
+use crate::formed;
 use crate::rng::Rng;
 use crate::wire::{self, Kind, TreeName};
 use crate::world::World;
@@ -195,10 +196,12 @@ pub fn awaited_releases(scene: &mut Scene, name: &TreeName) -> Vec<Order> {
 /// A name that differs from the given one as little as can be.
 fn near_name(rng: &mut Rng, name: &TreeName) -> TreeName {
     let mut near = name.clone();
-    match rng.below(4) {
-        0 if near.opaque.len() < wire::LONGEST_OPAQUE => near.opaque.push(0),
-        1 if near.opaque.len() > 1 => drop(near.opaque.pop()),
-        2 => near.root.resize(20 - near.root.len(), 0),
+    match rng.below(5) {
+        0 if near.opaque.len() + formed::SHORTEST <= wire::LONGEST_OPAQUE => {
+            near.opaque.extend(formed::bare(0));
+        }
+        1 => drop(near.opaque.pop()),
+        2 | 3 => near.root.resize(20 - near.root.len(), 0),
         _ => *near.opaque.last_mut().expect("names have an octet") ^= 1,
     }
     near

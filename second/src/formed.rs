@@ -7,6 +7,41 @@ use crate::wire::EXTENDED;
 /// The shortest element, one without a value.
 pub const SHORTEST: usize = 3;
 
+/// Each value, and whether elements fill it.
+pub const VALUES: [(&[u8], bool); 31] = [
+    (&[1, 0, 0], true),
+    (&[0, 0, 0], true),
+    (&[254, 0, 0], true),
+    (&[1, 0, 1, 9], true),
+    (&[1, 0, 0, 2, 0, 0], true),
+    (&[1, 0, 0, 2, 0, 1, 9], true),
+    (&[2, 0, 2, 255, 255, 3, 0, 1, 9], true),
+    (&[255, 0, 0, 0, 0], true),
+    (&[255, 255, 255, 0, 0], true),
+    (&[255, 0, 1, 0, 2, 8, 9], true),
+    (&[1, 0, 0, 255, 0, 1, 0, 0], true),
+    (&[255, 0, 1, 0, 0, 255, 0, 1, 0, 1, 9], true),
+    (&[1, 0, 1, 255, 2, 0, 0], true),
+    (&[1], false),
+    (&[1, 0], false),
+    (&[255], false),
+    (&[1, 0, 1], false),
+    (&[1, 0, 2, 9], false),
+    (&[1, 0, 0, 9], false),
+    (&[1, 0, 0, 2, 0], false),
+    (&[1, 0, 0, 2, 0, 1], false),
+    (&[1, 1, 0, 9], false),
+    (&[1, 255, 255], false),
+    (&[255, 0], false),
+    (&[255, 0, 0], false),
+    (&[255, 0, 0, 0], false),
+    (&[255, 0, 0, 0, 1], false),
+    (&[255, 0, 0, 1, 0, 9], false),
+    (&[255, 0, 0, 0, 0, 9], false),
+    (&[1, 0, 0, 255, 0, 0], false),
+    (&[1, 0, 0, 255, 0, 0, 0], false),
+];
+
 /// One element, without a value.
 pub fn bare(kind: u8) -> Vec<u8> {
     vec![kind, 0, 0]

@@ -14,6 +14,8 @@ pub const HEAD: usize = 15;
 pub const ROUTE: usize = 21;
 pub const TREE: usize = 118;
 pub const LABEL: usize = 59;
+/// Root and opaque value, each behind its length in a space of its own.
+pub const NAME: usize = 1 + LONGEST_ROOT + 1 + OPAQUE_SPACE;
 pub const LONGEST_SAVE: usize =
     HEAD + MOST_ROOTS * ROUTE + MOST_TREES * TREE + LABELS as usize * LABEL;
 

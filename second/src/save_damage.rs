@@ -1,12 +1,13 @@
 //! Saves that are no longer what a card wrote. Some of them another card
 //! might have written; most none.
 
+use crate::damage::misform_opaque;
 use crate::rng::Rng;
-use crate::save::{HEAD, LABEL, ROUTE, TREE};
+use crate::save::{HEAD, LABEL, NAME, OPAQUE_SPACE, ROUTE, TREE};
 
 /// `save` is one that a card wrote.
 pub fn spoil(rng: &mut Rng, save: &[u8]) -> Vec<u8> {
-    match rng.below(16) {
+    match rng.below(19) {
         0..=3 => one_octet(rng, save.to_vec()),
         4 => one_step(rng, save.to_vec()),
         5 => save[..rng.below(save.len())].to_vec(),
@@ -14,6 +15,7 @@ pub fn spoil(rng: &mut Rng, save: &[u8]) -> Vec<u8> {
         7 | 8 => longer(rng, save),
         9 => head_field(rng, save.to_vec()),
         10 | 11 => field(rng, save),
+        12..=14 => renamed(rng, save),
         _ => other_records(rng, save),
     }
 }
@@ -84,6 +86,50 @@ fn field(rng: &mut Rng, save: &[u8]) -> Vec<u8> {
         _ => record[10] = rng.next() as u8,
     }
     joined(&records)
+}
+
+/// A name, in each record that has it, by one that differs in its opaque value
+/// and may be malformed.
+fn renamed(rng: &mut Rng, save: &[u8]) -> Vec<u8> {
+    let mut records = records(save);
+    let names: Vec<Vec<u8>> = records
+        .iter()
+        .filter_map(|record| Some(record[name_place(record)?..][..NAME].to_vec()))
+        .collect();
+    let Some(name) = rng.pick(&names) else {
+        return one_octet(rng, save.to_vec());
+    };
+    let other = misnamed(rng, &name);
+    for record in &mut records {
+        if let Some(place) = name_place(record) {
+            let part = &mut record[place..place + NAME];
+            if *part == *name {
+                part.copy_from_slice(&other);
+            }
+        }
+    }
+    joined(&records)
+}
+
+/// Where a tree's or a label's name stands in its record.
+fn name_place(record: &[u8]) -> Option<usize> {
+    match record[2] {
+        3 => Some(3),
+        4 => Some(9),
+        _ => None,
+    }
+}
+
+fn misnamed(rng: &mut Rng, name: &[u8]) -> Vec<u8> {
+    let (root, opaque) = name.split_at(NAME - OPAQUE_SPACE - 1);
+    let mut opaque = opaque[1..=usize::from(opaque[0])].to_vec();
+    misform_opaque(rng, &mut opaque);
+    opaque.truncate(OPAQUE_SPACE);
+    let mut other = root.to_vec();
+    other.push(opaque.len() as u8);
+    other.extend(opaque);
+    other.resize(NAME, 0);
+    other
 }
 
 /// A record goes, comes twice or changes its place; the head counts them.

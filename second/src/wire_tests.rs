@@ -201,44 +201,9 @@ fn refuses_7() {
     assert_eq!(element_refusal(&not_filled), 6);
 }
 
-/// Each value, and whether elements fill it.
-pub const OPAQUE_VALUES: [(&[u8], bool); 31] = [
-    (&[1, 0, 0], true),
-    (&[0, 0, 0], true),
-    (&[254, 0, 0], true),
-    (&[1, 0, 1, 9], true),
-    (&[1, 0, 0, 2, 0, 0], true),
-    (&[1, 0, 0, 2, 0, 1, 9], true),
-    (&[2, 0, 2, 255, 255, 3, 0, 1, 9], true),
-    (&[255, 0, 0, 0, 0], true),
-    (&[255, 255, 255, 0, 0], true),
-    (&[255, 0, 1, 0, 2, 8, 9], true),
-    (&[1, 0, 0, 255, 0, 1, 0, 0], true),
-    (&[255, 0, 1, 0, 0, 255, 0, 1, 0, 1, 9], true),
-    (&[1, 0, 1, 255, 2, 0, 0], true),
-    (&[1], false),
-    (&[1, 0], false),
-    (&[255], false),
-    (&[1, 0, 1], false),
-    (&[1, 0, 2, 9], false),
-    (&[1, 0, 0, 9], false),
-    (&[1, 0, 0, 2, 0], false),
-    (&[1, 0, 0, 2, 0, 1], false),
-    (&[1, 1, 0, 9], false),
-    (&[1, 255, 255], false),
-    (&[255, 0], false),
-    (&[255, 0, 0], false),
-    (&[255, 0, 0, 0], false),
-    (&[255, 0, 0, 0, 1], false),
-    (&[255, 0, 0, 1, 0, 9], false),
-    (&[255, 0, 0, 0, 0, 9], false),
-    (&[1, 0, 0, 255, 0, 0], false),
-    (&[1, 0, 0, 255, 0, 0, 0], false),
-];
-
 #[test]
 fn refuses_18() {
-    for (opaque, formed) in OPAQUE_VALUES {
+    for (opaque, formed) in formed::VALUES {
         for root in [4, 16] {
             let element = write_element(&TreeName {
                 root: vec![1; root],
