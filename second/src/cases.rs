@@ -114,7 +114,7 @@ pub fn numbered(root: [u8; 4], number: u8) -> TreeName {
 }
 
 /// An element whose opaque length is written as given.
-fn element_claiming(length: u16, opaque: &[u8]) -> Vec<u8> {
+pub fn element_claiming(length: u16, opaque: &[u8]) -> Vec<u8> {
     let mut octets = vec![6, 0, 1, 4];
     octets.extend(ROOT);
     octets.extend(length.to_be_bytes());

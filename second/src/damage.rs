@@ -61,7 +61,7 @@ const MESSAGE_DAMAGE: [OctetsDamage; 6] = [
     |rng, octets| nudge_last_length(rng, octets),
 ];
 
-const ELEMENT_DAMAGE: [OctetsDamage; 15] = [
+const ELEMENT_DAMAGE: [OctetsDamage; 16] = [
     |rng, octets| flip(rng, octets),
     |rng, octets| set(octets, 0, [1, 2, 5, 7, 8, 0][rng.below(6)]),
     |rng, octets| set(octets, rng.between(1, 2), [0, 1, 2, 3][rng.below(4)]),
@@ -72,7 +72,8 @@ const ELEMENT_DAMAGE: [OctetsDamage; 15] = [
     |_, octets| octets.clear(),
     |rng, octets| nudge_opaque_length(rng, octets),
     |rng, octets| resize_opaque(octets, rng.below(wire::LONGEST_OPAQUE + 9)),
-    |rng, octets| reform_opaque(rng, octets),
+    reform_opaque,
+    reform_opaque,
     |_, octets| change_family(octets),
     misform,
     misform,

@@ -8,6 +8,7 @@ mod damage;
 mod days;
 mod differ;
 mod events;
+mod form_cases;
 mod formed;
 mod held_cases;
 mod held_events;
@@ -182,6 +183,7 @@ fn write_gate_input(output: &mut impl Write) -> io::Result<()> {
         save_cases::day(),
         long_cases::day(),
         round_cases::day(),
+        form_cases::day(),
     ] {
         writeln!(output, "{}", page.join("\n"))?;
     }

@@ -23,7 +23,7 @@ pub fn day() -> Vec<String> {
 }
 
 /// A tree of the root 2001:db8::1, which has no route.
-fn tree_b() -> TreeName {
+pub fn tree_b() -> TreeName {
     let mut root = vec![0; 16];
     root[..4].copy_from_slice(&[0x20, 0x01, 0x0d, 0xb8]);
     root[15] = 1;
