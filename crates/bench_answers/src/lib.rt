@@ -90,7 +90,17 @@ fn on_restore(
 {
     let mut octets = longest_save();
     let n = bench_words::decode_hex(hex, &mut octets);
-    let answer = save_reader::restore(numbers, names, &octets[..n]);
+    let mut spare_numbers = [0u64; NUMBER_COUNT];
+    let mut spare_names = [0u8; OCTET_COUNT];
+    let mut spare_save = [0u8; SAVE_LIMIT];
+    let answer = save_reader::restore(
+        numbers,
+        names,
+        &octets[..n],
+        &mut spare_numbers,
+        &mut spare_names,
+        &mut spare_save,
+    );
     bench_lines::put_count(text, b"restore", answer as u64)
 }
 

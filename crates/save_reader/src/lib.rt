@@ -1,31 +1,31 @@
 // The way back from a save: the table in its octets, into the card's memory.
 ghost use mathlib.Core.Path.{_≡_};
 ghost use mathlib.Core.Bool.{true, false};
+ghost use Prim.Native.Nat.{_≤_};
 ghost use lib.ListN.{length};
 ghost use Rattle.meaning.specs.Octets.{same};
-ghost use Rattle.meaning.specs.Save.{saved, tableIn, isSave, restore};
+ghost use Rattle.meaning.specs.Save.{saved, saveLimit, tableIn, isSave, restore};
 ghost use Rattle.memory.specs.Sizes.{Numbers, Names};
 ghost use Rattle.memory.specs.Memory.{cardOf};
 use meaning::SAVE_LIMIT;
 use memory::NUMBER_COUNT;
 use memory::OCTET_COUNT;
 
-// Whether the save of the table in the memory is these octets.
-fn is_saved_as(numbers: &[u64], names: &[u8], octets: &[u8]) -> bool
-    requires { ⌜ Numbers (now numbers) × Names (now names) ⌝ }
+// Whether the save of the table in the memory is these octets. That save is written into a spare part, which held anything.
+fn is_saved_as(numbers: &[u64], names: &[u8], octets: &[u8], spare: &mut [u8]) -> bool
+    requires { ⌜ Numbers (now numbers) × Names (now names) × (saveLimit ≤ length (now spare)) ⌝ }
     ensures { λ r. ⌜ r ≡ same (saved (cardOf (now (numbers .entry)) (now (names .entry)))) (now (octets .entry)) ⌝ }
 {
     if octets.len() != save_writer::saved_size(numbers) {
         return false;
     }
-    let mut again = [0u8; SAVE_LIMIT];
-    let n = save_writer::write_save(numbers, names, &mut again);
-    octets::equal(&again[0..n], octets)
+    let n = save_writer::write_save(numbers, names, spare);
+    octets::equal(&spare[0..n], octets)
 }
 
 // Whether the octets are a save; where they are, its table is in the memory, which held anything.
-fn is_taken(octets: &[u8], numbers: &mut [u64], names: &mut [u8]) -> bool
-    requires { ⌜ Numbers (now numbers) × Names (now names) ⌝ }
+fn is_taken(octets: &[u8], numbers: &mut [u64], names: &mut [u8], spare: &mut [u8]) -> bool
+    requires { ⌜ Numbers (now numbers) × Names (now names) × (saveLimit ≤ length (now spare)) ⌝ }
     ensures { λ r. ⌜ (r ≡ isSave (now (octets .entry))) × (r ≡ true → cardOf (now (numbers .exit)) (now (names .exit)) ≡ tableIn (now (octets .entry))) ⌝ }
 {
     if !save_decoder::decode(octets, numbers, names) {
@@ -34,7 +34,7 @@ fn is_taken(octets: &[u8], numbers: &mut [u64], names: &mut [u8]) -> bool
     if !save_rules::keeps_rules(numbers, names) {
         return false;
     }
-    is_saved_as(numbers, names, octets)
+    is_saved_as(numbers, names, octets, spare)
 }
 
 fn put_over(numbers: &mut [u64], names: &mut [u8], from: &[u64], octets: &[u8])
@@ -45,22 +45,24 @@ fn put_over(numbers: &mut [u64], names: &mut [u8], from: &[u64], octets: &[u8])
     octets::copy(names, octets);
 }
 
-// Takes back a save: 0, with its table in the card's memory, or 19, with the memory as it was. The table is read into memory of the
-// call's own first, so that octets that are no save change nothing.
+// Takes back a save: 0, with its table in the card's memory, or 19, with the memory as it was. The table is read into spare memory
+// first, and its own save written into a spare part, so that octets that are no save change nothing. What is spare may hold anything
+// before and after.
 pub fn restore(
     numbers: &mut [u64; NUMBER_COUNT],
     names: &mut [u8; OCTET_COUNT],
     octets: &[u8],
+    spare_numbers: &mut [u64; NUMBER_COUNT],
+    spare_names: &mut [u8; OCTET_COUNT],
+    spare_save: &mut [u8; SAVE_LIMIT],
 ) -> u32
     ensures { λ r. ⌜ (let c = cardOf (now (numbers .entry)) (now (names .entry)) in
         (r ≡ restore (now (octets .entry)) c .answer)
         × (cardOf (now (numbers .exit)) (now (names .exit)) ≡ restore (now (octets .entry)) c .card)) ⌝ }
 {
-    let mut read = [0u64; NUMBER_COUNT];
-    let mut held = [0u8; OCTET_COUNT];
-    if !is_taken(octets, &mut read, &mut held) {
+    if !is_taken(octets, spare_numbers, spare_names, spare_save) {
         return 19;
     }
-    put_over(numbers, names, &read, &held);
+    put_over(numbers, names, spare_numbers, spare_names);
     0
 }

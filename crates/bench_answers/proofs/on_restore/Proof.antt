@@ -45,7 +45,7 @@ same-length c = search needs
 returns : tie.Need-returns
 unfolding replyTo ascii
 returns c =
-    let at-decode-hex = c .before .before .before .before .before .before .before .before .before .before in
+    let at-decode-hex = c .before .before .before .before .before .before .before .before .before .before .before .before .before in
     let start = at-decode-hex .before .before .before .before .before in
     let a = start .args in
     let given : List ℕ → Out = λ s. restore s (cardOf (a .numbers .now) (a .names .now)) in

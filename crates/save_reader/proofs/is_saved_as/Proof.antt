@@ -12,16 +12,13 @@ saved-size-requires c κs = search needs
 
 returns : tie.Need-returns
 returns c =
-    let s = c .before .before .before .before .before in
+    let s = c .before .before .before .before .before .before in
     sym (same-length _ _ (λ e. c .if1 .taken (sym e ∙ sym (c .before .saved-size .ensures .0 (s .args .names .now)))))
-
-slice-aggregate-write-save : tie.Need-slice-aggregate-write-save
-slice-aggregate-write-save c = search needs
 
 write-save-requires : tie.Need-write-save-requires
 write-save-requires c κs =
-    let s = c .before .before .before .before .before .before in
-    (s .pre .0, s .pre .1, omega (arith, c .before .before .saved-size .ensures .0 (s .args .names .now), c .before .before .saved-size .ensures .1))
+    let s = c .before .before .before .before .before .before .before in
+    (s .pre .0, s .pre .1, omega (arith, s .pre .2, c .before .before .saved-size .ensures .0 (s .args .names .now), c .before .before .saved-size .ensures .1))
 
 sub-equal : tie.Need-sub-equal
 sub-equal c = search needs
@@ -31,16 +28,21 @@ part-equal-start c = search needs
 
 part-equal-end : tie.Need-part-equal-end
 part-equal-end c =
-    let s = c .before .before .before .before .before .before .before .before .before in
-    omega (arith, c .before .before .write-save .ensures .1, c .before .before .before .before .before .saved-size .ensures .0 (s .args .names .now), c .before .before .before .before .before .saved-size .ensures .1)
+    let s = c .before .before .before .before .before .before .before .before .before .before .before in
+    let z = c .before .before .before .before .before .before .saved-size .ensures in
+    omega (arith, s .pre .2, c .before .before .before .write-save .ensures .1, z .0 (s .args .names .now), z .1)
 
 equal-requires : tie.Need-equal-requires
 equal-requires c κs = search needs
 
+same-length-1 : tie.Need-same-length
+same-length-1 c = search needs
+
 returns-2 : tie.Need-returns-2
 returns-2 c =
-    let s = c .before .before .before .before .before .before .before .before .before .before .before in
-    c .equal .ensures ∙ ap (λ x. same x (s .args .octets .now)) (over-front _ _ _ _ (c .before .before .before .before .write-save .ensures .0) (c .before .before .before .before .write-save .ensures .1))
+    let s = c .before .before .before .before .before .before .before .before .before .before .before .before .before in
+    let w = c .before .before .before .before .before .write-save .ensures in
+    c .equal .ensures ∙ ap (λ x. same x (s .args .octets .now)) (over-front _ _ _ _ (w .0) (w .1))
 
 pub is-saved-as-spec : {M : Type 1} → statement M
 is-saved-as-spec =
@@ -48,10 +50,10 @@ is-saved-as-spec =
     (tie.spec
     saved-size-requires
     returns
-    slice-aggregate-write-save
     write-save-requires
     sub-equal
     part-equal-start
     part-equal-end
     equal-requires
+    same-length-1
     returns-2)

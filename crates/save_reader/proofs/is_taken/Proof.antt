@@ -42,12 +42,13 @@ same-length-5 c = search needs
 same-length-6 : tie.Need-same-length-6
 same-length-6 c = search needs
 
+same-length-7 : tie.Need-same-length-7
+same-length-7 c = search needs
+
 returns-3 : tie.Need-returns-3
 returns-3 c =
-    let at-if1 = c .before .before .before .before .before .before .before in
-    let at-decode = at-if1 .before .before .before .before .before in
-    let d = at-decode .decode .ensures .0 (not-false _ (at-if1 .if1 .left)) in
-    (taken _ _ _ d (sym (c .before .before .before .before .keeps-rules .ensures) ∙ not-false _ (c .before .before .before .if2 .left)) (c .is-saved-as .ensures), (λ _. d))
+    let d = c .before .before .before .before .before .before .before .before .before .before .before .before .before .before .before .decode .ensures .0 (not-false _ (c .before .before .before .before .before .before .before .before .before .before .if1 .left)) in
+    (taken _ _ _ d (sym (c .before .before .before .before .before .before .before .keeps-rules .ensures) ∙ not-false _ (c .before .before .before .before .before .before .if2 .left)) (c .before .before .is-saved-as .ensures), (λ _. d))
 
 pub is-taken-spec : {M : Type 1} → statement M
 is-taken-spec =
@@ -64,4 +65,5 @@ is-taken-spec =
     is-saved-as-requires
     same-length-5
     same-length-6
+    same-length-7
     returns-3)

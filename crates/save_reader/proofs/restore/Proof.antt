@@ -5,46 +5,29 @@ use Rattle.save_reader.proofs.Whole.{refused, restored}
 use Rattle.save_reader.proofs.restore.Statement.{statement}
 use Rattle.save_reader.proofs.restore.Tie as tie
 
-slice-aggregate-is-taken : tie.Need-slice-aggregate-is-taken
-slice-aggregate-is-taken c = search needs
-
-slice-aggregate-is-taken-2 : tie.Need-slice-aggregate-is-taken-2
-slice-aggregate-is-taken-2 c = search needs
-
 is-taken-requires : tie.Need-is-taken-requires
 is-taken-requires c κs = search needs
 
 returns : tie.Need-returns
 returns c =
-    let s = c .before .before .before .before .before .before .before in
-    refused (s .args .octets .now) _ (sym (c .before .before .before .is-taken .ensures .0) ∙ not-true _ (c .if1 .taken))
-
-slice-aggregate-put-over : tie.Need-slice-aggregate-put-over
-slice-aggregate-put-over c = search needs
-
-slice-aggregate-put-over-2 : tie.Need-slice-aggregate-put-over-2
-slice-aggregate-put-over-2 c = search needs
+    let s = c .before .before .before .before .before .before in
+    refused (s .args .octets .now) _ (sym (c .before .is-taken .ensures .0) ∙ not-true _ (c .if1 .taken))
 
 put-over-requires : tie.Need-put-over-requires
 put-over-requires c κs = search needs
 
 returns-2 : tie.Need-returns-2
 returns-2 c =
-    let at-is-taken = c .before .before .before .before .before .before .before .before in
-    let s = at-is-taken .before .before .before .before in
-    let t = at-is-taken .is-taken .ensures in
-    let e = not-false _ (c .before .before .before .before .before .if1 .left) in
+    let s = c .before .before .before .before .before .before .before .before .before .before .before .before .before in
+    let t = c .before .before .before .before .before .before .before .before .is-taken .ensures in
+    let e = not-false _ (c .before .before .before .before .before .before .before .if1 .left) in
     restored (s .args .octets .now) _ _ (sym (t .0) ∙ e) (rw (c .put-over .ensures .0, c .put-over .ensures .1) (t .1 e))
 
 pub restore-spec : {M : Type 1} → statement M
 restore-spec =
     tie.close
     (tie.spec
-    slice-aggregate-is-taken
-    slice-aggregate-is-taken-2
     is-taken-requires
     returns
-    slice-aggregate-put-over
-    slice-aggregate-put-over-2
     put-over-requires
     returns-2)
