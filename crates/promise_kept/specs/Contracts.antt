@@ -1,7 +1,7 @@
 -- The calls of the code by their contracts, and nothing more: each constructor takes what a caller learns of one call (`Learnt`), and says of it what went in and what came back.
 -- a are the call's arguments, r is its result, and s are its parameters as they are right after it, in the order of the source (`.0`, `.1 .0`, `.1 .1 .0`, ..):
 -- start: numbers, base. receive: numbers, names, neighbour, message, out, answer. join, leave: numbers, names, element, out, answer. route: numbers, names, root, via, out, answer.
--- notice: numbers, neighbour, number, octets, out, answer. save: numbers, names, out, answer. restore: numbers, names, octets.
+-- notice: numbers, neighbour, number, octets, out, answer. save: numbers, names, out, answer. restore: numbers, names, octets, and spare memory, of which nothing is learnt.
 -- lookup by label: numbers, label, and in a core or for C the branches; by name: numbers, names, element, and the branches likewise. The cores and the calls for C have the order of the call.
 -- The law behind each type (`made`, `told`, ..) is its statement in the words of `meaning`. Assumes nothing.
 use Prim.Native.Nat.{ℕ}
@@ -40,6 +40,9 @@ use Rattle.firmware.proofs.card_route.Reads as card-route-reads
 use Rattle.firmware.proofs.card_lookup_label.Reads as card-lookup-label-reads
 use Rattle.firmware.proofs.card_lookup_name.Reads as card-lookup-name-reads
 use Rattle.firmware.proofs.card_free_labels.Reads as card-free-labels-reads
+use Rattle.firmware.proofs.card_notice.Reads as card-notice-reads
+use Rattle.firmware.proofs.card_save.Reads as card-save-reads
+use Rattle.firmware.proofs.card_restore.Reads as card-restore-reads
 use Rattle.notice_writer.proofs.notice.Reads as notice-reads
 use Rattle.notice_writer.proofs.notice_core.Reads as notice-core-reads
 use Rattle.save_writer.proofs.save.Reads as save-reads
@@ -113,10 +116,13 @@ pub data Told : List ℕ → Telling → List ℕ → Type 0 where
       → Told (now (a .0)) (record { room = length (now (a .1 .1 .1 .1 .0)); neighbour = a .1 .0; number = a .1 .1 .0; octets = now (a .1 .1 .1 .0); answer = now (s .1 .1 .1 .1 .1 .0); part = now r }) (now (s .0))
   by-notice-core : (κs : _) (a : _) (r : _) (s : _) → notice-core-reads.Learnt κs a r s
       → Told (now (a .0)) (record { room = length (now (a .1 .1 .1 .1 .0)); neighbour = a .1 .0; number = a .1 .1 .0; octets = now (a .1 .1 .1 .0); answer = now (s .1 .1 .1 .1 .1 .0); part = take r (now (s .1 .1 .1 .1 .0)) }) (now (s .0))
+  by-card-notice : (κs : _) (a : _) (r : _) (s : _) → card-notice-reads.Learnt κs a r s
+      → Told (now (a .0)) (record { room = length (now (a .1 .1 .1 .1 .0)); neighbour = a .1 .0; number = a .1 .1 .0; octets = now (a .1 .1 .1 .0); answer = now (s .1 .1 .1 .1 .1 .0); part = take r (now (s .1 .1 .1 .1 .0)) }) (now (s .0))
 
 pub told : {ns : List ℕ} {t : Telling} {ns′ : List ℕ} → Told ns t ns′ → (any : List ℕ) → Hands (notice (t .room) (cardOf ns any) (t .neighbour) (t .number) (t .octets)) (t .answer) (t .part) (cardOf ns′ any)
 told (by-notice κs a r s h) any = h .0 any
 told (by-notice-core κs a r s h) any = handed _ _ _ _ _ _ (h any)
+told (by-card-notice κs a r s h) any = handed _ _ _ _ _ _ (h any)
 
 -- ---- a start: it was made with that base, and left ns
 
@@ -133,18 +139,22 @@ began (by-card-start κs a r s h) = h .1
 pub data Saved : List ℕ → List ℕ → ℕ → ℕ → List ℕ → Type 0 where
   by-save : (κs : _) (a : _) (r : _) (s : _) → save-reads.Learnt κs a r s → Saved (now (a .0)) (now (a .1 .0)) (length (now (a .1 .1 .0))) (now (s .1 .1 .1 .0)) (now r)
   by-save-core : (κs : _) (a : _) (r : _) (s : _) → save-core-reads.Learnt κs a r s → Saved (now (a .0)) (now (a .1 .0)) (length (now (a .1 .1 .0))) (now (s .1 .1 .1 .0)) (take r (now (s .1 .1 .0)))
+  by-card-save : (κs : _) (a : _) (r : _) (s : _) → card-save-reads.Learnt κs a r s → Saved (now (a .0)) (now (a .1 .0)) (length (now (a .1 .1 .0))) (now (s .1 .1 .1 .0)) (take r (now (s .1 .1 .0)))
 
 pub wrote : {ns os : List ℕ} {room answer : ℕ} {octets : List ℕ} → Saved ns os room answer octets → Hands (save room (cardOf ns os)) answer octets (cardOf ns os)
 wrote (by-save κs a r s h) = h .0
 wrote (by-save-core κs a r s h) = handed _ _ _ _ _ _ h
+wrote (by-card-save κs a r s h) = handed _ _ _ _ _ _ h
 
 -- ---- a restore: on the memory ns, os, of those octets; the answer, and the memory that it left
 
 pub data Restored : List ℕ → List ℕ → List ℕ → ℕ → List ℕ → List ℕ → Type 0 where
   by-restore : (κs : _) (a : _) (r : _) (s : _) → restore-reads.Learnt κs a r s → Restored (now (a .0)) (now (a .1 .0)) (now (a .1 .1 .0)) r (now (s .0)) (now (s .1 .0))
+  by-card-restore : (κs : _) (a : _) (r : _) (s : _) → card-restore-reads.Learnt κs a r s → Restored (now (a .0)) (now (a .1 .0)) (now (a .1 .1 .0)) r (now (s .0)) (now (s .1 .0))
 
 pub read : {ns os octets : List ℕ} {answer : ℕ} {ns′ os′ : List ℕ} → Restored ns os octets answer ns′ os′ → (answer ≡ restore octets (cardOf ns os) .answer) × (cardOf ns′ os′ ≡ restore octets (cardOf ns os) .card)
 read (by-restore κs a r s h) = h
+read (by-card-restore κs a r s h) = h
 
 -- ---- lookups: the sixteen branch labels and the leaf mark that came back
 

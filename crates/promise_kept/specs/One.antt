@@ -46,6 +46,10 @@ use Rattle.firmware.proofs.card_route.Reads as card-route-reads
 use Rattle.firmware.proofs.card_lookup_label.Reads as card-lookup-label-reads
 use Rattle.firmware.proofs.card_lookup_name.Reads as card-lookup-name-reads
 use Rattle.firmware.proofs.card_free_labels.Reads as card-free-labels-reads
+use Rattle.firmware.proofs.card_notice.Reads as card-notice-reads
+use Rattle.firmware.proofs.card_read_notice.Reads as card-read-notice-reads
+use Rattle.firmware.proofs.card_save.Reads as card-save-reads
+use Rattle.firmware.proofs.card_restore.Reads as card-restore-reads
 
 -- ---- sixteen places are told by their feed
 
@@ -162,8 +166,14 @@ notice-one κs a r r′ s s′ h h′ = let o = hands-one _ _ _ _ _ _ _ (h .0 []
 pub notice-core-one : (κs : _) (a : _) (r r′ : _) (s s′ : _) → notice-core-reads.Learnt κs a r s → notice-core-reads.Learnt κs a r′ s′ → (now (s .1 .1 .1 .1 .1 .0) ≡ now (s′ .1 .1 .1 .1 .1 .0)) × (r ≡ r′) × (now (s .1 .1 .1 .1 .0) ≡ now (s′ .1 .1 .1 .1 .0)) × ((any : List ℕ) → cardOf (now (s .0)) any ≡ cardOf (now (s′ .0)) any)
 notice-core-one κs a r r′ s s′ h h′ = let o = does-one _ _ _ _ _ _ _ _ _ _ (h []) (h′ []) in (o .0, o .1, o .2, λ any. does-one _ _ _ _ _ _ _ _ _ _ (h any) (h′ any) .3)
 
+pub card-notice-one : (κs : _) (a : _) (r r′ : _) (s s′ : _) → card-notice-reads.Learnt κs a r s → card-notice-reads.Learnt κs a r′ s′ → (now (s .1 .1 .1 .1 .1 .0) ≡ now (s′ .1 .1 .1 .1 .1 .0)) × (r ≡ r′) × (now (s .1 .1 .1 .1 .0) ≡ now (s′ .1 .1 .1 .1 .0)) × ((any : List ℕ) → cardOf (now (s .0)) any ≡ cardOf (now (s′ .0)) any)
+card-notice-one κs a r r′ s s′ h h′ = let o = does-one _ _ _ _ _ _ _ _ _ _ (h []) (h′ []) in (o .0, o .1, o .2, λ any. does-one _ _ _ _ _ _ _ _ _ _ (h any) (h′ any) .3)
+
 pub read-notice-one : (κs : _) (a : _) (r r′ : _) (s s′ : _) → read-notice-reads.Learnt κs a r s → read-notice-reads.Learnt κs a r′ s′ → r ≡ r′
 read-notice-one κs a r r′ s s′ h h′ = h ∙ sym h′
+
+pub card-read-notice-one : (κs : _) (a : _) (r r′ : _) (s s′ : _) → card-read-notice-reads.Learnt κs a r s → card-read-notice-reads.Learnt κs a r′ s′ → (r ≡ r′) × (now (s .1 .0) ≡ now (s′ .1 .0))
+card-read-notice-one κs a r r′ s s′ h h′ = (h .0 ∙ sym (h′ .0), h .1 ∙ sym (h′ .1))
 
 -- ---- saves: the card is lent to be read alone; a restore
 
@@ -173,5 +183,11 @@ save-one κs a r r′ s s′ h h′ = let o = hands-one _ _ _ _ _ _ _ (h .0) (h�
 pub save-core-one : (κs : _) (a : _) (r r′ : _) (s s′ : _) → save-core-reads.Learnt κs a r s → save-core-reads.Learnt κs a r′ s′ → (now (s .1 .1 .1 .0) ≡ now (s′ .1 .1 .1 .0)) × (r ≡ r′) × (now (s .1 .1 .0) ≡ now (s′ .1 .1 .0))
 save-core-one κs a r r′ s s′ h h′ = let o = does-one _ _ _ _ _ _ _ _ _ _ h h′ in (o .0, o .1, o .2)
 
+pub card-save-one : (κs : _) (a : _) (r r′ : _) (s s′ : _) → card-save-reads.Learnt κs a r s → card-save-reads.Learnt κs a r′ s′ → (now (s .1 .1 .1 .0) ≡ now (s′ .1 .1 .1 .0)) × (r ≡ r′) × (now (s .1 .1 .0) ≡ now (s′ .1 .1 .0))
+card-save-one κs a r r′ s s′ h h′ = let o = does-one _ _ _ _ _ _ _ _ _ _ h h′ in (o .0, o .1, o .2)
+
 pub restore-one : (κs : _) (a : _) (r r′ : _) (s s′ : _) → restore-reads.Learnt κs a r s → restore-reads.Learnt κs a r′ s′ → (r ≡ r′) × (cardOf (now (s .0)) (now (s .1 .0)) ≡ cardOf (now (s′ .0)) (now (s′ .1 .0)))
 restore-one κs a r r′ s s′ h h′ = (h .0 ∙ sym (h′ .0), h .1 ∙ sym (h′ .1))
+
+pub card-restore-one : (κs : _) (a : _) (r r′ : _) (s s′ : _) → card-restore-reads.Learnt κs a r s → card-restore-reads.Learnt κs a r′ s′ → (r ≡ r′) × (cardOf (now (s .0)) (now (s .1 .0)) ≡ cardOf (now (s′ .0)) (now (s′ .1 .0)))
+card-restore-one κs a r r′ s s′ h h′ = (h .0 ∙ sym (h′ .0), h .1 ∙ sym (h′ .1))
