@@ -1,4 +1,4 @@
-// What is written is read back the same, for both address lengths and every opaque length.
+// What is written is read back the same, for both address lengths and every length of an opaque value that is one element.
 ghost use mathlib.Core.Path.{_≡_};
 ghost use Prim.Native.Nat.{_+_, _≤_, _<_};
 ghost use lib.ListN.{length};
@@ -10,6 +10,8 @@ use meaning::RECORD_LIMIT;
 use wire_reader::Read;
 
 const LONGEST: u8 = OPAQUE_LIMIT as u8;
+// an element with no value
+const SHORTEST: u8 = 3;
 // the longest record, and two octets behind it
 const ROOM: usize = RECORD_LIMIT + 2;
 
@@ -33,16 +35,16 @@ fn fill(s: &mut [u8], first: u8)
     }
 }
 
-// A P2MP element. No two octets of its root and opaque value are the same.
+// A P2MP element whose opaque value is one element of type 1. No two octets of its root and of that element's value are the same.
 fn put_element(e: &mut [u8], family: u8, root: u8, opaque: u8)
-    requires { ⌜ (length (now e) ≡ 6 + root + opaque) × (root ≤ rootLimit) × (opaque ≤ opaqueLimit) ⌝ }
+    requires { ⌜ (length (now e) ≡ 6 + root + opaque) × (root ≤ rootLimit) × (3 ≤ opaque) × (opaque ≤ opaqueLimit) ⌝ }
     ensures { λ _. ⌜ length (now (e .exit)) ≡ 6 + root + opaque ⌝ }
 {
     fill(e, 64);
     octets::copy(&mut e[0..4], &[6, 0, family, root]);
     let at = 4 + root as usize;
-    let end = at + 2;
-    octets::copy(&mut e[at..end], &[0, opaque]);
+    let end = at + 5;
+    octets::copy(&mut e[at..end], &[0, opaque, 1, 0, opaque - SHORTEST]);
 }
 
 fn kind_of(turn: u64) -> u64 {
@@ -149,7 +151,7 @@ fn is_kept(sent: Sent, name: &[u8]) -> bool
 }
 
 fn is_kept_at(family: u8, root: u8, opaque: u8) -> bool
-    requires { ⌜ (root ≤ rootLimit) × (0 < opaque) × (opaque ≤ opaqueLimit) ⌝ }
+    requires { ⌜ (root ≤ rootLimit) × (3 ≤ opaque) × (opaque ≤ opaqueLimit) ⌝ }
 {
     let mut name = [0u8; NAME_LIMIT];
     let n = 6 + root as usize + opaque as usize;
@@ -157,13 +159,13 @@ fn is_kept_at(family: u8, root: u8, opaque: u8) -> bool
     is_kept(nth(opaque as u64 - 1), &name[0..n])
 }
 
-// Of the opaque lengths 1 to 128, how many are read back.
+// Of the opaque lengths 3 to 128, how many are read back.
 fn count(family: u8, root: u8) -> u64
     requires { ⌜ root ≤ rootLimit ⌝ }
     ensures { λ r. ⌜ r ≤ opaqueLimit ⌝ }
 {
     let mut kept = 0;
-    let mut opaque = 0;
+    let mut opaque = SHORTEST - 1;
     while opaque < LONGEST {
         opaque += 1;
         if is_kept_at(family, root, opaque) {
@@ -179,7 +181,7 @@ fn report(family: u8, root: u8)
     io::print_decimal(STDOUT_FILENO, root as u64);
     io::write_all(STDOUT_FILENO, b"-octet root: ");
     io::print_decimal(STDOUT_FILENO, count(family, root));
-    io::write_all(STDOUT_FILENO, b" of 128 read back\n");
+    io::write_all(STDOUT_FILENO, b" of 126 read back\n");
 }
 
 fn main() {

@@ -6,10 +6,13 @@ use Rattle.echo.proofs.count.Statement.{statement}
 use Rattle.echo.proofs.count.Tie as tie
 
 abbrev Inv-loop : tie.InvT-loop
-Inv-loop family root kept₀ opaque₀ kept opaque = (kept ≤ opaque) × (opaque ≤ opaqueLimit)
+Inv-loop family root kept₀ opaque₀ kept opaque = (kept ≤ opaque) × (2 ≤ opaque) × (opaque ≤ opaqueLimit)
 
 abbrev μ-loop : tie.MeasureT-loop
 μ-loop family root kept₀ opaque₀ kept opaque = opaqueLimit - opaque
+
+sub-opaque : tie.Need-sub-opaque Inv-loop μ-loop
+sub-opaque c = search needs
 
 loop-holds : tie.Need-loop-holds Inv-loop μ-loop
 loop-holds c = search needs
@@ -44,6 +47,7 @@ count-spec =
     (tie.spec
     Inv-loop
     μ-loop
+    sub-opaque
     loop-holds
     add-opaque
     is-kept-at-requires
