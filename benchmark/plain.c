@@ -113,6 +113,19 @@ static struct text kept(const uint8_t *slot)
 
 /* ---- a message in */
 
+/* Whether elements fill an opaque value: type 1 octet, length 2, value; or type 255, extended type 2, length 2, value. */
+static bool is_filled(struct text o)
+{
+    size_t at = 0;
+    while (at < o.length) {
+        size_t head = o.octets[at] == 255 ? 5 : 3;
+        if (o.length - at < head)
+            return false;
+        at += head + two_at(o.octets + at + head - 2);
+    }
+    return at == o.length;
+}
+
 static uint32_t element_refusal(struct text e)
 {
     if (e.length < 4 || e.octets[0] != 6)
@@ -124,7 +137,9 @@ static uint32_t element_refusal(struct text e)
     size_t k = two_at(e.octets + 4 + n);
     if (e.length != 6 + n + k)
         return CARD_BAD_ELEMENT;
-    return k == 0 || k > CARD_OPAQUE_MOST ? CARD_BAD_OPAQUE : CARD_ACCEPTED;
+    if (k == 0 || k > CARD_OPAQUE_MOST)
+        return CARD_BAD_OPAQUE;
+    return is_filled((struct text){e.octets + 6 + n, k}) ? CARD_ACCEPTED : CARD_MALFORMED_OPAQUE;
 }
 
 /* The places of the first two TLVs, how many there are, and whether a further one has its U bit clear. */

@@ -75,7 +75,8 @@ enum card_answer {
     CARD_NOT_A_LEAF = 14,       /* leave: not a leaf */
     CARD_ROOTS_FULL = 15,       /* a new root's route while 32 stand */
     CARD_NO_ROOM = 16,          /* output shorter than the event's records */
-    CARD_BAD_BASE = 17          /* start: base under 16 or above 1048320 */
+    CARD_BAD_BASE = 17,         /* start: base under 16 or above 1048320 */
+    CARD_MALFORMED_OPAQUE = 18  /* elements do not fill the opaque value; tested after 7 and before 8 */
 };
 
 /*
