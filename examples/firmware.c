@@ -1,6 +1,6 @@
 /*
- * Cases 1 to 7 of the card's paper, through the library. Prints what was written; ends with 1 at the first answer,
- * octet or lookup that is not the paper's.
+ * Cases 1 to 7 of the card's paper, through the library; then a notice, and a save that is restored on another card.
+ * Prints what was written; ends with 1 at the first answer, octet or lookup that is not as it must be.
  */
 #include "card.h"
 
@@ -8,7 +8,7 @@
 #include <stdlib.h>
 #include <string.h>
 
-enum kind { MAPPING = 0x0400, WITHDRAW = 0x0402, RELEASE = 0x0403 };
+enum kind { MAPPING = 0x0400, REQUEST = 0x0401, WITHDRAW = 0x0402, RELEASE = 0x0403 };
 
 /* Tree A: root 192.0.2.1, opaque 01 00 04 00 00 00 07. */
 static const uint8_t root_of_a[4] = {192, 0, 2, 1};
@@ -29,6 +29,11 @@ struct record {
 static uint64_t numbers[CARD_NUMBERS];
 static uint8_t names[CARD_NAMES];
 static uint8_t out[CARD_OUT_MOST];
+
+/* The card that takes the first one's place, what a restore is lent, and two saves. */
+static uint64_t new_numbers[CARD_NUMBERS], spare_numbers[CARD_NUMBERS];
+static uint8_t new_names[CARD_NAMES], spare_names[CARD_NAMES];
+static uint8_t spare_save[CARD_SAVE_MOST], save[CARD_SAVE_MOST], save_again[CARD_SAVE_MOST];
 
 static uint8_t *put(uint8_t *at, uint32_t number, int octets)
 {
@@ -64,11 +69,12 @@ static void fail(const char *what)
     exit(1);
 }
 
-static void show(size_t written)
+/* Records of one length each, a line for each. */
+static void show(size_t written, size_t length)
 {
     printf("  %zu octets\n", written);
     for (size_t i = 0; i < written; i++)
-        printf("%s%02X%s", i % RECORD == 0 ? "    " : " ", out[i], (i + 1) % RECORD == 0 ? "\n" : "");
+        printf("%s%02X%s", i % length == 0 ? "    " : " ", out[i], (i + 1) % length == 0 ? "\n" : "");
 }
 
 /* What a call answered and wrote, against the answer and the records that the paper has. */
@@ -76,7 +82,7 @@ static void compare(uint32_t answer, size_t written, uint32_t expected, size_t c
 {
     uint8_t octets[2 * RECORD];
     printf("  answer %u,", answer);
-    show(written);
+    show(written, RECORD);
     if (answer != expected)
         fail("the answer");
     if (written != count * RECORD)
@@ -91,7 +97,7 @@ static void receive(const char *title, uint32_t from, uint32_t kind, uint32_t la
                     const struct record *records)
 {
     uint8_t message[MESSAGE];
-    uint32_t answer;
+    uint32_t answer = 0;
     put_message(message, kind, 77, label);
     printf("%s\n", title);
     size_t written = card_receive(numbers, names, from, message, sizeof message, out, sizeof out, &answer);
@@ -100,7 +106,7 @@ static void receive(const char *title, uint32_t from, uint32_t kind, uint32_t la
 
 static void route(const char *title, uint32_t to, size_t count, const struct record *records)
 {
-    uint32_t answer;
+    uint32_t answer = 0;
     printf("%s\n", title);
     size_t written = card_route(numbers, names, root_of_a, sizeof root_of_a, to, out, sizeof out, &answer);
     compare(answer, written, CARD_ACCEPTED, count, records);
@@ -109,7 +115,7 @@ static void route(const char *title, uint32_t to, size_t count, const struct rec
 /* The lookup of a label: one branch, or nothing where its label is 0. */
 static void look(uint32_t label, uint32_t neighbour, uint64_t branch)
 {
-    uint64_t branches[CARD_NEIGHBOURS];
+    uint64_t branches[CARD_NEIGHBOURS] = {0};
     bool leaf = card_lookup_label(numbers, label, branches);
     printf("  label %u:", label);
     for (uint32_t n = 0; n < CARD_NEIGHBOURS; n++) {
@@ -157,6 +163,51 @@ static void cases_5_to_7(void)
     count_free(254);
 }
 
+/* A Label Request is refused 3, and neighbour 4 is told so, with the next identifier. */
+static void tell(void)
+{
+    static const uint32_t said[CARD_FIELDS] = {4, 8, 0x04, 77, REQUEST};
+    uint32_t answer = 0, fields[CARD_FIELDS] = {0};
+    uint8_t message[MESSAGE];
+    receive("Request <A, 500> from 4", 4, REQUEST, 500, CARD_BAD_TYPE, 0, NULL);
+    put_message(message, REQUEST, 77, 500);
+    printf("Notice to 4\n");
+    size_t written = card_notice(numbers, 4, CARD_BAD_TYPE, message, sizeof message, out, sizeof out, &answer);
+    printf("  answer %u,", answer);
+    show(written, CARD_NOTICE_OCTETS);
+    if (answer != CARD_ACCEPTED || written != CARD_NOTICE_OCTETS)
+        fail("the notice");
+    if (card_read_notice(out, written, fields) != CARD_ACCEPTED || memcmp(fields, said, sizeof said) != 0)
+        fail("what the notice says");
+    printf("  read: to %u, identifier %u, status %u, of message %u, type %04X\n", fields[CARD_FIELD_NEIGHBOUR],
+           fields[CARD_FIELD_ID], fields[CARD_FIELD_STATUS], fields[CARD_FIELD_COPIED_ID], fields[CARD_FIELD_COPIED_TYPE]);
+    if (card_read_notice(out, written - 1, fields) != CARD_BAD_NOTICE || memcmp(fields, said, sizeof said) != 0)
+        fail("a notice cut short");
+}
+
+/* The table as octets, and back on another card: its save is the same, and octets that are no save change nothing. */
+static void swap(void)
+{
+    uint32_t answer = 0;
+    size_t saved = card_save(numbers, names, save, sizeof save, &answer);
+    printf("Save\n  answer %u,  %zu octets\n", answer, saved);
+    if (answer != CARD_ACCEPTED)
+        fail("the save");
+    card_start(new_numbers, 1024);
+    answer = card_restore(new_numbers, new_names, save, saved, spare_numbers, spare_names, spare_save);
+    printf("Restore\n  answer %u\n", answer);
+    if (answer != CARD_ACCEPTED)
+        fail("the restore");
+    if (card_restore(new_numbers, new_names, save, saved - 1, spare_numbers, spare_names, spare_save) != CARD_BAD_SAVE)
+        fail("a save cut short");
+    if (card_save(new_numbers, new_names, save_again, sizeof save_again, &answer) != saved || memcmp(save, save_again, saved) != 0)
+        fail("the save of what was restored");
+    memcpy(numbers, new_numbers, sizeof numbers);
+    memcpy(names, new_names, sizeof names);
+    look(16, 1, 300);
+    count_free(254);
+}
+
 int main(void)
 {
     if (card_start(numbers, 16) != CARD_ACCEPTED)
@@ -164,6 +215,8 @@ int main(void)
     route("Route of A's root to neighbour 0", 0, 0, NULL);
     cases_1_to_4();
     cases_5_to_7();
+    tell();
+    swap();
     printf("as the paper has it\n");
     return 0;
 }

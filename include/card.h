@@ -16,11 +16,24 @@
  * What the caller owes at every call, since nothing can test it:
  *   - No pointer is null, also where a length is 0.
  *   - An array has at least the elements that its parameter names; a pointer followed by a length has that many octets.
- *   - Lent memory holds some octets already, as a static array does. Any will do.
+ *   - A pointer is aligned as its type asks: to 8 octets for uint64_t, to 4 for uint32_t. Octets may begin anywhere.
+ *   - All that is lent was set before, to anything: what is lent for writing alone (`out`, `answer`, `branches`, `fields`,
+ *     `spare_..`) too. A static array is set; a local without an initialiser is not.
  *   - What one call is lent for writing shares no octet with anything else that the same call is lent.
- *   - Nobody else reads or writes lent memory during a call. Lookups only read, so several may run at once.
+ *   - Nobody else reads or writes during a call what it is lent for writing, or writes what it is lent as const. Lookups,
+ *     card_free_labels and card_save are lent the card as const: several may run at once on one card, each with
+ *     `branches`, `out` and `answer` of its own.
  *
- * A call takes no lock, asks for no memory, calls nothing outside the library and ends.
+ * A call takes no lock, asks for no memory, calls nothing outside the library but memcpy and memset, and ends.
+ *
+ * The most stack that each call takes, in octets, its return address counted and its arguments not. It is read from the object
+ * code, over every path (tools/stack), and memcpy and memset come on top:
+ *
+ *     card_start         40     card_lookup_label    8     card_notice        32
+ *     card_receive      608     card_lookup_name   232     card_read_notice   24
+ *     card_join         448     card_free_labels     8     card_save         152
+ *     card_leave        528                                card_restore      408
+ *     card_route        432
  */
 #ifndef CARD_H
 #define CARD_H
@@ -47,7 +60,9 @@ enum {
     CARD_OPAQUE_MOST = 128,     /* octets of an opaque value */
     CARD_ELEMENT_MOST = 150,    /* octets of the longest element that is taken */
     CARD_RECORD_MOST = 174,     /* octets of the longest record */
-    CARD_OUT_MOST = 22272       /* most octets that one call writes */
+    CARD_OUT_MOST = 22272,      /* most octets that one event writes */
+    CARD_NOTICE_OCTETS = 26,    /* octets of the record of a notice */
+    CARD_SAVE_MOST = 23343      /* octets of the longest save */
 };
 
 /* A route: a neighbour's number, or one of these. */
@@ -56,7 +71,10 @@ enum {
     CARD_NO_ROUTE = 17
 };
 
-/* Answers. A call that is refused writes no octet of `out` and changes nothing; card_start alone differs. */
+/*
+ * Answers. A call that is refused writes no octet of `out` and changes nothing; card_start alone differs. (What
+ * card_restore is lent as spare may hold anything afterwards, also where it refuses.)
+ */
 enum card_answer {
     CARD_ACCEPTED = 0,
     CARD_NO_SUCH_NEIGHBOUR = 1, /* neighbour above 15; in a route order, a route above 17 */
@@ -74,9 +92,11 @@ enum card_answer {
     CARD_NOT_AWAITED = 13,      /* Release: that label awaits none from this neighbour for this name */
     CARD_NOT_A_LEAF = 14,       /* leave: not a leaf */
     CARD_ROOTS_FULL = 15,       /* a new root's route while 32 stand */
-    CARD_NO_ROOM = 16,          /* output shorter than the event's records */
+    CARD_NO_ROOM = 16,          /* output shorter than the event's records, the notice's record or the save */
     CARD_BAD_BASE = 17,         /* start: base under 16 or above 1048320 */
-    CARD_MALFORMED_OPAQUE = 18  /* elements do not fill the opaque value; tested after 7 and before 8 */
+    CARD_MALFORMED_OPAQUE = 18, /* elements do not fill the opaque value; tested after 7 and before 8 */
+    CARD_BAD_SAVE = 19,         /* save: a value exceeds 32 octets; restore: not the save of a table that keeps the rules in force */
+    CARD_BAD_NOTICE = 21        /* read_notice: octets that are not one record which card_notice could write */
 };
 
 /*
@@ -124,6 +144,50 @@ bool card_lookup_name(const uint64_t numbers[CARD_NUMBERS], const uint8_t names[
 
 /* How many labels of the block are free: 0 to 256. */
 uint32_t card_free_labels(const uint64_t numbers[CARD_NUMBERS]);
+
+/*
+ * Notices. card_notice tells a neighbour by which number of enum card_answer its octets were refused: lent the card's
+ * numbers alone, those octets, an output buffer and a place for the answer, it answers and returns as an event does. The
+ * record has CARD_NOTICE_OCTETS octets, and its identifier is the card's next. Of most numbers there is one; of 0, 1, 10,
+ * 13 and above, and of 3 where the U bit of the type is set, there is none: accepted, 0 octets. Number and octets are taken
+ * as they are given.
+ */
+size_t card_notice(uint64_t numbers[CARD_NUMBERS], uint32_t neighbour, uint32_t number, const uint8_t *octets,
+                   size_t octets_length, uint8_t *out, size_t out_length, uint32_t *answer);
+
+/* What such a record says, at these places of `fields`. */
+enum {
+    CARD_FIELD_NEIGHBOUR = 0,   /* 0 to 15 */
+    CARD_FIELD_ID = 1,          /* the record's identifier */
+    CARD_FIELD_STATUS = 2,      /* its status data, without the E and F bits */
+    CARD_FIELD_COPIED_ID = 3,   /* identifier and type of the refused octets; both 0 where those were under 8 */
+    CARD_FIELD_COPIED_TYPE = 4,
+    CARD_FIELDS = 5             /* elements of `fields` */
+};
+
+/*
+ * Reads the record of a notice. Returns CARD_ACCEPTED, with all of `fields` written; or CARD_BAD_NOTICE, with `fields` as it
+ * was. It is lent no card.
+ */
+uint32_t card_read_notice(const uint8_t *octets, size_t octets_length, uint32_t fields[CARD_FIELDS]);
+
+/*
+ * The table as octets, for a card swap: their form is drawn in docs/SAVE.md. The card stays as it is. Sets *answer to
+ * CARD_ACCEPTED or CARD_NO_ROOM and returns how many octets of `out` it wrote, from its front; the rest of `out` keeps its
+ * octets. A buffer of CARD_SAVE_MOST octets is never too short.
+ */
+size_t card_save(const uint64_t numbers[CARD_NUMBERS], const uint8_t names[CARD_NAMES], uint8_t *out, size_t out_length,
+                 uint32_t *answer);
+
+/*
+ * Takes back a save. Returns CARD_ACCEPTED, and its table stands in the place of the card's; or CARD_BAD_SAVE, and the card
+ * is as it was. The octets are read into the spare memory first, which has the sizes of a card and of the longest save, and
+ * may hold anything before and after. A save that is older than the last event or notice gives labels out again that
+ * a neighbour still uses: restore none such.
+ */
+uint32_t card_restore(uint64_t numbers[CARD_NUMBERS], uint8_t names[CARD_NAMES], const uint8_t *octets,
+                      size_t octets_length, uint64_t spare_numbers[CARD_NUMBERS], uint8_t spare_names[CARD_NAMES],
+                      uint8_t spare_save[CARD_SAVE_MOST]);
 
 #ifdef __cplusplus
 }
