@@ -95,6 +95,23 @@ class Progress(Case):
         self.assertEqual(ran.stdout.splitlines()[-1], "7 passed, 0 failed")
         self.assertIn("rt: two NOT PROVED", ran.stdout)
 
+    def test_one_more_part(self):
+        ran = self.progress("--took", "x=1", "--then", "library for C=echo as it must be", "check", "rt", "ci")
+        self.assertEqual(ran.returncode, 0)
+        *lines, last = ran.stdout.splitlines()
+        self.assertEqual(last, "7 passed, 0 failed")
+        self.assertIn("as it must be", lines)
+        self.assertRegex(lines[-1], "^library for C: [0-9]+ s$")
+
+    def test_one_more_part_that_fails(self):
+        ran = self.progress("--took", "x=1", "--then", "library for C=echo why; exit 4", "check", "rt", "ci")
+        self.assertEqual(ran.returncode, 4)
+        self.assertIn("why", ran.stdout.splitlines())
+        self.assertEqual(ran.stdout.splitlines()[-1], "check: library for C failed")
+        ran = self.progress("--took", "x=1", "--then", "y=echo why", "check", "rt", "ci", VERDICT="NOT PROVED (exit 1, 1 s)", STATUS="3")
+        self.assertEqual(ran.returncode, 3)
+        self.assertNotIn("why", ran.stdout)
+
     def test_quiet(self):
         ran = self.progress("--quiet", "--rooms", "two", "bench", "rt", "check", "two", PAUSE=PAUSE)
         self.assertEqual((ran.returncode, ran.stdout), (0, ""))
