@@ -1,14 +1,14 @@
 -- The corners of document 01's rules, as docs/DECISIONS.md reads them: tables as that of `Examples`, one for each card to begin with.
 -- Assumes nothing.
 use Prim.Native.Nat.{ℕ, zero, suc, _+_, _-_}
-use mathlib.Core.Bool.{Bool, true, _&&_}
+use mathlib.Core.Bool.{Bool, true, _&&_, false}
 use mathlib.Core.List.{List, [], _∷_, _++_}
-use lib.ListN.{length, take, replicate}
+use lib.ListN.{length, take, replicate, set}
 use lib.Dec.{T, eqb}
 use Rattle.meaning.specs.Octets.{same, two, four}
 use Rattle.meaning.specs.Wire.{rootIn, element, tlv, mapping, withdraw, release, recordOf}
 use Rattle.meaning.specs.Card.{treeLimit, labelCount, Route, Tree, Use, free, mapped, awaiting, Card, withNext, withTrees, withLabels, freeLabels, lookupName, withRoutes, withLast}
-use Rattle.meaning.specs.Events.{tell, Event, receive, join, leave, route, event, start}
+use Rattle.meaning.specs.Events.{tell, Event, receive, join, leave, route, event, start, lost}
 use Rattle.meaning.specs.Computing.{computing}
 use Rattle.meaning.specs.Examples.{Row, anew, then, enough, flat, feed, agrees, wrong, NoneWrong, A, wide, firstCard, heard, wrote}
 
@@ -253,6 +253,10 @@ heldRows =
 
 -- ---- few labels, many trees, many roots
 
+unfoldable pub after : Card → List Event → Card
+after c [] = c
+after c (e ∷ es) = after (event enough c e .card) es
+
 -- the k-th tree of A's root
 unfoldable pub kin : ℕ → List ℕ
 kin k = element 1 (rootIn A) (1 ∷ 0 ∷ 1 ∷ k ∷ [])
@@ -375,6 +379,57 @@ loneRows =
     anew (join (kin 5)) 0 (recordOf 4 (tell 0 mapping (kin 5) 19)) 0 19 (1 ∷ []) ∷
     []
 
+-- ---- a neighbour's session is lost
+
+-- Neighbour 0 is the upstream of A's root and 3 that of `other`'s. Of A's root: kin 0 has a leaf, kin 1 a branch from 1 alone, kin 2 one from 1 and a held one from 0, kin 3 one from 1 and one from 2, kin 4 a held one from 0 alone. `other` has a branch from 1, and a held one from 3.
+unfoldable pub losing : Card
+losing = after (grown 1)
+    (heard 1 mapping (kin 1) 100 ∷ heard 1 mapping (kin 2) 100 ∷ heard 0 mapping (kin 2) 200 ∷ heard 1 mapping (kin 3) 100 ∷ heard 2 mapping (kin 3) 300
+    ∷ heard 0 mapping (kin 4) 400 ∷ route (rootIn other) 3 ∷ heard 1 mapping other 100 ∷ heard 3 mapping other 500 ∷ [])
+
+-- what the loss of 1 sends, oldest tree first
+unfoldable pub lossSent : List ℕ
+lossSent = recordOf 6 (tell 0 withdraw (kin 1) 17) ++ (recordOf 7 (tell 0 withdraw (kin 2) 18) ++ recordOf 8 (tell 3 withdraw other 20))
+
+unfoldable pub lossRows : List Row
+lossRows =
+    -- 1 before 16; 16: one octet short, and nothing moves
+    inRoom 0 (anew (lost 16) 1 [] 251 20 (1 ∷ 100 ∷ [])) ∷
+    inRoom (length lossSent - 1) (anew (lost 1) 16 [] 251 20 (1 ∷ 100 ∷ [])) ∷
+    -- 1 is lost: kin 1 goes, and its label awaits; kin 2 has a held branch alone, stays, and its label awaits; kin 3 keeps its own; `other` likewise stays
+    inRoom (length lossSent) (anew (lost 1) 0 lossSent 251 19 (2 ∷ 300 ∷ [])) ∷
+    -- a loss with nothing to lose, in no room
+    inRoom 0 (then (lost 1) 0 [] 251 19 (2 ∷ 300 ∷ [])) ∷
+    -- kin 1 is gone, kin 2 is not
+    then (heard 1 withdraw (kin 1) 100) 0 (recordOf 9 (tell 1 release (kin 1) 100)) 251 17 [] ∷
+    then (heard 0 mapping (kin 2) 201) 10 [] 251 18 [] ∷
+    -- now 0, the upstream: what it held is free at once, what awaited its release too; nothing is sent; kin 2 and kin 4, whose only branches were its own, are gone
+    then (lost 0) 0 [] 255 16 [] ∷
+    then (heard 0 release (kin 1) 17) 13 [] 255 19 [] ∷
+    then (heard 0 mapping (kin 2) 201) 0 [] 255 18 [] ∷
+    -- kin 0 and kin 3 stand without a label; there is no route until an order comes, for a new tree either
+    then (join (kin 6)) 0 [] 255 21 [] ∷
+    then (leave (kin 6)) 0 [] 255 21 [] ∷
+    then (route (rootIn A) 17) 0 [] 255 16 [] ∷
+    then (route (rootIn A) 5) 0 (recordOf 10 (tell 5 mapping (kin 0) 21) ++ (recordOf 11 (tell 5 mapping (kin 3) 22) ++ recordOf 12 (tell 5 mapping (kin 2) 23))) 252 22 (2 ∷ 300 ∷ []) ∷
+    -- the other upstream: `other` had a held branch alone, and its label awaited
+    then (lost 3) 0 [] 253 20 [] ∷
+    []
+
+-- 64 trees of a 16-octet root with the longest names, each with a branch from 1 alone, and a label mapped to 0: the loss of 1 ends them all
+unfoldable pub branched : ℕ → ℕ → List Tree
+branched zero k = []
+branched (suc n) k = record { name = element 2 (replicate 16 32) (1 ∷ 0 ∷ 125 ∷ k ∷ replicate 124 0); branches = set (replicate 16 0) 1 100; leaf = false; label = 16 + k } ∷ branched n (suc k)
+
+unfoldable pub branchedAll : Card
+branchedAll = let ts = branched 64 0 in withTrees ts (withLabels (usedBy ts) (withRoutes (record { root = replicate 16 32; via = 0 } ∷ []) firstCard))
+
+-- it writes 64 records of 174 octets, and leaves no tree; one octet less is too little room
+unfoldable pub mostLost : Bool
+mostLost =
+    let o = event 11136 branchedAll (lost 1) in
+    eqb (length (o .octets)) 11136 && eqb (length (o .card .trees)) 0 && eqb (o .card .next) 65 && eqb (event 11135 branchedAll (lost 1) .answer) 16
+
 -- a root of four octets
 unfoldable pub root : ℕ → List ℕ
 root k = 10 ∷ 0 ∷ 0 ∷ k ∷ []
@@ -480,7 +535,9 @@ pub corners-shown : NoneWrong (wrong 1 firstCard firstCard readings)
     × NoneWrong (wrong 1 (left 2 paired) firstCard countedRows)
     × NoneWrong (wrong 1 late firstCard restRows)
     × NoneWrong (wrong 1 lone firstCard loneRows)
+    × NoneWrong (wrong 1 losing firstCard lossRows)
     × T others
     × T mostMoved
-unfolding computing readings other long packed fec label said holds odd wrong firstCard agrees flat feed A wide heard wrote kin grown scarce left crowd usedBy fullCard fullRows scarceRows lastRows root rooted rootRows rootedRows endRows heldRows paired needyRows countedRows rootsOf rerouted startsAs others load loaded mostMoved late restRows lone loneRows
-corners-shown = (tt, tt, tt, tt, tt, tt, tt, tt, tt, tt, tt, tt, tt, tt)
+    × T mostLost
+unfolding computing readings other long packed fec label said holds odd wrong firstCard agrees flat feed A wide heard wrote kin grown scarce left crowd usedBy fullCard fullRows scarceRows lastRows root rooted rootRows rootedRows endRows heldRows paired needyRows countedRows rootsOf rerouted startsAs others load loaded mostMoved late restRows lone loneRows after losing lossSent lossRows branched branchedAll mostLost
+corners-shown = (tt, tt, tt, tt, tt, tt, tt, tt, tt, tt, tt, tt, tt, tt, tt, tt)

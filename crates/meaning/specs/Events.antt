@@ -281,6 +281,61 @@ onRoute c r via =
     (pick (eqb (routeOf r c) via) (taken [] c)
     (unless (routeRefusal c r via) (reRoute c r via)))
 
+-- ---- a neighbour's session is lost
+
+-- a label that n holds, mapped to it or awaiting its release, is free at once
+unfoldable pub isOf : ℕ → Use → Bool
+isOf n free = false
+isOf n (mapped k a) = eqb k n
+isOf n (awaiting k a) = eqb k n
+
+unfoldable pub freedOf : ℕ → Use → Use
+freedOf n u = pick (isOf n u) free u
+
+unfoldable pub usesWithout : ℕ → List Use → List Use
+usesWithout n [] = []
+usesWithout n (u ∷ us) = freedOf n u ∷ usesWithout n us
+
+-- a tree loses n's branch, and its label where it held that for n
+unfoldable pub treeWithout : ℕ → Card → Tree → Tree
+treeWithout n c t = withLabel (pick (eqb (heldFor c t) n) 0 (t .label)) (withBranch n 0 t)
+
+unfoldable pub treesWithout : ℕ → Card → List Tree → List Tree
+treesWithout n c [] = []
+treesWithout n c (t ∷ ts) = treeWithout n c t ∷ treesWithout n c ts
+
+-- a route through n becomes "no route": its entry goes
+unfoldable pub routesWithout : ℕ → List Route → List Route
+routesWithout n [] = []
+routesWithout n (r ∷ rs) = let later = routesWithout n rs in pick (eqb (r .via) n) later (r ∷ later)
+
+-- the table without all that is n's; nothing is sent for it
+unfoldable pub parted : ℕ → Card → Card
+parted n c = withRoutes (routesWithout n (c .routes)) (withTrees (treesWithout n c (c .trees)) (withLabels (usesWithout n (c .labels)) c))
+
+-- the tree at place i gives up its label where it leads nowhere any more: no leaf is left, and no branch but that of the neighbour that the label is mapped to
+unfoldable pub shed : ℕ → Card → Moved
+shed i c = let t = treeAt i c in pick (leadsOn (heldFor c t) t) (still c) (letGo i c)
+
+-- the n trees from place i on, one after the other
+unfoldable pub shedFrom : ℕ → ℕ → Card → Moved
+shedFrom zero i c = still c
+shedFrom (suc n) i c = followedBy (shed i c) (shedFrom n (suc i))
+
+-- of the first n trees those that are empty go, the newest first
+unfoldable pub sweptBelow : ℕ → Card → Card
+sweptBelow zero c = c
+sweptBelow (suc n) c = sweptBelow n (swept n c)
+
+-- The Withdraws go out oldest tree first. Nothing is sent to the lost neighbour, since no label is mapped to it any more.
+unfoldable pub part : Card → ℕ → Outcome
+part c n =
+    let m = shedFrom (length (c .trees)) 0 (parted n c) in
+    taken (m .sent) (sweptBelow (length (c .trees)) (m .card))
+
+unfoldable pub onLost : Card → ℕ → Outcome
+onLost c n = unless (1 when noNeighbour n else 0) (part c n)
+
 -- ---- the calls, each with the room that the output has
 
 pub data Event : Type 0 where
@@ -288,12 +343,14 @@ pub data Event : Type 0 where
   join : List ℕ → Event
   leave : List ℕ → Event
   route : List ℕ → ℕ → Event
+  lost : ℕ → Event
 
 unfoldable pub outcome : Card → Event → Outcome
 outcome c (receive n s) = onOctets c n s
 outcome c (join e) = onJoin c e
 outcome c (leave e) = onLeave c e
 outcome c (route r via) = onRoute c r via
+outcome c (lost n) = onLost c n
 
 unfoldable pub event : ℕ → Card → Event → Out
 event room c e = finish room c (outcome c e)

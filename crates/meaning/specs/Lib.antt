@@ -18,6 +18,7 @@ pub mod NoticeExamples
 pub mod NoticeLaws
 pub mod RoutesStay
 pub mod NextFree
+pub mod Losses
 pub mod Save
 pub mod SaveExample
 pub mod SaveRows

@@ -11,7 +11,7 @@ use Rattle.meaning.specs.Octets.{pick, any, twoAt, _when_else_}
 use Rattle.meaning.specs.Lists.{by-test}
 use Rattle.meaning.specs.Wire.{isElement, isOpaque, isFilled, opaqueIn, elementRefusal, isOverrun, tlvs, mapping, withdraw, release, Message, bodyOf, fecOf, labelOf, must, isSized, isKind, isOrdered, isLabel, messageRefusal, messageIn, Sent, records}
 use Rattle.meaning.specs.Card.{Tree, Card, withBranch, withLeaf, treeOf, routeOf}
-use Rattle.meaning.specs.Events.{Out, Outcome, refused, taken, unless, refuse, accept, roomShort, finish, tell, labelsShort, need, upstream, holderOf, treesFull, treeRefusal, enter, become, otherLabel, onMapping, lessBranch, onWithdraw, notAwaited, onRelease, onMessage, noNeighbour, onOctets, onJoin, notLeaf, onLeave, needAll, notRoute, notRoot, routesFull, routeRefusal, reRoute, onRoute, Event, receive, join, leave, route, outcome, event}
+use Rattle.meaning.specs.Events.{Out, Outcome, refused, taken, unless, refuse, accept, roomShort, finish, tell, labelsShort, need, upstream, holderOf, treesFull, treeRefusal, enter, become, otherLabel, onMapping, lessBranch, onWithdraw, notAwaited, onRelease, onMessage, noNeighbour, onOctets, onJoin, notLeaf, onLeave, needAll, notRoute, notRoot, routesFull, routeRefusal, reRoute, onRoute, Event, receive, join, leave, route, outcome, event, part, onLost, lost}
 
 -- a refusal's number, and whether its test applies
 pub record Test : Type 0 where
@@ -143,6 +143,7 @@ module _ (room : ℕ) (c : Card) where
       (1 if notRoute via) ∷ (6 if notRoot r)
       ∷ pick (eqb (routeOf r c) via) []
       ((15 if routesFull c r via) ∷ (12 if labelsShort c (needAll r (upstream via) c)) ∷ roomTest room c (reRoute c r via))
+  eventTests (lost n) = (1 if noNeighbour n) ∷ roomTest room c (part c n)
 
   one : (n : ℕ) (b : Bool) (us : List Test) (o : Outcome) → answer o ≡ firstOf us → answer (unless (suc n when b else 0) o) ≡ firstOf ((suc n if b) ∷ us)
   one n b us o e = ap (λ (k : ℕ). answer (unless k o)) (one-is (suc n) b) ∙ unless-answer ((suc n if b) ∷ []) us o (more none) e
@@ -212,6 +213,13 @@ module _ (room : ℕ) (c : Card) where
           (λ e. rw e quiet)
           (λ e. rw e (move-answer r via))
 
+  lost-answer : (n : ℕ) → answer (onLost c n) ≡ firstOf ((1 if noNeighbour n) ∷ roomTest room c (part c n))
+  unfolding onLost
+  lost-answer n = one 0 _ _ _ gone
+    where
+      gone : answer (part c n) ≡ firstOf (roomTest room c (part c n))
+      gone = unfold part in taken-answer _ _
+
   -- The answer to an event is the number of the first of its tests that applies.
   pub answer-first : (e : Event) → event room c e .answer ≡ firstOf (eventTests e)
   unfolding event outcome eventTests
@@ -219,6 +227,7 @@ module _ (room : ℕ) (c : Card) where
   answer-first (join e) = join-answer e
   answer-first (leave e) = leave-answer e
   answer-first (route r via) = route-answer r via
+  answer-first (lost n) = lost-answer n
 
 -- ---- the tests stand by rising number, 18 alone between 7 and 8, so the first that applies is the lowest but for it
 
@@ -251,6 +260,10 @@ module _ (room : ℕ) (c : Card) (n : ℕ) (s a : List ℕ) (l : ℕ) where
   pub leave-rises : rises 0 (eventTests room c (leave a)) ≡ true
   unfolding rises rank eventTests elementTests treeTests roomTest
   leave-rises = refl
+
+  pub lost-rises : rises 0 (eventTests room c (lost n)) ≡ true
+  unfolding rises eventTests roomTest
+  lost-rises = refl
 
 -- ---- a refusal leaves all as it was
 

@@ -7,8 +7,8 @@ use lib.ListN.{length}
 use lib.Dec.{eqb}
 use Rattle.meaning.specs.Octets.{pick}
 use Rattle.meaning.specs.Lists.{picked}
-use Rattle.meaning.specs.Card.{Card, nobody, withTrees, withLabels, treeAt, heldFor, noRoute, withLast}
-use Rattle.meaning.specs.Events.{Moved, still, followedBy, setUse, setLabel, giveUp, give, letGo, takeUp, moveLabel, relabel, holder, ofRoot, moveOne, moveFrom, moveAll}
+use Rattle.meaning.specs.Card.{Card, nobody, withTrees, withLabels, treeAt, heldFor, noRoute, withLast, isEmpty, leadsOn}
+use Rattle.meaning.specs.Events.{Moved, still, followedBy, setUse, setLabel, giveUp, give, letGo, takeUp, moveLabel, relabel, holder, ofRoot, moveOne, moveFrom, moveAll, swept, parted, shed, shedFrom, sweptBelow}
 
 let-go-routes : (i : ℕ) (c : Card) → letGo i c .card .routes ≡ c .routes
 unfolding letGo still giveUp setLabel setUse withTrees withLabels
@@ -39,3 +39,22 @@ module _ (r : List ℕ) (u : ℕ) where
   pub all-routes : (c : Card) → moveAll r u c .card .routes ≡ c .routes
   unfolding moveAll
   all-routes c = from-routes (length (c .trees)) 0 c
+
+-- Nor does the loss of a neighbour touch any route but those through it.
+
+shed-routes : (i : ℕ) (c : Card) → shed i c .card .routes ≡ c .routes
+unfolding shed still
+shed-routes i c = picked (λ (m : Moved). m .card .routes ≡ c .routes) (leadsOn (heldFor c (treeAt i c)) (treeAt i c)) (λ _. refl) (λ _. let-go-routes i c)
+
+shed-all-routes : (n i : ℕ) (c : Card) → shedFrom n i c .card .routes ≡ c .routes
+unfolding shedFrom followedBy still
+shed-all-routes zero i c = refl
+shed-all-routes (suc n) i c = shed-all-routes n (suc i) (shed i c .card) ∙ shed-routes i c
+
+swept-routes : (n : ℕ) (c : Card) → sweptBelow n c .routes ≡ c .routes
+unfolding sweptBelow
+swept-routes zero c = refl
+swept-routes (suc n) c = swept-routes n (swept n c) ∙ unfold swept withTrees in picked (λ (x : Card). x .routes ≡ c .routes) (isEmpty (treeAt n c)) (λ _. refl) (λ _. refl)
+
+pub part-routes : (n : ℕ) (c : Card) → sweptBelow (length (c .trees)) (shedFrom (length (c .trees)) 0 (parted n c) .card) .routes ≡ parted n c .routes
+part-routes n c = swept-routes (length (c .trees)) _ ∙ shed-all-routes (length (c .trees)) 0 (parted n c)
