@@ -11,14 +11,15 @@ use borrow.Author.Tests.{eqb-true, eqb-false, eq-eqb, ne-eqb, ltb-true, ltb-fals
 use Rattle.meaning.specs.Octets.{pick, place, same, put}
 use Rattle.meaning.specs.Wire.{isKind, mapping, withdraw, release, Message, messageIn, elementRefusal, Sent}
 use Rattle.meaning.specs.Card.{Tree, Use, free, mapped, awaiting, Card, nobody, withRoutes, withTrees, withLabels, withBranch, withLeaf, treeLimit, named, bare, treePlace, treeOf, treeAt, stands, isEmpty, isFree, isAwaiting, mappedTo, useOf, heldFor, freeLabels, routeOf}
-use Rattle.meaning.specs.Events.{Outcome, refused, taken, unless, Moved, tell, setUse, relabel, need, labelsShort, upstream, holderOf, entered, swept, treesFull, treeRefusal, enter, become, branch, otherLabel, onMapping, lessBranch, onWithdraw, notAwaited, onRelease, onMessage, noNeighbour, onOctets, onJoin, onLeave, moveAll, needAll, routesWith, routeRefusal, reRoute, onRoute, Event, receive, join, leave, route, outcome}
-use Rattle.promise.specs.Promise.{Given, remove, noteSent, noteAll, noteTaken, NoneLive, useBut, Untouched}
+use Rattle.meaning.specs.Events.{Outcome, refused, taken, unless, Moved, tell, setUse, relabel, need, labelsShort, upstream, holderOf, entered, swept, treesFull, treeRefusal, enter, become, branch, otherLabel, onMapping, lessBranch, onWithdraw, notAwaited, onRelease, onMessage, noNeighbour, onOctets, onJoin, onLeave, moveAll, needAll, routesWith, routeRefusal, reRoute, onRoute, Event, receive, join, leave, route, outcome, part, onLost, lost}
+use Rattle.promise.specs.Promise.{Given, remove, noteSent, noteAll, noteTaken, NoneLive, useBut, Untouched, without}
 use Rattle.meaning.specs.Lists.{by-test, picked, same-eq, count-new, no-when}
 use Rattle.meaning.specs.RoundTrip.{Heard, heard, AllSendable, sendable-append}
 use Rattle.promise.specs.LiveLaws.{linked-eq, upd, free-linked, books-eq, books-remove, books-removed}
-use Rattle.promise.specs.CardLaws.{use-after, in-block, shape, Proper, tree-name, tree-sized, entered-is, entered-tidy, put-within, swept-is, swept-tidy, swept-use, swept-labels, swept-base, swept-routes, untouched-then, entered-untouched, swept-untouched, used-untouched, swept-last}
+use Rattle.promise.specs.CardLaws.{use-after, in-block, shape, Proper, tree-name, tree-sized, entered-is, entered-tidy, put-within, swept-use, swept-routes, untouched-then, entered-untouched, swept-untouched, used-untouched}
 use Rattle.promise.specs.RuleLaws.{empty-asked, Ruled, shape-empty, holder-same, route-ruled, put-in, put-more, cut-in, put-other-at, swept-at}
 use Rattle.promise.specs.LabelLaws.{shape-name, own-awaiting, holder-near, at-other, held-other, relabel-own, Sound, Fine, relabel-fine, relabel-none, none-append, note-append, Kept, all-kept, use-place, spent-eq}
+use Rattle.promise.specs.LossLaws.{one-swept-tree, one-swept-sound, loss-kept, loss-swept, loss-shapes, loss-ruled}
 
 -- ---- what an event that is taken makes of the tree named a
 
@@ -30,13 +31,15 @@ became (receive n s) a t = pick (same (messageIn s .name) a) (byMessage n (messa
 became (join e) a t = pick (same e a) (withLeaf true t) t
 became (leave e) a t = pick (same e a) (withLeaf false t) t
 became (route r via) a t = t
+became (lost n) a t = withBranch n 0 t
 
--- what an event leaves alone: all that is not of the tree that it names; a route order may touch any
+-- what an event leaves alone: all that is not of the tree that it names; a route order and a loss may touch any
 unfoldable pub Apart : Event → Card → Card → Type 0
 Apart (receive n s) = Untouched (messageIn s .name)
 Apart (join e) = Untouched e
 Apart (leave e) = Untouched e
 Apart (route r via) = λ before after. Unit {0}
+Apart (lost n) = λ before after. Unit {0}
 
 -- ---- what is to be kept, from a table c with gs live
 
@@ -178,19 +181,10 @@ module _ (c : Card) (gs : List Given) (S : Sound c gs) (a : List ℕ) (good : el
     within-after = rw (fine .size) its-within
 
     swept-tree : (b : List ℕ) → treeOf b (swept its-place (relabelled .card)) ≡ treeOf b (relabelled .card)
-    swept-tree b = swept-is (relabelled .card) (fine .sound .tidy) its-place within-after bare-label b
+    swept-tree b = one-swept-tree (relabelled .card) _ (fine .sound) its-place within-after bare-label b
 
     swept-sound : Sound (swept its-place (relabelled .card)) (noteAll (relabelled .sent) gs)
-    swept-sound = record {
-      tidy = swept-tidy (relabelled .card) (fine .sound .tidy) its-place within-after bare-label;
-      low = rw (swept-base (relabelled .card) its-place) (fine .sound .low);
-      high = rw (swept-base (relabelled .card) its-place) (fine .sound .high);
-      many = ap length (swept-labels (relabelled .card) its-place) ∙ fine .sound .many;
-      linked = linked-eq _ _ _ _ (λ b. ap (λ (t : Tree). t .label) (swept-tree b)) (λ l. swept-use (relabelled .card) its-place l) (fine .sound .linked);
-      books = books-eq _ _ _ (λ l. swept-use (relabelled .card) its-place l) (fine .sound .books);
-      sum = unfold freeLabels in rw (swept-labels (relabelled .card) its-place) (unfold freeLabels in fine .sound .sum);
-      last = spent-eq (relabelled .card) _ (swept-last (relabelled .card) its-place) (swept-base (relabelled .card) its-place) (λ e. unfold freeLabels in rw (swept-labels (relabelled .card) its-place) (unfold freeLabels in e)) (fine .sound .last);
-    }
+    swept-sound = one-swept-sound (relabelled .card) _ (fine .sound) its-place within-after bare-label
 
     abbrev end : Card
     end = swept its-place (relabelled .card)
@@ -447,14 +441,28 @@ module _ (c : Card) (gs : List Given) (S : Sound c gs) where
       (λ _. unfold Keeps noteAll NoneLive AllSendable in record { sound = S; fair = tt; said = tt; shapes = λ b. refl; apart = tt; ruled = λ R. R })
       (λ _. unless-keeps c gs _ _ (routeRefusal c r via) (reRoute c r via) (moved-keeps r via)))
 
+  -- ---- the loss of a neighbour
+
+  lost-keeps : (n : ℕ) → n < 16 → Keeps c (without n gs) (λ b x. withBranch n 0 x) (λ _. Unit {0}) (part c n)
+  unfolding part Keeps
+  lost-keeps n near = record {
+    sound = loss-swept n c gs S .sound;
+    fair = loss-kept n c gs S .fair;
+    said = loss-kept n c gs S .said;
+    shapes = loss-shapes n c gs S;
+    apart = tt;
+    ruled = loss-ruled n c gs S near;
+  }
+
   -- ---- every event
 
   pub event-keeps : (e : Event) → Keeps c (noteTaken e gs) (became e) (Apart e c) (outcome c e)
-  unfolding outcome noteTaken became Apart onOctets onJoin onLeave onlyFor noNeighbour
+  unfolding outcome noteTaken became Apart onOctets onJoin onLeave onLost onlyFor noNeighbour
   event-keeps (receive n s) = unless-keeps c _ _ _ _ _ (λ z. unless-keeps c _ _ _ _ _ (λ e. message-keeps n (messageIn s) (heard n s (suc-le-suc (ltb-false 15 n (no-when 0 _ 0 z .0))) e)))
   event-keeps (join e) = unless-keeps c gs _ _ _ _ (λ ok. become-keeps c gs S e ok (withLeaf true) (λ t. unfold withLeaf in refl) (λ t. unfold withLeaf in refl) (λ t. unfold withLeaf in refl) [] (none-quiet gs))
   event-keeps (leave e) = unless-keeps c gs _ _ _ _ (λ ok. unless-keeps c gs _ _ _ _ (λ fits. unless-keeps c gs _ _ _ _ (λ _. enter-keeps c gs S e ok (withLeaf false) (λ t. unfold withLeaf in refl) (λ t. unfold withLeaf in refl) (λ t. unfold withLeaf in refl) [] (none-quiet gs) fits)))
   event-keeps (route r via) = route-keeps r via
+  event-keeps (lost n) = unless-keeps c _ _ _ _ _ (λ z. lost-keeps n (suc-le-suc (ltb-false 15 n (no-when 0 _ 0 z .0))))
 
 -- ---- a Release that is taken
 
@@ -485,6 +493,7 @@ Admits c (receive n s) = (n < 16) × (16 ≤ messageIn s .label) × (messageIn s
 Admits c (join e) = Unit {0}
 Admits c (leave e) = Unit {0}
 Admits c (route r via) = Unit {0}
+Admits c (lost n) = Unit {0}
 
 unfoldable pub Meets : Card → Event → Outcome → Type 0
 Meets c e (refused k) = Unit {0}
@@ -517,3 +526,4 @@ event-meets c (receive n s) = unless-meets c _ _ _ (λ z. unless-meets c _ _ _ (
 event-meets c (join e) = admitted c (join e) (unfold Admits in tt) _
 event-meets c (leave e) = admitted c (leave e) (unfold Admits in tt) _
 event-meets c (route r via) = admitted c (route r via) (unfold Admits in tt) _
+event-meets c (lost n) = admitted c (lost n) (unfold Admits in tt) _

@@ -53,7 +53,7 @@ pub record Fine (i : ℕ) (c : Card) (gs : List Given) (m : Moved) : Type 0 wher
   pub at : (j : ℕ) → shape (treeAt j (m .card)) ≡ shape (treeAt j c)
   pub apart : Untouched (treeAt i c .name) c (m .card)
 
-still-fine : (i : ℕ) (c : Card) (gs : List Given) → Sound c gs → Fine i c gs (still c)
+pub still-fine : (i : ℕ) (c : Card) (gs : List Given) → Sound c gs → Fine i c gs (still c)
 unfolding still noteAll NoneLive AllSendable
 still-fine i c gs S = record { sound = S; fair = tt; said = tt; others = λ b n. refl; uses = λ b n. refl; shapes = λ b. refl; size = refl; routes = refl; at = λ j. refl; apart = untouched-same _ c }
 
@@ -175,7 +175,7 @@ module _ (c : Card) (gs : List Given) (S : Sound c gs) (i : ℕ) (h : i < length
       (λ z. some-one (ap mappedTo (ap (λ (k : ℕ). useOf k c) (sym its-label ∙ z) ∙ S .linked .zero-free))))
 
   -- a tree with a label holds it for somebody
-  held-none : heldFor c (treeAt i c) ≡ nobody → treeAt i c .label ≡ 0
+  pub held-none : heldFor c (treeAt i c) ≡ nobody → treeAt i c .label ≡ 0
   unfolding heldFor
   held-none e =
       by-test (eqb (treeAt i c .label) 0)
@@ -287,7 +287,7 @@ module _ (c : Card) (gs : List Given) (S : Sound c gs) (i : ℕ) (h : i < length
 -- ---- the rule of labels
 
 module _ (c : Card) (gs : List Given) (S : Sound c gs) (i : ℕ) (h : i < length (c .trees)) where
-  let-go-fine : Fine i c gs (letGo i c)
+  pub let-go-fine : Fine i c gs (letGo i c)
   unfolding letGo
   let-go-fine =
       picked (Fine i c gs) (eqb (treeAt i c .label) 0)
@@ -305,7 +305,7 @@ module _ (c : Card) (gs : List Given) (S : Sound c gs) (i : ℕ) (h : i < length
   unfolding giveUp treeAt setLabel setUse withLabels withTrees
   up-none = ap (λ (t : Tree). t .label) (labelled-at c (S .tidy) i h 0 i) ∙ rw (eq-eqb i i refl) (unfold withLabel in refl)
 
-  let-go-none : treeAt i (letGo i c .card) .label ≡ 0
+  pub let-go-none : treeAt i (letGo i c .card) .label ≡ 0
   unfolding letGo still
   let-go-none =
       picked (λ (m : Moved). treeAt i (m .card) .label ≡ 0) (eqb (treeAt i c .label) 0)
@@ -319,7 +319,7 @@ module _ (c : Card) (gs : List Given) (S : Sound c gs) (i : ℕ) (h : i < length
       (λ _. still-fine i c gs S)
       (λ e. give-fine c gs S i h u (near e) (enough e) none)
 
-  none-held : treeAt i c .label ≡ 0 → heldFor c (treeAt i c) ≡ nobody
+  pub none-held : treeAt i c .label ≡ 0 → heldFor c (treeAt i c) ≡ nobody
   unfolding heldFor mappedTo
   none-held z = ap mappedTo (ap (λ (l : ℕ). useOf l c) z ∙ S .linked .zero-free)
 
@@ -426,7 +426,7 @@ pub record Kept (c : Card) (gs : List Given) (m : Moved) : Type 0 where
   pub routes : m .card .routes ≡ c .routes
   pub at : (j : ℕ) → shape (treeAt j (m .card)) ≡ shape (treeAt j c)
 
-then-kept : (c : Card) (gs : List Given) (m : Moved) (f : Card → Moved) → Kept c gs m → Kept (m .card) (noteAll (m .sent) gs) (f (m .card)) → Kept c gs (followedBy m f)
+pub then-kept : (c : Card) (gs : List Given) (m : Moved) (f : Card → Moved) → Kept c gs m → Kept (m .card) (noteAll (m .sent) gs) (f (m .card)) → Kept c gs (followedBy m f)
 unfolding followedBy
 then-kept c gs m f p q = record {
   sound = rw (note-append (m .sent) (f (m .card) .sent) gs) (q .sound);

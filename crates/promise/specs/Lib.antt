@@ -3,12 +3,15 @@ pub mod LiveLaws
 pub mod CardLaws
 pub mod LabelLaws
 pub mod RuleLaws
+pub mod PartedLaws
+pub mod LossLaws
 pub mod EventLaws
 pub mod RouteLaws
 pub mod PromiseProof
 pub mod RulesKept
 pub mod Sizes
 pub mod NoWayBack
+pub mod LossKept
 pub mod PromiseExample
 pub mod SaveSteps
 pub mod SaveKept

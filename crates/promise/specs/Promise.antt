@@ -9,7 +9,7 @@ use lib.Dec.{eqb}
 use Rattle.meaning.specs.Octets.{pick, count, same}
 use Rattle.meaning.specs.Wire.{rootIn, mapping, withdraw, release, Message, messageIn, Sent, records, recordsIn}
 use Rattle.meaning.specs.Card.{noRoute, Tree, Use, free, mapped, awaiting, Card, named, useOf, freeLabels, Branch, Feed, nothing, lookupLabel, lookupName}
-use Rattle.meaning.specs.Events.{Event, receive, join, leave, route, Out, event, start}
+use Rattle.meaning.specs.Events.{Event, receive, join, leave, route, lost, Out, event, start}
 
 -- ---- live labels, from the messages alone
 
@@ -45,12 +45,18 @@ unfoldable pub noteAll : List Sent → List Given → List Given
 noteAll [] gs = gs
 noteAll (m ∷ ms) gs = noteAll ms (noteSent (m .to) (m .message) gs)
 
--- a Release that we take from n ends it
+-- without those that n may use
+unfoldable pub without : ℕ → List Given → List Given
+without n [] = []
+without n (g ∷ gs) = let others = without n gs in pick (eqb (g .to) n) others (g ∷ others)
+
+-- A Release that we take from n ends it, and so does the loss of n: we assume that a lost neighbour has stopped using its labels.
 unfoldable pub noteTaken : Event → List Given → List Given
 noteTaken (receive n s) gs = pick (eqb (messageIn s .kind) release) (remove n (messageIn s) gs) gs
 noteTaken (join e) gs = gs
 noteTaken (leave e) gs = gs
 noteTaken (route r via) gs = gs
+noteTaken (lost n) gs = without n gs
 
 -- ---- branches and leaf of a tree, from the accepted events alone, the latest first
 
@@ -65,7 +71,7 @@ saidBy m ls =
     pick (eqb (m .kind) mapping) (m .label ∷ withoutLabel (m .label) ls)
     (pick (eqb (m .kind) withdraw) (withoutLabel (m .label) ls) ls)
 
--- THE BRANCHES of the tree a to neighbour n: the labels of n's accepted Mappings for a that no accepted Withdraw under that label has since ended
+-- THE BRANCHES of the tree a to neighbour n: the labels of n's accepted Mappings for a that no accepted Withdraw under that label, and no loss of n, has since ended
 unfoldable pub branchesSaid : List ℕ → ℕ → List Event → List ℕ
 branchesSaid a n [] = []
 branchesSaid a n (receive from s ∷ es) =
@@ -75,6 +81,7 @@ branchesSaid a n (receive from s ∷ es) =
 branchesSaid a n (join e ∷ es) = branchesSaid a n es
 branchesSaid a n (leave e ∷ es) = branchesSaid a n es
 branchesSaid a n (route r via ∷ es) = branchesSaid a n es
+branchesSaid a n (lost k ∷ es) = let before = branchesSaid a n es in pick (eqb k n) [] before
 
 unfoldable pub leafBy : List ℕ → List Event → Bool
 leafBy a [] = false
@@ -82,14 +89,16 @@ leafBy a (receive from s ∷ es) = leafBy a es
 leafBy a (join e ∷ es) = let before = leafBy a es in pick (same e a) true before
 leafBy a (leave e ∷ es) = let before = leafBy a es in pick (same e a) false before
 leafBy a (route r via ∷ es) = leafBy a es
+leafBy a (lost k ∷ es) = leafBy a es
 
--- the route of a root: that of its latest order; no route where there is none
+-- the route of a root: that of its latest order; no route where there is none, or where the neighbour that it names was lost since
 unfoldable pub routeBy : List ℕ → List Event → ℕ
 routeBy r [] = noRoute
 routeBy r (receive from s ∷ es) = routeBy r es
 routeBy r (join e ∷ es) = routeBy r es
 routeBy r (leave e ∷ es) = routeBy r es
 routeBy r (route q via ∷ es) = let before = routeBy r es in pick (same q r) via before
+routeBy r (lost k ∷ es) = let before = routeBy r es in pick (eqb before k) noRoute before
 
 -- a branch to n for each of the labels
 unfoldable pub branchesTo : ℕ → List ℕ → List Branch
@@ -129,7 +138,7 @@ sends c s = recordsIn (answerTo c s .octets)
 unfoldable pub isTaken : Card → Step → Bool
 isTaken c s = eqb (answerTo c s .answer) 0
 
--- the live labels when the messages of a step go out: the Release that it takes has ended a life
+-- the live labels when the messages of a step go out: the Release, or the loss, that it takes has ended lives
 unfoldable pub liveAt : Past → Step → List Given
 liveAt p s = pick (isTaken (p .card) s) (noteTaken (s .does) (p .live)) (p .live)
 
@@ -198,7 +207,7 @@ pub record Promise (p : Past) : Type 0 where
   pub one : (l : ℕ) → count (ofLabel l) (p .live) ≤ 1
   -- No live label is given out again.
   pub anew : (s : Step) → NoneLive (sends (p .card) s) (liveAt p s)
-  -- While mapped it leads exactly to the leaf, if joined, and the branches, those held left out, whose accepted Mapping no accepted Withdraw has since ended under its label; once withdrawn, to nobody.
+  -- While mapped it leads exactly to the leaf, if joined, and the branches, those held left out, whose accepted Mapping no accepted Withdraw has since ended under its label, and no loss of its neighbour; once withdrawn, to nobody.
   pub leads : Each (Leads p) (p .live)
   -- (any other number leads to nobody)
   pub others : (l : ℕ) → count (ofLabel l) (p .live) ≡ 0 → lookupLabel l (p .card) ≡ nothing

@@ -13,7 +13,7 @@ use borrow.Author.Tests.{eqb-true, eqb-false, eq-eqb, ne-eqb, ltb-true, ltb-fals
 use Rattle.meaning.specs.Octets.{pick, place, count, same}
 use Rattle.meaning.specs.Wire.{rootIn, mapping, withdraw, Message, messageIn, Sent, records, recordsF, recordsIn, elementRefusal}
 use Rattle.meaning.specs.Card.{Tree, Use, free, mapped, awaiting, Card, fresh, withNext, withBranch, withLeaf, withLabel, bare, treePlace, treeOf, treeAt, isFree, isAwaiting, mappedTo, notHeld, leadsOn, useOf, freeLabels, heldFor, routeOf, routePlace, branchesFrom, feedOf, carries, carrier, feedOfUse, lookupLabel, isBranch, nothing, lookupName}
-use Rattle.meaning.specs.Events.{Out, Outcome, refused, taken, refuse, accept, roomShort, finish, upstream, holder, holderOf, branch, lessBranch, Event, receive, join, leave, route, outcome, event, baseOutside, start, otherLabel}
+use Rattle.meaning.specs.Events.{Out, Outcome, refused, taken, refuse, accept, roomShort, finish, upstream, holder, holderOf, branch, lessBranch, Event, receive, join, leave, route, outcome, event, baseOutside, start, otherLabel, lost}
 use Rattle.promise.specs.Promise.{Given, ofLabel, isAbout, isWithdrawn, Demand3, noteAll, noteTaken, leafBy, branchesBy, routeBy, feedBy, Step, Past, answerTo, sends, thenStep, thenSteps, history, Each, NoneLive, Leads, Promise, saidBy, branchesSaid, branchesTo, isTaken, liveAt, acceptedAt, Untouched, begun, withoutLabel}
 use Rattle.meaning.specs.Lists.{getD-same, by-test, picked, place-finds, place-count, same-eq, same-refl, getD-out, getD-all, count-some, set-replicate}
 use Rattle.meaning.specs.RoundTrip.{both, AllSendable, records-back}
@@ -127,6 +127,18 @@ module _ (c : Card) (d : Tidy (c .trees)) (a : List ℕ) (es : List Event) (r : 
       (λ k. rw k (record { name = r .name; said = λ i. unfold branchesSaid in r .said i; leaf = unfold leafBy in rw k refl }))
       (λ k. rw k (record { name = r .name; said = λ i. unfold branchesSaid in r .said i; leaf = unfold leafBy in rw k (r .leaf) }))
   became-reads (route q via) g = record { name = r .name; said = λ i. unfold branchesSaid in r .said i; leaf = unfold leafBy in r .leaf }
+  became-reads (lost n) g = unfold withBranch in record {
+    name = r .name;
+    said = λ i. unfold branchesSaid in by-test (eqb n i)
+        (λ e. rw (e, ← eqb-true n i e) (sym (ap listed (set-none (treeOf a c .branches) n) ∙ unfold listed isBranch in refl)))
+        (λ e. rw e (r .said i ∙ ap listed (sym (getD-set-other (treeOf a c .branches) n i 0 0 (λ z. eqb-false n i e (sym z))))));
+    leaf = unfold leafBy in r .leaf;
+  }
+    where
+      set-none : (bs : List ℕ) (k : ℕ) → getD (set bs k 0) k 0 ≡ 0
+      set-none [] k = refl
+      set-none (b ∷ bs) zero = refl
+      set-none (b ∷ bs) (suc k) = set-none bs k
 
 -- ---- the table against the past
 
@@ -147,6 +159,7 @@ route-by (receive n s) q es = refl
 route-by (join e) q es = refl
 route-by (leave e) q es = refl
 route-by (route r via) q es = refl
+route-by (lost n) q es = refl
 
 module _ (c : Card) (gs : List Given) (es : List Event) (e : Event) where
   -- what a step sends, and the live labels when it does, by its outcome

@@ -1,20 +1,22 @@
--- The routes after each event: a route order sets its root's, and nothing else sets any.
+-- The routes after each event: a route order sets its root's, a loss ends those through the lost neighbour, and nothing else sets any.
 -- Assumes nothing.
-use Prim.Native.Nat.{ℕ, zero, suc, _≤_}
+use Prim.Native.Nat.{ℕ, zero, suc, _≤_, _<_, suc-le-suc}
 use mathlib.Core.Path.{_≡_, refl, sym, ap, _∙_}
 use mathlib.Core.List.{List, []}
 use lib.Dec.{eqb}
 use borrow.Author.Tests.{eqb-true, ltb-false}
 use Rattle.meaning.specs.Octets.{pick, same}
 use Rattle.meaning.specs.Wire.{Message, messageIn, mapping, withdraw, release, Sent}
-use Rattle.meaning.specs.Card.{Tree, Card, free, withRoutes, withTrees, withLabels, routeOf, routePlace, treePlace, freeLabels}
-use Rattle.meaning.specs.Events.{Outcome, refused, taken, unless, Moved, setUse, relabel, labelsShort, upstream, holderOf, entered, swept, enter, become, onMapping, onWithdraw, onRelease, onMessage, onOctets, onJoin, onLeave, moveAll, needAll, routesWith, routeRefusal, reRoute, onRoute, Event, receive, join, leave, route, outcome}
+use Rattle.meaning.specs.Card.{noRoute, Tree, Card, free, withRoutes, withTrees, withLabels, routeOf, routePlace, treePlace, freeLabels}
+use Rattle.meaning.specs.Events.{Outcome, refused, taken, unless, Moved, setUse, relabel, labelsShort, upstream, holderOf, entered, swept, enter, become, onMapping, onWithdraw, onRelease, onMessage, onOctets, onJoin, onLeave, moveAll, needAll, routesWith, routeRefusal, reRoute, onRoute, Event, receive, join, leave, route, outcome, noNeighbour, parted, part, onLost, lost}
 use Rattle.meaning.specs.Lists.{by-test, picked, same-eq, no-when}
 use Rattle.meaning.specs.RoutesStay.{relabel-routes}
 use Rattle.promise.specs.Promise.{Given}
 use Rattle.promise.specs.CardLaws.{swept-routes}
 use Rattle.promise.specs.LabelLaws.{Sound}
 use Rattle.promise.specs.RuleLaws.{Ruled, own-route, other-route}
+use Rattle.promise.specs.PartedLaws.{parted-route}
+use Rattle.promise.specs.LossLaws.{ending, loss-routes}
 use Rattle.promise.specs.EventLaws.{upstream-near}
 
 -- what an event makes of the route of the root q
@@ -23,6 +25,7 @@ routeNow (receive n s) q before = before
 routeNow (join e) q before = before
 routeNow (leave e) q before = before
 routeNow (route r via) q before = pick (same r q) via before
+routeNow (lost n) q before = pick (eqb before n) noRoute before
 
 unfoldable pub Routed : Card → Event → Outcome → Type 0
 Routed c e (refused n) = Unit {0}
@@ -83,9 +86,14 @@ module _ (c : Card) (gs : List Given) (S : Sound c gs) (R : Ruled c) where
       (λ e. unfold Routed routeNow in λ q. by-test (same r q) (λ k. rw k (ap (λ (x : List ℕ). routeOf x c) (sym (same-eq r q k)) ∙ eqb-true _ _ e)) (λ k. rw k refl))
       (λ _. unless-routed c (route r via) _ _ (moved-routed r via)))
 
+  lost-routed : (n : ℕ) → n < 16 → Routed c (lost n) (part c n)
+  unfolding part Routed routeNow
+  lost-routed n near q = same-route (ending n c gs S) (parted n c) q (loss-routes n c gs S) ∙ parted-route n near c q (R .roots q)
+
   pub event-routed : (e : Event) → Routed c e (outcome c e)
-  unfolding outcome onOctets onJoin onLeave routeNow
+  unfolding outcome onOctets onJoin onLeave onLost noNeighbour routeNow
   event-routed (receive n s) = unless-routed c _ _ _ (λ _. unless-routed c _ _ _ (λ _. message-routed c (receive n s) (λ q b. refl) n (messageIn s)))
   event-routed (join e) = unless-routed c _ _ _ (λ _. become-routed c (join e) (λ q b. refl) _ _)
   event-routed (leave e) = unless-routed c _ _ _ (λ _. unless-routed c _ _ _ (λ _. unless-routed c _ _ _ (λ _. enter-routed c (leave e) (λ q b. refl) _ _)))
   event-routed (route r via) = route-routed r via
+  event-routed (lost n) = unless-routed c _ _ _ (λ z. lost-routed n (suc-le-suc (ltb-false 15 n (no-when 0 _ 0 z .0))))

@@ -1,14 +1,14 @@
 -- The table's rules after any history, and what they say of a Withdraw and of a leave.
 -- Assumes nothing.
-use Prim.Native.Nat.{ℕ, zero, suc, _≤_, zero-le}
+use Prim.Native.Nat.{ℕ, _≤_, zero-le}
 use native.Mathlib.Omega.{arith}
-use mathlib.Core.Path.{_≡_, refl, sym, ap, ap₂, _∙_}
-use mathlib.Core.Bool.{Bool, true, false, not, _||_}
+use mathlib.Core.Path.{_≡_, refl, sym, ap, _∙_}
+use mathlib.Core.Bool.{true, false, not, _||_}
 use mathlib.Core.List.{List, [], _∷_, _++_}
 use lib.ListN.{length, set}
 use lib.Dec.{eqb, ltb}
 use borrow.Author.Tests.{eq-eqb, ne-eqb, ltb-true, ltb-false, le-ltb}
-use Rattle.meaning.specs.Octets.{pick, count, any, _when_else_}
+use Rattle.meaning.specs.Octets.{count, any, _when_else_}
 use Rattle.meaning.specs.Wire.{rootIn, elementRefusal, mapping, withdraw, release, Message, messageIn, messageRefusal, Sent}
 use Rattle.meaning.specs.Card.{withTrees, named, treeAt, useOf, routeOf, Tree, Card, nobody, withBranch, withLeaf, isFor, treePlace, treeOf, stands, bare, isBranch, isEmpty, notHeld, leadsOn, heldFor, freeLabels}
 use Rattle.meaning.specs.Events.{taken, unless, Moved, still, upstream, holder, tell, relabel, entered, swept, needMove, need, labelsShort, holderOf, treesFull, treeRefusal, enter, become, branch, lessBranch, onWithdraw, onMessage, noNeighbour, onOctets, notLeaf, onLeave, receive, leave, outcome}
@@ -18,7 +18,7 @@ use Rattle.meaning.specs.Lists.{by-test, picked}
 use Rattle.meaning.specs.RoundTrip.{both}
 use Rattle.promise.specs.CardLaws.{tree-name}
 use Rattle.promise.specs.LabelLaws.{Sound}
-use Rattle.promise.specs.RuleLaws.{Ruled, held-named, bare-empty, any-set-zero}
+use Rattle.promise.specs.RuleLaws.{Ruled, held-named, bare-empty, any-set-zero, any-set-two, neither}
 use Rattle.promise.specs.EventLaws.{getD-put, less-name, less-label}
 use Rattle.promise.specs.PromiseProof.{history-upheld}
 
@@ -75,18 +75,6 @@ nothing-moves c gs S R t l e =
     (ap (heldFor (entered c t)) (entered-at c t) ∙ entered-held c t ∙ same-held c t (treeOf (t .name) c) l ∙ held-named c gs S R (t .name) ∙ same-up c t e)) refl
 
 -- ---- a Withdraw is always answered
-
-any-set-two : (bs : List ℕ) (n u : ℕ) → any isBranch (set bs u 0) ≡ false → any isBranch (set (set bs n 0) u 0) ≡ false
-unfolding any isBranch
-any-set-two [] n u h = refl
-any-set-two (b ∷ bs) zero zero h = h
-any-set-two (b ∷ bs) zero (suc u) h = by-test (ltb 0 b) (λ e. let z : true ≡ false = rw e at h in cc) (λ e. rw e at h)
-any-set-two (b ∷ bs) (suc n) zero h = any-set-zero bs n h
-any-set-two (b ∷ bs) (suc n) (suc u) h = by-test (ltb 0 b) (λ e. let z : true ≡ false = rw e at h in cc) (λ e. rw e (any-set-two bs n u (rw e at h)))
-
-neither : (x y : Bool) → (x || y) ≡ false → (x ≡ false) × (y ≡ false)
-neither true y e = absurd (let z : _≡_ {A = ℕ} 0 1 = cc in omega arith)
-neither false y e = (refl, e)
 
 less-leads : (n l u : ℕ) (t : Tree) → leadsOn u t ≡ false → leadsOn u (lessBranch n l t) ≡ false
 unfolding lessBranch

@@ -12,7 +12,7 @@ use borrow.Author.Tests.{eqb-false, eq-eqb, le-leb, lt-ltb, ltb-false, eqb-true}
 use Rattle.meaning.specs.Octets.{same, all, pick}
 use Rattle.meaning.specs.Wire.{mapping, withdraw, messageIn, elementRefusal}
 use Rattle.meaning.specs.Card.{Tree, Use, free, mapped, awaiting, Card, fresh, withNext, bare, treeOf, treeAt, isBranch, isEmpty, useOf, withLast, treePlace, heldFor, freeLabels, routeOf, routePlace}
-use Rattle.meaning.specs.Events.{refuse, accept, Event, receive, join, leave, route, baseOutside, start, holderOf}
+use Rattle.meaning.specs.Events.{refuse, accept, Event, receive, join, leave, route, baseOutside, start, holderOf, lost}
 use Rattle.meaning.specs.Lists.{by-test, picked, same-refl}
 use Rattle.meaning.specs.Save.{isName, isBranchLabel, isTree, isUse, isCarried, isMappedFor, carriesOwn, keepsRules, saved, restore, fitsSave, settled, lastRight}
 use Rattle.meaning.specs.SaveFields.{all-cons}
@@ -53,6 +53,7 @@ said-good a n (receive from s ∷ es) h =
 said-good a n (join e ∷ es) h = said-good a n es (h .1)
 said-good a n (leave e ∷ es) h = said-good a n es (h .1)
 said-good a n (route r via ∷ es) h = said-good a n es (h .1)
+said-good a n (lost k ∷ es) h = picked (λ (ls : List ℕ). all isBranchLabel ls ≡ true) (eqb k n) (λ _. unfold all in refl) (λ _. said-good a n es (h .1))
 
 -- and so is what stands in a tree's place
 place-good : (l : ℕ) → all isBranchLabel (listed l) ≡ true → isBranchLabel l ≡ true

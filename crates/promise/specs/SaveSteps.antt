@@ -9,14 +9,14 @@ use lib.Dec.{eqb}
 use borrow.Author.Tests.{eqb-true, eqb-false, le-leb, ltb-false}
 use Rattle.meaning.specs.Octets.{put, cut, all}
 use Rattle.meaning.specs.Wire.{mapping, withdraw, release, Message, messageIn, elementRefusal, Sent, records, nextId, idsAfter}
-use Rattle.meaning.specs.Card.{noRoute, Tree, free, Card, withNext, withRoutes, withTrees, withLabels, treePlace, routeOf, routePlace}
-use Rattle.meaning.specs.Events.{Out, Outcome, refused, taken, unless, refuse, accept, roomShort, finish, Moved, setUse, relabel, holderOf, entered, swept, enter, become, onMapping, onWithdraw, onRelease, onMessage, noNeighbour, onOctets, onJoin, onLeave, routesWith, notRoute, notRoot, reRoute, onRoute, Event, receive, join, leave, route, outcome, event}
+use Rattle.meaning.specs.Card.{noRoute, Route, Tree, free, Card, withNext, withRoutes, withTrees, withLabels, treePlace, routeOf, routePlace}
+use Rattle.meaning.specs.Events.{Out, Outcome, refused, taken, unless, refuse, accept, roomShort, finish, Moved, setUse, relabel, holderOf, entered, swept, enter, become, onMapping, onWithdraw, onRelease, onMessage, noNeighbour, onOctets, onJoin, onLeave, routesWith, notRoute, notRoot, reRoute, onRoute, Event, receive, join, leave, route, outcome, event, routesWithout, parted, part, onLost, lost}
 use Rattle.meaning.specs.Lists.{by-test, picked, no-when}
 use Rattle.meaning.specs.RoundTrip.{Heard, heard, Sendable, AllSendable}
-use Rattle.meaning.specs.RoutesStay.{relabel-routes}
+use Rattle.meaning.specs.RoutesStay.{relabel-routes, part-routes}
 use Rattle.meaning.specs.Save.{isRoute}
 use Rattle.meaning.specs.SaveFields.{all-cons}
-use Rattle.promise.specs.Promise.{Given, isAbout, mark, remove, noteSent, noteAll, noteTaken, Step, Past, answerTo, sends, isTaken, liveAt, acceptedAt, thenStep, thenSteps, Each}
+use Rattle.promise.specs.Promise.{Given, isAbout, mark, remove, noteSent, noteAll, noteTaken, Step, Past, answerTo, sends, isTaken, liveAt, acceptedAt, thenStep, thenSteps, Each, without}
 use Rattle.promise.specs.CardLaws.{swept-routes}
 use Rattle.promise.specs.EventLaws.{became, Apart, Keeps, event-keeps}
 use Rattle.promise.specs.PromiseProof.{Upheld, sends-said, then-upheld}
@@ -35,6 +35,7 @@ Passed (receive n s) = Heard n (messageIn s .name) (messageIn s .label)
 Passed (join e) = Unit {0}
 Passed (leave e) = Unit {0}
 Passed (route r via) = Unit {0}
+Passed (lost n) = Unit {0}
 
 unfoldable pub Goes : Event → Outcome → Type 0
 Goes e (refused n) = Unit {0}
@@ -58,6 +59,13 @@ all-cut t [] zero h = refl
 all-cut t [] (suc i) h = refl
 all-cut t (y ∷ l) zero h = all-cons t y l h .1
 all-cut t (y ∷ l) (suc i) h = let p = all-cons t y l h in rw (p .0) (all-cut t l i (p .1))
+
+all-without : (t : Route → Bool) (n : ℕ) (rs : List Route) → all t rs ≡ true → all t (routesWithout n rs) ≡ true
+unfolding all routesWithout
+all-without t n [] h = refl
+all-without t n (r ∷ rs) h =
+    let p = all-cons t r rs h in
+    by-test (eqb (r .via) n) (λ e. rw e (all-without t n rs (p .1))) (λ e. rw e (rw (p .0) (all-without t n rs (p .1))))
 
 module _ (c : Card) (good : all isRoute (c .routes) ≡ true) (e : Event) (passed : Passed e) where
   enter-goes : (first : List Sent) (t : Tree) → Goes e (enter c first t)
@@ -110,12 +118,17 @@ module _ (c : Card) (good : all isRoute (c .routes) ≡ true) where
       (λ _. unfold Goes Passed in (good, tt))
       (λ _. unless-goes (route r via) _ _ (λ _. unfold Goes Passed reRoute withRoutes in (new-routes r via (p .0) (no-when 5 (notRoot r) 0 (p .1) .0), tt))))
 
+  lost-goes : (n : ℕ) → Goes (lost n) (part c n)
+  unfolding part Goes Passed
+  lost-goes n = (rw (part-routes n c) (unfold parted withRoutes withTrees withLabels in all-without isRoute n (c .routes) good), tt)
+
   event-goes : (e : Event) → Goes e (outcome c e)
-  unfolding outcome onOctets onJoin onLeave noNeighbour Passed
+  unfolding outcome onOctets onJoin onLeave onLost noNeighbour Passed
   event-goes (receive n s) = unless-goes _ _ _ (λ z. unless-goes _ _ _ (λ e. message-goes c good (receive n s) (unfold Passed in heard n s (suc-le-suc (ltb-false 15 n (no-when 0 _ 0 z .0))) e) n (messageIn s)))
   event-goes (join e) = unless-goes _ _ _ (λ _. become-goes c good (join e) (unfold Passed in tt) _ _)
   event-goes (leave e) = unless-goes _ _ _ (λ _. unless-goes _ _ _ (λ _. unless-goes _ _ _ (λ _. enter-goes c good (leave e) (unfold Passed in tt) _ _)))
   event-goes (route r via) = route-goes r via
+  event-goes (lost n) = unless-goes _ _ _ (λ _. lost-goes n)
 
 -- ---- live labels: each was told to a neighbour, for a name
 
@@ -131,6 +144,11 @@ told-remove : (n : ℕ) (m : Message) (gs : List Given) → Each Told gs → Eac
 unfolding remove Each
 told-remove n m [] h = tt
 told-remove n m (g ∷ gs) h = picked (Each Told) (isAbout n m g) (λ _. told-remove n m gs (h .1)) (λ _. unfold Each in (h .0, told-remove n m gs (h .1)))
+
+told-without : (n : ℕ) (gs : List Given) → Each Told gs → Each Told (without n gs)
+unfolding without Each
+told-without n [] h = tt
+told-without n (g ∷ gs) h = picked (Each Told) (eqb (g .to) n) (λ _. told-without n gs (h .1)) (λ _. unfold Each in (h .0, told-without n gs (h .1)))
 
 told-sent : (m : Sent) (gs : List Given) → Sendable m → Each Told gs → Each Told (noteSent (m .to) (m .message) gs)
 unfolding noteSent
@@ -150,6 +168,7 @@ told-taken (receive n s) gs h = picked (Each Told) (eqb (messageIn s .kind) rele
 told-taken (join e) gs h = h
 told-taken (leave e) gs h = h
 told-taken (route r via) gs h = h
+told-taken (lost n) gs h = told-without n gs h
 
 -- ---- over the steps
 

@@ -8,8 +8,8 @@ use lib.ListN.{length, length-append}
 use lib.Dec.{eqb}
 use Rattle.meaning.specs.Octets.{two}
 use Rattle.meaning.specs.Wire.{Sent, recordOf, nextId, records, recordLimit}
-use Rattle.meaning.specs.Card.{Card, nobody, treeLimit, routeLimit, labelCount, treeAt, routeOf, sentLimit}
-use Rattle.meaning.specs.Events.{Outcome, refused, taken, unless, refuse, accept, roomShort, finish, Moved, still, followedBy, giveUp, give, letGo, takeUp, moveLabel, upstream, holder, ofRoot, moveOne, moveFrom, moveAll, reRoute, onRoute, Event, route, outcome, event}
+use Rattle.meaning.specs.Card.{Card, nobody, treeLimit, routeLimit, labelCount, treeAt, routeOf, sentLimit, leadsOn, heldFor}
+use Rattle.meaning.specs.Events.{Outcome, refused, taken, unless, refuse, accept, roomShort, finish, Moved, still, followedBy, giveUp, give, letGo, takeUp, moveLabel, upstream, holder, ofRoot, moveOne, moveFrom, moveAll, reRoute, onRoute, parted, shed, shedFrom, part, onLost, Event, route, lost, outcome, event}
 use Rattle.meaning.specs.Lists.{by-test, picked}
 use Rattle.meaning.specs.RoundTrip.{AllSendable, Sendable, message-length, name-fits}
 use Rattle.promise.specs.Promise.{Given, noteTaken, Step, sends, history}
@@ -34,6 +34,8 @@ pub record Sized (c : Card) : Type 0 where
   pub short : (s : Step) → AllShort (sends c s)
   -- a route order sends at most two messages for each tree: 22272 octets
   pub order : (room : ℕ) (r : List ℕ) (via : ℕ) → length (event room c (route r via) .octets) ≤ sentLimit
+  -- a loss sends at most one Withdraw for each tree: 11136 octets
+  pub loss : (room n : ℕ) → length (event room c (lost n) .octets) ≤ treeLimit * recordLimit
 
 -- ---- a record
 
@@ -74,6 +76,17 @@ from-two r u zero i c = zero-le
 from-two r u (suc n) i c =
     omega (arith, length-append (moveOne r u i c .sent) (moveFrom r u n (suc i) (moveOne r u i c .card) .sent), one-two r u i c, from-two r u n (suc i) (moveOne r u i c .card))
 
+-- ---- the messages of a loss
+
+shed-one : (i : ℕ) (c : Card) → length (shed i c .sent) ≤ 1
+unfolding shed still
+shed-one i c = picked (λ (m : Moved). length (m .sent) ≤ 1) (leadsOn (heldFor c (treeAt i c)) (treeAt i c)) (λ _. omega arith) (λ _. let-go-one i c)
+
+shed-most : (n i : ℕ) (c : Card) → length (shedFrom n i c .sent) ≤ n
+unfolding shedFrom followedBy still
+shed-most zero i c = zero-le
+shed-most (suc n) i c = omega (arith, length-append (shed i c .sent) (shedFrom n (suc i) (shed i c .card) .sent), shed-one i c, shed-most n (suc i) (shed i c .card))
+
 -- an outcome that sends at most k messages
 unfoldable AtMost : ℕ → Outcome → Type 0
 AtMost k (refused n) = Unit {0}
@@ -90,6 +103,10 @@ route-most c r via =
     unless-most _ _ _ (picked (AtMost (length (c .trees) * 2)) (eqb (routeOf r c) via)
     (λ _. unfold AtMost in zero-le)
     (λ _. unless-most _ _ _ (unfold AtMost in from-two r (upstream via) (length (c .trees)) 0 c)))
+
+lost-most : (c : Card) (n : ℕ) → AtMost (length (c .trees)) (onLost c n)
+unfolding onLost part
+lost-most c n = unless-most _ _ _ (unfold AtMost in shed-most (length (c .trees)) 0 (parted n c))
 
 most-octets : (c : Card) (gs : List Given) (e : Event) (room k : ℕ) (o : Outcome) → AtMost k o → Keeps c (noteTaken e gs) (became e) (Apart e c) o → length (finish room c o .octets) ≤ k * recordLimit
 unfolding finish refuse accept AtMost Keeps
@@ -110,8 +127,16 @@ sizes-kept base steps =
       labels = u .sound .many;
       short = λ s. all-short _ (sends-said p s u);
       order = λ room r via. ordered (p .card) (p .live) (u .sound) (u .ruled) room r via;
+      loss = λ room n. parting (p .card) (p .live) (u .sound) (u .ruled) room n;
     }
   where
+    parting : (c : Card) (gs : List Given) → Sound c gs → Ruled c → (room n : ℕ) → length (event room c (lost n) .octets) ≤ treeLimit * recordLimit
+    parting c gs S R room n =
+        unfold event outcome in
+        let most = most-octets c gs (lost n) room (length (c .trees)) (onLost c n) (lost-most c n) (unfold outcome in event-keeps c gs S (lost n)) in
+        let few = R .trees in
+        omega arith
+
     ordered : (c : Card) (gs : List Given) → Sound c gs → Ruled c → (room : ℕ) (r : List ℕ) (via : ℕ) → length (event room c (route r via) .octets) ≤ sentLimit
     ordered c gs S R room r via =
         unfold event outcome in
