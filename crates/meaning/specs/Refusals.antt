@@ -262,7 +262,7 @@ module _ (room : ℕ) (c : Card) (n : ℕ) (s a : List ℕ) (l : ℕ) where
   leave-rises = refl
 
   pub lost-rises : rises 0 (eventTests room c (lost n)) ≡ true
-  unfolding rises eventTests roomTest
+  unfolding rises rank eventTests roomTest
   lost-rises = refl
 
 -- ---- a refusal leaves all as it was
