@@ -5,3 +5,4 @@ pub mod Head
 pub mod Labels
 pub mod Trees
 pub mod NextFree
+pub mod Apart

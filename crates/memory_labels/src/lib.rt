@@ -28,7 +28,7 @@ pub fn is_free(numbers: &[u64], p: usize) -> bool
 }
 
 // The label at place p of the block is free from now on: its bit is set.
-fn set_free(numbers: &mut [u64], p: usize)
+pub fn set_free(numbers: &mut [u64], p: usize)
     requires { ⌜ Numbers (now numbers) × (p < labelCount) ⌝ }
     ensures { λ _. ⌜ Relabelled p (now (numbers .entry)) (now (numbers .exit)) × (isFreeAt (now (numbers .exit)) p ≡ true) ⌝ }
 {

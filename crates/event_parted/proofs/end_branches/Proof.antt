@@ -1,0 +1,62 @@
+use Prim.Native.Nat.{_-_, _≤_, _<_}
+use native.Mathlib.Omega.{arith}
+use mathlib.Core.Path.{_≡_, refl, _∙_}
+use lib.ListN.{length}
+use Rattle.memory.specs.Memory.{treeCount}
+use Rattle.event_parted.proofs.Branches.{Ending, ending-none, ending-many, ending-more, ending-all}
+use borrow.Author.Needs.{needs}
+use Rattle.event_parted.proofs.end_branches.Statement.{statement}
+use Rattle.event_parted.proofs.end_branches.Tie as tie
+
+abbrev Inv-loop : tie.InvT-loop
+Inv-loop numbers₀ n k i₀ numbers i = (i ≤ k) × (length numbers ≡ length numbers₀) × Ending n i numbers₀ numbers
+
+abbrev μ-loop : tie.MeasureT-loop
+μ-loop numbers₀ n k i₀ numbers i = k - i
+
+tree-count-requires : tie.Need-tree-count-requires Inv-loop μ-loop
+tree-count-requires c κs = search needs
+
+loop-holds : tie.Need-loop-holds Inv-loop μ-loop
+loop-holds c = (omega arith, refl, ending-none _ _)
+
+set-branch-requires : tie.Need-set-branch-requires Inv-loop μ-loop
+set-branch-requires c κs =
+    let s = c .before .before .before .before .before .before in
+    let v = c .before .before .loop .inv in
+    let many = ending-many _ _ _ _ (v .2) in
+    (v .1 ∙ s .pre .0, omega (arith, many, c .before .before .before .tree-count .ensures .0), omega arith, s .pre .1)
+
+add-i : tie.Need-add-i Inv-loop μ-loop
+add-i c = search needs
+
+loop-less : tie.Need-loop-less Inv-loop μ-loop
+loop-less c = search needs
+
+loop-again : tie.Need-loop-again Inv-loop μ-loop
+loop-again c =
+    let s = c .before .before .before .before .before .before .before .before .before in
+    let v = c .before .before .before .before .before .loop .inv in
+    let h : c .before .before .before .before .before .loop .i < treeCount (s .args .numbers .now) = omega (arith, c .before .before .before .before .before .before .tree-count .ensures .0) in
+    (omega arith, c .before .numbers .given ∙ v .1, ending-more _ _ _ _ _ h (v .2) (c .before .before .set-branch .ensures))
+
+same-length : tie.Need-same-length Inv-loop μ-loop
+same-length c = c .before .loop .inv .1
+
+returns : tie.Need-returns Inv-loop μ-loop
+returns c = let v = c .before .loop .inv in ending-all _ _ _ _ _ (c .before .before .tree-count .ensures .0) (v .0) (c .loop-test .left) (v .2)
+
+pub end-branches-spec : {M : Type 1} → statement M
+end-branches-spec =
+    tie.close
+    (tie.spec
+    Inv-loop
+    μ-loop
+    tree-count-requires
+    loop-holds
+    set-branch-requires
+    add-i
+    loop-less
+    loop-again
+    same-length
+    returns)

@@ -1,0 +1,106 @@
+// All that is a lost neighbour's goes: its branches, its labels, the routes through it. Nothing is sent for it.
+ghost use mathlib.Core.Path.{_≡_};
+ghost use mathlib.Core.List.{List, []};
+ghost use Prim.Native.Nat.{ℕ, _+_, _<_};
+ghost use lib.ListN.{getD};
+ghost use lib.Dec.{eqb};
+ghost use Rattle.meaning.specs.Octets.{pick, cut};
+ghost use Rattle.meaning.specs.Card.{noRoute, labelCount, routeLimit, withRoutes, withTrees, withLabels};
+ghost use Rattle.meaning.specs.Events.{usesWithout, routesWithout, parted};
+ghost use Rattle.memory.specs.Sizes.{Numbers, Names};
+ghost use Rattle.memory.specs.Memory.{cardOf, routeCount};
+ghost use Rattle.event_parted.specs.Parted.{branchesWithout, labelsWithout, isOfAt, Freed};
+use meaning::LABEL_COUNT;
+use memory::MARK_COLUMN;
+
+// ---- branches
+
+// Every tree loses neighbour n's branch.
+pub fn end_branches(numbers: &mut [u64], n: usize)
+    requires { ⌜ Numbers (now numbers) × (n < 16) ⌝ }
+    ensures { λ _. ⌜ ((os : List ℕ) → (let c = cardOf (now (numbers .entry)) os in cardOf (now (numbers .exit)) os ≡ withTrees (branchesWithout n (c .trees)) c)) ⌝ }
+{
+    let k = memory::tree_count(numbers);
+    let mut i = 0;
+    while i < k {
+        memory_trees::set_branch(numbers, i, n, 0);
+        i += 1;
+    }
+}
+
+// ---- labels
+
+// Whether the label at place p of the block is neighbour n's: mapped to it, or awaiting its release.
+fn is_of(numbers: &[u64], p: usize, n: u64) -> bool
+    requires { ⌜ Numbers (now numbers) × (p < labelCount) × (n < 16) ⌝ }
+    ensures { λ r. ⌜ r ≡ isOfAt n (now (numbers .entry)) p ⌝ }
+{
+    if memory_labels::is_free(numbers, p) {
+        return false;
+    }
+    let u = numbers[MARK_COLUMN + p] % 256;
+    if u == n {
+        return true;
+    }
+    u == 16 + n
+}
+
+fn free_one(numbers: &mut [u64], p: usize, n: u64)
+    requires { ⌜ Numbers (now numbers) × (p < labelCount) × (n < 16) ⌝ }
+    ensures { λ _. ⌜ Freed n p (p + 1) (now (numbers .entry)) (now (numbers .exit)) ⌝ }
+{
+    if is_of(numbers, p, n) {
+        memory_labels::set_free(numbers, p);
+        return;
+    }
+}
+
+// Every label of neighbour n is free at once, mapped or awaiting. A tree whose label it was has none: a free label has no carrier.
+pub fn free_labels(numbers: &mut [u64], n: u64)
+    requires { ⌜ Numbers (now numbers) × (n < 16) ⌝ }
+    ensures { λ _. ⌜ ((os : List ℕ) → (let c = cardOf (now (numbers .entry)) os in cardOf (now (numbers .exit)) os
+        ≡ withTrees (labelsWithout n c (c .trees)) (withLabels (usesWithout n (c .labels)) c))) ⌝ }
+{
+    let mut p = 0;
+    while p < LABEL_COUNT {
+        free_one(numbers, p, n);
+        p += 1;
+    }
+}
+
+// ---- routes
+
+// The entry at place k goes where its route is through neighbour n.
+fn end_route(numbers: &mut [u64], names: &mut [u8], k: usize, n: u64)
+    requires { ⌜ Numbers (now numbers) × Names (now names) × (k < routeCount (now numbers)) × (k < routeLimit) ⌝ }
+    ensures { λ _. ⌜ (let c = cardOf (now (numbers .entry)) (now (names .entry)) in cardOf (now (numbers .exit)) (now (names .exit))
+        ≡ withRoutes (pick (eqb (getD (c .routes) k (record { root = []; via = noRoute }) .via) n) (cut (c .routes) k) (c .routes)) c) ⌝ }
+{
+    if memory_routes::route_via(numbers, k) == n {
+        memory_routes::remove_route(numbers, names, k);
+        return;
+    }
+}
+
+// From the last down: an entry that goes moves only those behind it, which have been looked at.
+pub fn end_routes(numbers: &mut [u64], names: &mut [u8], n: u64)
+    requires { ⌜ Numbers (now numbers) × Names (now names) ⌝ }
+    ensures { λ _. ⌜ (let c = cardOf (now (numbers .entry)) (now (names .entry)) in cardOf (now (numbers .exit)) (now (names .exit)) ≡ withRoutes (routesWithout n (c .routes)) c) ⌝ }
+{
+    let mut k = memory::route_count(numbers);
+    while 0 < k {
+        k -= 1;
+        end_route(numbers, names, k, n);
+    }
+}
+
+// ---- all of it
+
+pub fn part_from(numbers: &mut [u64], names: &mut [u8], n: usize)
+    requires { ⌜ Numbers (now numbers) × Names (now names) × (n < 16) ⌝ }
+    ensures { λ _. ⌜ cardOf (now (numbers .exit)) (now (names .exit)) ≡ parted n (cardOf (now (numbers .entry)) (now (names .entry))) ⌝ }
+{
+    end_branches(numbers, n);
+    free_labels(numbers, n as u64);
+    end_routes(numbers, names, n as u64);
+}
