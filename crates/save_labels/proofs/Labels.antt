@@ -8,8 +8,8 @@ use mathlib.Core.Bool.{Bool, true, false}
 use mathlib.Core.List.{List, [], _∷_}
 use lib.ListN.{length, drop, getD, set, length-set}
 use lib.Seq.{drop-drop, getD-drop, set-getD, set-out}
-use lib.Dec.{eqb, ltb}
-use borrow.Author.Tests.{lt-ltb, le-ltb, ltb-true, ltb-false}
+use lib.Dec.{eqb, leb, ltb}
+use borrow.Author.Tests.{lt-ltb, le-ltb, ltb-true, ltb-false, leb-true, leb-false, eqb-true, eqb-false}
 use Rattle.meaning.specs.Octets.{pick, place, any, same, twoAt, fourAt}
 use Rattle.meaning.specs.Lists.{by-test, place-finds, same-eq, same-no}
 use Rattle.meaning.specs.Card.{Tree, Use, free, mapped, awaiting, Card, fresh, withNext, withRoutes, withTrees, withLabels, withLabel, bare, treeAt, named, labelCount, withLast, isFree}
@@ -296,6 +296,12 @@ module _ (o : List ℕ) where
 -- none is in use from place p on
 abbrev pub NoneFrom : List ℕ → ℕ → Type 0
 NoneFrom ns p = (q : ℕ) → p ≤ q → q < labelCount → isFreeAt ns q ≡ true
+
+pub none-more : (ns : List ℕ) (p : ℕ) → 0 < p → NoneFrom ns p → isFreeAt ns (p - 1) ≡ true → NoneFrom ns (p - 1)
+none-more ns p some none f q lo hi =
+    by-test (eqb q (p - 1))
+    (λ e. rw (eqb-true q (p - 1) e) f)
+    (λ e. let ne = eqb-false q (p - 1) e in none q (by-test (leb p q) (λ h. leb-true p q h) (λ h. let k = leb-false p q h in absurd (ne (omega arith)))) hi)
 
 module _ (ns os : List ℕ) where
   at-place : (q : ℕ) → q < labelCount → isFree (getD (cardOf ns os .labels) q free) ≡ isFreeAt ns q

@@ -42,6 +42,9 @@ label-trees-requires c κs =
     let card : Card = cardOf (s .args .numbers .now) (s .args .names .now) in
     (c .before .before .before .before .before .numbers .given ∙ s .pre .0, c .before .before .before .names .given ∙ s .pre .1, unlabelled-kept card _ _ (rows-unlabelled (s .args .octets .now) card (s .pre .4)) (at-read-uses .read-uses .ensures), once-kept card _ _ (s .pre .5) (at-read-uses .read-uses .ensures))
 
+settle-requires : tie.Need-settle-requires
+settle-requires c κs = search needs
+
 same-length : tie.Need-same-length
 same-length c = search needs
 
@@ -50,12 +53,14 @@ same-length-2 c = search needs
 
 returns : tie.Need-returns
 returns c =
-    let at-read-uses = c .before .before .before .before .before .before .before .before .before in
+    let at-settle = c .before .before in
+    let at-label-trees = at-settle .before .before .before .before in
+    let at-read-uses = at-label-trees .before .before .before .before .before .before .before in
     let at-two-at = at-read-uses .before .before .before in
     let at-at2 = at-two-at .before in
     let at-at = at-at2 .before in
     let s = at-at .before .before .before .before in
-    table-whole (s .args .octets .now) _ _ _ _ _ _ (s .pre .4) (at-read-uses .read-uses .ensures) (c .before .before .label-trees .ensures) (at-two-at .two-at .ensures .0) (at-at .at .ensures .0) (at-at2 .at2 .ensures .0)
+    table-whole (s .args .octets .now) _ _ _ _ _ _ _ (s .pre .4) (at-read-uses .read-uses .ensures) (at-label-trees .label-trees .ensures) (at-two-at .two-at .ensures .0) (at-at .at .ensures .0) (at-at2 .at2 .ensures .0) (at-settle .settle .ensures _)
 
 pub read-labels-spec : {M : Type 1} → statement M
 read-labels-spec =
@@ -70,6 +75,7 @@ read-labels-spec =
     add-read-uses-2
     read-uses-requires
     label-trees-requires
+    settle-requires
     same-length
     same-length-2
     returns)
