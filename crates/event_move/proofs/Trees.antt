@@ -76,19 +76,19 @@ one-size r u i id c h =
 moved-ext : (s s' : List Sent) (c : Card) → s ≡ s' → _≡_ {A = Moved} (record { sent = s; card = c }) (record { sent = s'; card = c })
 moved-ext s s' c e = ap (λ (x : List Sent). record { sent = x; card = c }) e
 
-still-then : (c : Card) (f : Card → Moved) → followedBy (still c) f ≡ f c
+pub still-then : (c : Card) (f : Card → Moved) → followedBy (still c) f ≡ f c
 unfolding followedBy still
 still-then c f = refl
 
-then-then : (m : Moved) (f g : Card → Moved) → followedBy (followedBy m f) g ≡ followedBy m (λ (c : Card). followedBy (f c) g)
+pub then-then : (m : Moved) (f g : Card → Moved) → followedBy (followedBy m f) g ≡ followedBy m (λ (c : Card). followedBy (f c) g)
 unfolding followedBy
 then-then m f g = moved-ext _ _ _ (append-assoc (m .sent) (f (m .card) .sent) _)
 
-then-still : (m : Moved) → followedBy m still ≡ m
+pub then-still : (m : Moved) → followedBy m still ≡ m
 unfolding followedBy still
 then-still m = moved-ext _ _ _ (append-nil (m .sent))
 
-then-same : (m : Moved) (f g : Card → Moved) → f (m .card) ≡ g (m .card) → followedBy m f ≡ followedBy m g
+pub then-same : (m : Moved) (f g : Card → Moved) → f (m .card) ≡ g (m .card) → followedBy m f ≡ followedBy m g
 unfolding followedBy
 then-same m f g e = ap (λ (n : Moved). record { sent = m .sent ++ n .sent; card = n .card }) e
 

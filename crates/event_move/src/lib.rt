@@ -40,7 +40,7 @@ fn give_up(
     Written { at: end, id: next }
 }
 
-fn let_go(
+pub fn let_go(
     numbers: &mut [u64],
     names: &[u8],
     i: usize,

@@ -1,22 +1,21 @@
 -- Labels: those of the lost neighbour are free, and the trees that carried one have none. Assumes nothing.
 use Prim.Native.Nat.{ℕ, zero, suc, _+_, _*_, _-_, _≤_, _<_}
 use native.Mathlib.Omega.{arith}
-use mathlib.Core.Path.{_≡_, refl, sym, ap, ap₂, _∙_}
-use mathlib.Core.Bool.{Bool, true, false, not, _&&_, _||_}
-use mathlib.Core.List.{List, [], _∷_}
-use lib.ListN.{length, getD}
+use mathlib.Core.Path.{_≡_, refl, sym, ap, _∙_}
+use mathlib.Core.Bool.{Bool, true, false}
+use mathlib.Core.List.{List, _∷_}
 use lib.Dec.{eqb, ltb}
 use borrow.Author.Tests.{ltb-true, ltb-false, eq-eqb, ne-eqb, eqb-true, eqb-false}
 use Rattle.meaning.specs.Octets.{pick}
 use Rattle.meaning.specs.Lists.{by-test}
-use Rattle.meaning.specs.Card.{Tree, Use, free, mapped, awaiting, Card, withTrees, withLabels, withLabel, treeAt, mappedTo, heldFor, labelCount}
+use Rattle.meaning.specs.Card.{Tree, Use, free, Card, withTrees, withLabels, withLabel, treeAt, mappedTo, heldFor, labelCount}
 use Rattle.meaning.specs.Events.{isOf, freedOf, usesWithout}
 use Rattle.octets.specs.Part.{tab}
 use Rattle.octets.proofs.Tab.{tab-ext}
-use Rattle.memory.specs.Sizes.{nameSpace, rootOctets, rootNames, markColumn, ownColumn}
-use Rattle.memory.specs.Memory.{labelName, baseIn, treeCount, isFreeAt, isMappedAt, markAt, markUse, labelIn, ownPlace, carriesAt, ownLabel, treeIn, cardOf, Relabelled}
+use Rattle.memory.specs.Sizes.{nameSpace, rootOctets, rootNames, ownColumn}
+use Rattle.memory.specs.Memory.{treeCount, isFreeAt, markAt, markUse, labelIn, ownPlace, carriesAt, ownLabel, treeIn, cardOf, Relabelled}
 use Rattle.memory.proofs.Memory.{treeCount-le, own-same, tree-with, tree-at, but-rows, agree-refl}
-use Rattle.memory.proofs.Marks.{never, mapped-use, unmapped-free, label-free, label-mapped, label-awaiting, carried-out, not-far, not-mapped, own-some, own-none}
+use Rattle.memory.proofs.Marks.{never, mapped-use, unmapped-free, label-free, label-mapped, label-awaiting, carried-out, not-far, not-mapped, own-none}
 use Rattle.memory.proofs.Trees.{held-some}
 use Rattle.event_parted.specs.Parted.{labelsWithout, isOfAt, Freed}
 

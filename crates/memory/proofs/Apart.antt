@@ -2,17 +2,15 @@
 use Prim.Native.Nat.{ℕ, _+_, _≤_, _<_}
 use native.Mathlib.Omega.{arith}
 use mathlib.Core.Path.{_≡_, refl, sym, ap, _∙_}
-use mathlib.Core.Bool.{Bool, true, false, _&&_}
+use mathlib.Core.Bool.{true, false, _&&_}
 use mathlib.Core.List.{List}
-use lib.ListN.{length, getD}
+use lib.ListN.{length}
 use lib.Dec.{eqb, ltb}
 use borrow.Author.Tests.{eqb-true}
-use Rattle.meaning.specs.Octets.{pick}
 use Rattle.meaning.specs.Lists.{by-test}
 use Rattle.meaning.specs.RoundTrip.{both}
-use Rattle.meaning.specs.Card.{Tree, treeAt, bare, labelCount}
+use Rattle.meaning.specs.Card.{Tree, treeAt, labelCount}
 use Rattle.meaning.specs.Losses.{Apart}
-use Rattle.octets.specs.Part.{tab}
 use Rattle.octets.proofs.Tab.{tab-length, tab-get}
 use Rattle.memory.specs.Memory.{baseIn, treeCount, isMappedAt, markAt, markPlace, ownPlace, carriesAt, ownLabel, treeIn, cardOf}
 use Rattle.memory.proofs.Memory.{base-range}
