@@ -12,7 +12,7 @@ use Rattle.meaning.specs.Lists.{positive, by-test}
 use Rattle.meaning.specs.Wire.{Message, mapping, withdraw, release, messageIn, messageRefusal, elementRefusal, nameLimit}
 use Rattle.meaning.specs.RoundTrip.{heard, name-fits}
 use Rattle.meaning.specs.Card.{Card, fresh, withNext}
-use Rattle.meaning.specs.Events.{Outcome, refused, unless, refuse, accept, finish, onMapping, onWithdraw, onRelease, onMessage, noNeighbour, onOctets, onJoin, onLeave, notRoute, notRoot, onRoute, receive, join, leave, route, outcome, event, baseOutside, start}
+use Rattle.meaning.specs.Events.{Outcome, refused, unless, refuse, accept, finish, onMapping, onWithdraw, onRelease, onMessage, noNeighbour, onOctets, onJoin, onLeave, notRoute, notRoot, onRoute, part, onLost, receive, join, leave, route, lost, outcome, event, baseOutside, start}
 use Rattle.meaning.specs.Calls.{Does}
 use Rattle.event_leaf.specs.Order.{joinOf, leaveOf}
 use Rattle.event_tree.proofs.Ends.{does-refused}
@@ -156,3 +156,14 @@ module _ (c : Card) (r : List ℕ) (via : ℕ) where
   pub route-is : via ≤ 17 → notRoot r ≡ false → (room : ℕ) → finish room c (routeOrder c r via) ≡ event room c (route r via)
   unfolding event outcome onRoute notRoute routeOrder
   route-is h e room = rw (le-ltb 17 via h, e) (unfold _when_else_ unless in refl)
+
+-- ---- a loss
+
+module _ (c : Card) (n : ℕ) where
+  pub lost-far : 15 < n → (t : List ℕ) → Does (event (length t) c (lost n)) 1 0 t t c
+  unfolding event outcome onLost noNeighbour
+  lost-far h t = rw (lt-ltb 15 n h) (unfold _when_else_ unless in does-refused c 1 t)
+
+  pub lost-is : n ≤ 15 → (room : ℕ) → finish room c (part c n) ≡ event room c (lost n)
+  unfolding event outcome onLost noNeighbour
+  lost-is h room = rw (le-ltb 15 n h) (unfold _when_else_ unless in refl)

@@ -7,7 +7,7 @@ ghost use lib.ListN.{length};
 ghost use denote.Ref.{ptr};
 ghost use Rattle.meaning.specs.Wire.{nameLimit};
 ghost use Rattle.meaning.specs.Card.{freeLabels, lookupLabel, lookupName};
-ghost use Rattle.meaning.specs.Events.{start, event, finish, onMessage, receive, join, leave, route, notRoot};
+ghost use Rattle.meaning.specs.Events.{start, event, finish, onMessage, receive, join, leave, route, lost, notRoot};
 ghost use Rattle.meaning.specs.Calls.{Does, Hands};
 ghost use Rattle.memory.specs.Sizes.{Numbers, Names};
 ghost use Rattle.memory.specs.Memory.{cardOf};
@@ -246,6 +246,39 @@ pub fn route<'a>(
         (now (answer .exit)) (now r) (cardOf (now (numbers .exit)) (now (names .exit))) × (ptr r ≡ ptr (out .entry)) ⌝ }
 {
     let n = route_core(numbers, names, root, via, &mut *out, answer);
+    &mut out[..n]
+}
+
+// ---- a neighbour's session is lost
+
+pub fn lost_core(
+    numbers: &mut [u64; NUMBER_COUNT],
+    names: &mut [u8; OCTET_COUNT],
+    neighbour: u32,
+    out: &mut [u8],
+    answer: &mut u32,
+) -> usize
+    ensures { λ r. ⌜ Does (event (length (now (out .entry))) (cardOf (now (numbers .entry)) (now (names .entry))) (lost neighbour))
+        (now (answer .exit)) r (now (out .entry)) (now (out .exit)) (cardOf (now (numbers .exit)) (now (names .exit))) ⌝ }
+{
+    if 15 < neighbour {
+        *answer = 1;
+        return 0;
+    }
+    event_lost::lose(numbers, names, neighbour as usize, out, answer)
+}
+
+pub fn lost<'a>(
+    numbers: &mut [u64; NUMBER_COUNT],
+    names: &mut [u8; OCTET_COUNT],
+    neighbour: u32,
+    out: &'a mut [u8],
+    answer: &mut u32,
+) -> &'a mut [u8]
+    ensures { λ r. ⌜ Hands (event (length (now (out .entry))) (cardOf (now (numbers .entry)) (now (names .entry))) (lost neighbour))
+        (now (answer .exit)) (now r) (cardOf (now (numbers .exit)) (now (names .exit))) × (ptr r ≡ ptr (out .entry)) ⌝ }
+{
+    let n = lost_core(numbers, names, neighbour, &mut *out, answer);
     &mut out[..n]
 }
 
