@@ -106,7 +106,7 @@ enum card_answer {
 uint32_t card_start(uint64_t numbers[CARD_NUMBERS], uint32_t base);
 
 /*
- * The four events. Each is lent the card, what came, an output buffer and a place for the answer. It sets *answer to a
+ * The five events. Each is lent the card, what came, an output buffer and a place for the answer. It sets *answer to a
  * number of enum card_answer and returns how many octets of `out` it wrote, from its front; the rest of `out` keeps its
  * octets. They are records, one behind the other, each a message to send:
  *
@@ -132,6 +132,14 @@ size_t card_leave(uint64_t numbers[CARD_NUMBERS], uint8_t names[CARD_NAMES], con
 /* From now on the route of a root, 4 or 16 octets, is a neighbour, CARD_THIS_NODE or CARD_NO_ROUTE. */
 size_t card_route(uint64_t numbers[CARD_NUMBERS], uint8_t names[CARD_NAMES], const uint8_t *root, size_t root_length,
                   uint32_t route, uint8_t *out, size_t out_length, uint32_t *answer);
+
+/*
+ * A neighbour's session is lost: its branches go, its labels are free at once, and routes through it become "no route".
+ * Nothing is sent to it; others are sent Withdraws, at most one for each tree. The caller vouches that the lost
+ * neighbour has stopped using the labels that it was given.
+ */
+size_t card_lost(uint64_t numbers[CARD_NUMBERS], uint8_t names[CARD_NAMES], uint32_t neighbour, uint8_t *out,
+                 size_t out_length, uint32_t *answer);
 
 /*
  * Lookups, by a label of ours or by the octets of one element. All of `branches` is written: at each neighbour's number

@@ -86,7 +86,7 @@ pub tells-bad : (l : List ℕ) (s : Said) → s ≡ Said.bad → Tells l s Order
 unfolding meant
 tells-bad l s e = record { means = rw e; lies = tt }
 
-pub none-bad : (l : List ℕ) (v : Verb) → OneOf (0 ∷ 1 ∷ 2 ∷ 3 ∷ 4 ∷ 5 ∷ 6 ∷ 7 ∷ 9 ∷ 11 ∷ 12 ∷ []) (tagOf the-type v) → Tells l (does v []) Order.Bad
+pub none-bad : (l : List ℕ) (v : Verb) → OneOf (0 ∷ 1 ∷ 2 ∷ 3 ∷ 4 ∷ 5 ∷ 6 ∷ 7 ∷ 9 ∷ 11 ∷ 12 ∷ 13 ∷ []) (tagOf the-type v) → Tells l (does v []) Order.Bad
 unfolding does withNumber withHex withSave withNumberHex withHexNumber withNumbersHex
 none-bad l Verb.Start h = tells-bad l _ refl
 none-bad l Verb.Room h = tells-bad l _ refl
@@ -96,10 +96,11 @@ none-bad l Verb.Leave h = tells-bad l _ refl
 none-bad l Verb.Route h = tells-bad l _ refl
 none-bad l Verb.Label h = tells-bad l _ refl
 none-bad l Verb.Tree h = tells-bad l _ refl
-none-bad l Verb.Free h = absurd (miss (0 ∷ 1 ∷ 2 ∷ 3 ∷ 4 ∷ 5 ∷ 6 ∷ 7 ∷ 9 ∷ 11 ∷ 12 ∷ []) 8 tt h)
+none-bad l Verb.Free h = absurd (miss (0 ∷ 1 ∷ 2 ∷ 3 ∷ 4 ∷ 5 ∷ 6 ∷ 7 ∷ 9 ∷ 11 ∷ 12 ∷ 13 ∷ []) 8 tt h)
 none-bad l Verb.Notice h = tells-bad l _ refl
-none-bad l Verb.Save h = absurd (miss (0 ∷ 1 ∷ 2 ∷ 3 ∷ 4 ∷ 5 ∷ 6 ∷ 7 ∷ 9 ∷ 11 ∷ 12 ∷ []) 10 tt h)
+none-bad l Verb.Save h = absurd (miss (0 ∷ 1 ∷ 2 ∷ 3 ∷ 4 ∷ 5 ∷ 6 ∷ 7 ∷ 9 ∷ 11 ∷ 12 ∷ 13 ∷ []) 10 tt h)
 none-bad l Verb.Restore h = tells-bad l _ refl
+none-bad l Verb.Lost h = tells-bad l _ refl
 none-bad l Verb.Other h = tells-bad l _ refl
 
 either : (b : Bool) (s : Said) → s ≡ Said.bad → pick b s Said.bad ≡ Said.bad
@@ -124,90 +125,95 @@ pub no-as-hex : (v : Verb) (w : List ℕ) (b : Bool) → b ≡ isHex w → b ≡
 unfolding asHex
 no-as-hex v w b e g = rw (sym e ∙ g)
 
-pub numbered-other : (v : Verb) (n : ℕ) → OneOf (2 ∷ 3 ∷ 4 ∷ 5 ∷ 7 ∷ 8 ∷ 9 ∷ 10 ∷ 11 ∷ 12 ∷ []) (tagOf the-type v) → numbered v n ≡ Said.bad
+pub numbered-other : (v : Verb) (n : ℕ) → OneOf (2 ∷ 3 ∷ 4 ∷ 5 ∷ 7 ∷ 8 ∷ 9 ∷ 10 ∷ 11 ∷ 13 ∷ []) (tagOf the-type v) → numbered v n ≡ Said.bad
 unfolding numbered
-numbered-other Verb.Start n h = absurd (miss (2 ∷ 3 ∷ 4 ∷ 5 ∷ 7 ∷ 8 ∷ 9 ∷ 10 ∷ 11 ∷ 12 ∷ []) 0 tt h)
-numbered-other Verb.Room n h = absurd (miss (2 ∷ 3 ∷ 4 ∷ 5 ∷ 7 ∷ 8 ∷ 9 ∷ 10 ∷ 11 ∷ 12 ∷ []) 1 tt h)
+numbered-other Verb.Start n h = absurd (miss (2 ∷ 3 ∷ 4 ∷ 5 ∷ 7 ∷ 8 ∷ 9 ∷ 10 ∷ 11 ∷ 13 ∷ []) 0 tt h)
+numbered-other Verb.Room n h = absurd (miss (2 ∷ 3 ∷ 4 ∷ 5 ∷ 7 ∷ 8 ∷ 9 ∷ 10 ∷ 11 ∷ 13 ∷ []) 1 tt h)
 numbered-other Verb.Take n h = refl
 numbered-other Verb.Join n h = refl
 numbered-other Verb.Leave n h = refl
 numbered-other Verb.Route n h = refl
-numbered-other Verb.Label n h = absurd (miss (2 ∷ 3 ∷ 4 ∷ 5 ∷ 7 ∷ 8 ∷ 9 ∷ 10 ∷ 11 ∷ 12 ∷ []) 6 tt h)
+numbered-other Verb.Label n h = absurd (miss (2 ∷ 3 ∷ 4 ∷ 5 ∷ 7 ∷ 8 ∷ 9 ∷ 10 ∷ 11 ∷ 13 ∷ []) 6 tt h)
 numbered-other Verb.Tree n h = refl
 numbered-other Verb.Free n h = refl
 numbered-other Verb.Notice n h = refl
 numbered-other Verb.Save n h = refl
 numbered-other Verb.Restore n h = refl
+numbered-other Verb.Lost n h = absurd (miss (2 ∷ 3 ∷ 4 ∷ 5 ∷ 7 ∷ 8 ∷ 9 ∷ 10 ∷ 11 ∷ 13 ∷ []) 12 tt h)
 numbered-other Verb.Other n h = refl
 
-pub octets-other : (v : Verb) (o : List ℕ) → OneOf (0 ∷ 1 ∷ 2 ∷ 5 ∷ 6 ∷ 8 ∷ 9 ∷ 10 ∷ 11 ∷ 12 ∷ []) (tagOf the-type v) → withOctets v o ≡ Said.bad
+pub octets-other : (v : Verb) (o : List ℕ) → OneOf (0 ∷ 1 ∷ 2 ∷ 5 ∷ 6 ∷ 8 ∷ 9 ∷ 10 ∷ 11 ∷ 12 ∷ 13 ∷ []) (tagOf the-type v) → withOctets v o ≡ Said.bad
 unfolding withOctets
 octets-other Verb.Start o h = refl
 octets-other Verb.Room o h = refl
 octets-other Verb.Take o h = refl
-octets-other Verb.Join o h = absurd (miss (0 ∷ 1 ∷ 2 ∷ 5 ∷ 6 ∷ 8 ∷ 9 ∷ 10 ∷ 11 ∷ 12 ∷ []) 3 tt h)
-octets-other Verb.Leave o h = absurd (miss (0 ∷ 1 ∷ 2 ∷ 5 ∷ 6 ∷ 8 ∷ 9 ∷ 10 ∷ 11 ∷ 12 ∷ []) 4 tt h)
+octets-other Verb.Join o h = absurd (miss (0 ∷ 1 ∷ 2 ∷ 5 ∷ 6 ∷ 8 ∷ 9 ∷ 10 ∷ 11 ∷ 12 ∷ 13 ∷ []) 3 tt h)
+octets-other Verb.Leave o h = absurd (miss (0 ∷ 1 ∷ 2 ∷ 5 ∷ 6 ∷ 8 ∷ 9 ∷ 10 ∷ 11 ∷ 12 ∷ 13 ∷ []) 4 tt h)
 octets-other Verb.Route o h = refl
 octets-other Verb.Label o h = refl
-octets-other Verb.Tree o h = absurd (miss (0 ∷ 1 ∷ 2 ∷ 5 ∷ 6 ∷ 8 ∷ 9 ∷ 10 ∷ 11 ∷ 12 ∷ []) 7 tt h)
+octets-other Verb.Tree o h = absurd (miss (0 ∷ 1 ∷ 2 ∷ 5 ∷ 6 ∷ 8 ∷ 9 ∷ 10 ∷ 11 ∷ 12 ∷ 13 ∷ []) 7 tt h)
 octets-other Verb.Free o h = refl
 octets-other Verb.Notice o h = refl
 octets-other Verb.Save o h = refl
 octets-other Verb.Restore o h = refl
+octets-other Verb.Lost o h = refl
 octets-other Verb.Other o h = refl
 
-pub one-number-does : (v : Verb) (w : List ℕ) → OneOf (0 ∷ 1 ∷ 6 ∷ []) (tagOf the-type v) → does v (w ∷ []) ≡ asNumber v w
+pub one-number-does : (v : Verb) (w : List ℕ) → OneOf (0 ∷ 1 ∷ 6 ∷ 12 ∷ []) (tagOf the-type v) → does v (w ∷ []) ≡ asNumber v w
 unfolding does withNumber asNumber numbered
 one-number-does Verb.Start w h = refl
 one-number-does Verb.Room w h = refl
-one-number-does Verb.Take w h = absurd (miss (0 ∷ 1 ∷ 6 ∷ []) 2 tt h)
-one-number-does Verb.Join w h = absurd (miss (0 ∷ 1 ∷ 6 ∷ []) 3 tt h)
-one-number-does Verb.Leave w h = absurd (miss (0 ∷ 1 ∷ 6 ∷ []) 4 tt h)
-one-number-does Verb.Route w h = absurd (miss (0 ∷ 1 ∷ 6 ∷ []) 5 tt h)
+one-number-does Verb.Take w h = absurd (miss (0 ∷ 1 ∷ 6 ∷ 12 ∷ []) 2 tt h)
+one-number-does Verb.Join w h = absurd (miss (0 ∷ 1 ∷ 6 ∷ 12 ∷ []) 3 tt h)
+one-number-does Verb.Leave w h = absurd (miss (0 ∷ 1 ∷ 6 ∷ 12 ∷ []) 4 tt h)
+one-number-does Verb.Route w h = absurd (miss (0 ∷ 1 ∷ 6 ∷ 12 ∷ []) 5 tt h)
 one-number-does Verb.Label w h = refl
-one-number-does Verb.Tree w h = absurd (miss (0 ∷ 1 ∷ 6 ∷ []) 7 tt h)
-one-number-does Verb.Free w h = absurd (miss (0 ∷ 1 ∷ 6 ∷ []) 8 tt h)
-one-number-does Verb.Notice w h = absurd (miss (0 ∷ 1 ∷ 6 ∷ []) 9 tt h)
-one-number-does Verb.Save w h = absurd (miss (0 ∷ 1 ∷ 6 ∷ []) 10 tt h)
-one-number-does Verb.Restore w h = absurd (miss (0 ∷ 1 ∷ 6 ∷ []) 11 tt h)
-one-number-does Verb.Other w h = absurd (miss (0 ∷ 1 ∷ 6 ∷ []) 12 tt h)
+one-number-does Verb.Tree w h = absurd (miss (0 ∷ 1 ∷ 6 ∷ 12 ∷ []) 7 tt h)
+one-number-does Verb.Free w h = absurd (miss (0 ∷ 1 ∷ 6 ∷ 12 ∷ []) 8 tt h)
+one-number-does Verb.Notice w h = absurd (miss (0 ∷ 1 ∷ 6 ∷ 12 ∷ []) 9 tt h)
+one-number-does Verb.Save w h = absurd (miss (0 ∷ 1 ∷ 6 ∷ 12 ∷ []) 10 tt h)
+one-number-does Verb.Restore w h = absurd (miss (0 ∷ 1 ∷ 6 ∷ 12 ∷ []) 11 tt h)
+one-number-does Verb.Lost w h = refl
+one-number-does Verb.Other w h = absurd (miss (0 ∷ 1 ∷ 6 ∷ 12 ∷ []) 13 tt h)
 
-pub one-hex-does : (v : Verb) (w : List ℕ) → OneOf (2 ∷ 3 ∷ 4 ∷ 5 ∷ 7 ∷ 8 ∷ 9 ∷ 10 ∷ 12 ∷ []) (tagOf the-type v) → does v (w ∷ []) ≡ asHex v w
+pub one-hex-does : (v : Verb) (w : List ℕ) → OneOf (2 ∷ 3 ∷ 4 ∷ 5 ∷ 7 ∷ 8 ∷ 9 ∷ 10 ∷ 13 ∷ []) (tagOf the-type v) → does v (w ∷ []) ≡ asHex v w
 unfolding does withNumber withHex withSave withNumberHex withHexNumber withNumbersHex asHex withOctets
-one-hex-does Verb.Start w h = absurd (miss (2 ∷ 3 ∷ 4 ∷ 5 ∷ 7 ∷ 8 ∷ 9 ∷ 10 ∷ 12 ∷ []) 0 tt h)
-one-hex-does Verb.Room w h = absurd (miss (2 ∷ 3 ∷ 4 ∷ 5 ∷ 7 ∷ 8 ∷ 9 ∷ 10 ∷ 12 ∷ []) 1 tt h)
+one-hex-does Verb.Start w h = absurd (miss (2 ∷ 3 ∷ 4 ∷ 5 ∷ 7 ∷ 8 ∷ 9 ∷ 10 ∷ 13 ∷ []) 0 tt h)
+one-hex-does Verb.Room w h = absurd (miss (2 ∷ 3 ∷ 4 ∷ 5 ∷ 7 ∷ 8 ∷ 9 ∷ 10 ∷ 13 ∷ []) 1 tt h)
 one-hex-does Verb.Take w h = either (isNumber w) Said.bad refl ∙ sym (either (isHex w) Said.bad refl)
 one-hex-does Verb.Join w h = refl
 one-hex-does Verb.Leave w h = refl
 one-hex-does Verb.Route w h = refl
-one-hex-does Verb.Label w h = absurd (miss (2 ∷ 3 ∷ 4 ∷ 5 ∷ 7 ∷ 8 ∷ 9 ∷ 10 ∷ 12 ∷ []) 6 tt h)
+one-hex-does Verb.Label w h = absurd (miss (2 ∷ 3 ∷ 4 ∷ 5 ∷ 7 ∷ 8 ∷ 9 ∷ 10 ∷ 13 ∷ []) 6 tt h)
 one-hex-does Verb.Tree w h = refl
 one-hex-does Verb.Free w h = sym (either (isHex w) Said.bad refl)
 one-hex-does Verb.Notice w h = either (isNumber w) Said.bad refl ∙ sym (either (isHex w) Said.bad refl)
 one-hex-does Verb.Save w h = sym (either (isHex w) Said.bad refl)
-one-hex-does Verb.Restore w h = absurd (miss (2 ∷ 3 ∷ 4 ∷ 5 ∷ 7 ∷ 8 ∷ 9 ∷ 10 ∷ 12 ∷ []) 11 tt h)
+one-hex-does Verb.Restore w h = absurd (miss (2 ∷ 3 ∷ 4 ∷ 5 ∷ 7 ∷ 8 ∷ 9 ∷ 10 ∷ 13 ∷ []) 11 tt h)
+one-hex-does Verb.Lost w h = absurd (miss (2 ∷ 3 ∷ 4 ∷ 5 ∷ 7 ∷ 8 ∷ 9 ∷ 10 ∷ 13 ∷ []) 12 tt h)
 one-hex-does Verb.Other w h = sym (either (isHex w) Said.bad refl)
 
 -- ---- two further words, and more
 
-pub two-bad : (l : List ℕ) (v : Verb) (w x : List ℕ) → OneOf (0 ∷ 1 ∷ 3 ∷ 4 ∷ 6 ∷ 7 ∷ 8 ∷ 9 ∷ 10 ∷ 11 ∷ 12 ∷ []) (tagOf the-type v) → Tells l (does v (w ∷ x ∷ [])) Order.Bad
+pub two-bad : (l : List ℕ) (v : Verb) (w x : List ℕ) → OneOf (0 ∷ 1 ∷ 3 ∷ 4 ∷ 6 ∷ 7 ∷ 8 ∷ 9 ∷ 10 ∷ 11 ∷ 12 ∷ 13 ∷ []) (tagOf the-type v) → Tells l (does v (w ∷ x ∷ [])) Order.Bad
 unfolding does withNumber withHex withSave withNumberHex withHexNumber withNumbersHex
 two-bad l Verb.Start w x h = tells-bad l _ refl
 two-bad l Verb.Room w x h = tells-bad l _ refl
-two-bad l Verb.Take w x h = absurd (miss (0 ∷ 1 ∷ 3 ∷ 4 ∷ 6 ∷ 7 ∷ 8 ∷ 9 ∷ 10 ∷ 11 ∷ 12 ∷ []) 2 tt h)
+two-bad l Verb.Take w x h = absurd (miss (0 ∷ 1 ∷ 3 ∷ 4 ∷ 6 ∷ 7 ∷ 8 ∷ 9 ∷ 10 ∷ 11 ∷ 12 ∷ 13 ∷ []) 2 tt h)
 two-bad l Verb.Join w x h = tells-bad l _ refl
 two-bad l Verb.Leave w x h = tells-bad l _ refl
-two-bad l Verb.Route w x h = absurd (miss (0 ∷ 1 ∷ 3 ∷ 4 ∷ 6 ∷ 7 ∷ 8 ∷ 9 ∷ 10 ∷ 11 ∷ 12 ∷ []) 5 tt h)
+two-bad l Verb.Route w x h = absurd (miss (0 ∷ 1 ∷ 3 ∷ 4 ∷ 6 ∷ 7 ∷ 8 ∷ 9 ∷ 10 ∷ 11 ∷ 12 ∷ 13 ∷ []) 5 tt h)
 two-bad l Verb.Label w x h = tells-bad l _ refl
 two-bad l Verb.Tree w x h = tells-bad l _ refl
 two-bad l Verb.Free w x h = tells-bad l _ refl
 two-bad l Verb.Notice w x h = tells-bad l _ (either (isNumber w) _ (either (isNumber x) Said.bad refl))
 two-bad l Verb.Save w x h = tells-bad l _ refl
 two-bad l Verb.Restore w x h = tells-bad l _ refl
+two-bad l Verb.Lost w x h = tells-bad l _ refl
 two-bad l Verb.Other w x h = tells-bad l _ refl
 
 -- three further words, and four or more
-pub three-bad : (l : List ℕ) (v : Verb) (w x y : List ℕ) (ws : List (List ℕ)) → OneOf (0 ∷ 1 ∷ 2 ∷ 3 ∷ 4 ∷ 5 ∷ 6 ∷ 7 ∷ 8 ∷ 10 ∷ 11 ∷ 12 ∷ []) (tagOf the-type v) → Tells l (does v (w ∷ x ∷ y ∷ ws)) Order.Bad
+pub three-bad : (l : List ℕ) (v : Verb) (w x y : List ℕ) (ws : List (List ℕ)) → OneOf (0 ∷ 1 ∷ 2 ∷ 3 ∷ 4 ∷ 5 ∷ 6 ∷ 7 ∷ 8 ∷ 10 ∷ 11 ∷ 12 ∷ 13 ∷ []) (tagOf the-type v) → Tells l (does v (w ∷ x ∷ y ∷ ws)) Order.Bad
 unfolding does withNumber withHex withSave withNumberHex withHexNumber
 three-bad l Verb.Start w x y ws h = tells-bad l _ refl
 three-bad l Verb.Room w x y ws h = tells-bad l _ refl
@@ -218,9 +224,10 @@ three-bad l Verb.Route w x y ws h = tells-bad l _ (either (isHex w) Said.bad ref
 three-bad l Verb.Label w x y ws h = tells-bad l _ refl
 three-bad l Verb.Tree w x y ws h = tells-bad l _ refl
 three-bad l Verb.Free w x y ws h = tells-bad l _ refl
-three-bad l Verb.Notice w x y ws h = absurd (miss (0 ∷ 1 ∷ 2 ∷ 3 ∷ 4 ∷ 5 ∷ 6 ∷ 7 ∷ 8 ∷ 10 ∷ 11 ∷ 12 ∷ []) 9 tt h)
+three-bad l Verb.Notice w x y ws h = absurd (miss (0 ∷ 1 ∷ 2 ∷ 3 ∷ 4 ∷ 5 ∷ 6 ∷ 7 ∷ 8 ∷ 10 ∷ 11 ∷ 12 ∷ 13 ∷ []) 9 tt h)
 three-bad l Verb.Save w x y ws h = tells-bad l _ refl
 three-bad l Verb.Restore w x y ws h = tells-bad l _ refl
+three-bad l Verb.Lost w x y ws h = tells-bad l _ refl
 three-bad l Verb.Other w x y ws h = tells-bad l _ refl
 
 pub more-bad : (l : List ℕ) (v : Verb) (w x y z : List ℕ) (ws : List (List ℕ)) → Tells l (does v (w ∷ x ∷ y ∷ z ∷ ws)) Order.Bad
@@ -237,4 +244,5 @@ more-bad l Verb.Free w x y z ws = tells-bad l _ refl
 more-bad l Verb.Notice w x y z ws = tells-bad l _ (either (isNumber w) _ (either (isNumber x) Said.bad refl))
 more-bad l Verb.Save w x y z ws = tells-bad l _ refl
 more-bad l Verb.Restore w x y z ws = tells-bad l _ refl
+more-bad l Verb.Lost w x y z ws = tells-bad l _ refl
 more-bad l Verb.Other w x y z ws = tells-bad l _ refl

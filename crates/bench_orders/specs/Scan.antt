@@ -20,6 +20,7 @@ numbered Verb.Free n = Said.bad
 numbered Verb.Notice n = Said.bad
 numbered Verb.Save n = Said.bad
 numbered Verb.Restore n = Said.bad
+numbered Verb.Lost n = Said.lost n
 numbered Verb.Other n = Said.bad
 
 unfoldable pub asNumber : Verb → List ℕ → Said
@@ -38,6 +39,7 @@ withOctets Verb.Free o = Said.bad
 withOctets Verb.Notice o = Said.bad
 withOctets Verb.Save o = Said.bad
 withOctets Verb.Restore o = Said.bad
+withOctets Verb.Lost o = Said.bad
 withOctets Verb.Other o = Said.bad
 
 unfoldable pub asHex : Verb → List ℕ → Said

@@ -5,7 +5,7 @@ use mathlib.Core.List.{List}
 use lib.ListN.{length}
 use Rattle.meaning.specs.Save.{saveLimit}
 use Rattle.bench_words.specs.Words.{part, octetsOf}
-use Rattle.bench_verbs.specs.Line.{Said, nothing, bad, start, room, take, join, leave, route, label, tree, free, notice, save, restore}
+use Rattle.bench_verbs.specs.Line.{Said, nothing, bad, start, room, take, join, leave, route, label, tree, free, notice, save, restore, lost}
 use Rattle.bench_orders.specs.declared.Order.{Order}
 
 -- the order that the code hands on says so much, with the line it was read from
@@ -24,6 +24,7 @@ meant l Order.Free = free
 meant l (Order.Notice n k s e) = notice n k (octetsOf (part s e l))
 meant l Order.Save = save
 meant l (Order.Restore s e) = restore (octetsOf (part s e l))
+meant l (Order.Lost n) = lost n
 
 -- the word of HEX lies in the line
 abbrev pub Lies : List ℕ → ℕ → ℕ → Type 0
@@ -47,6 +48,7 @@ InLine l Order.Free = Unit
 InLine l (Order.Notice n k s e) = Lies l s e
 InLine l Order.Save = Unit
 InLine l (Order.Restore s e) = SaveLies l s e
+InLine l (Order.Lost n) = Unit
 
 -- what is said is what the order means
 pub record Tells (l : List ℕ) (said : Said) (r : Order) : Type 0 where

@@ -54,6 +54,7 @@ pub enum Order {
         start: usize,
         end: usize,
     },
+    Lost(u32),
 }
 
 // An order with no further word.
@@ -67,7 +68,7 @@ fn with_none(line: &[u8], verb: Verb) -> Order
     }
 }
 
-// A number alone, as `start`, `room` and `label` take it.
+// A number alone, as `start`, `room`, `label` and `lost` take it.
 fn with_number(line: &[u8], verb: Verb, start: usize, end: usize) -> Order
     requires { ⌜ (start ≤ end) × (end ≤ length (now line)) ⌝ }
     ensures { λ r. ⌜ Tells (now (line .entry)) (asNumber verb (part start end (now (line .entry)))) r ⌝ }
@@ -79,6 +80,7 @@ fn with_number(line: &[u8], verb: Verb, start: usize, end: usize) -> Order
         Verb::Start => Order::Start(n),
         Verb::Room => Order::Room(n),
         Verb::Label => Order::Label(n),
+        Verb::Lost => Order::Lost(n),
         _ => Order::Bad,
     }
 }
@@ -116,7 +118,9 @@ fn with_one(line: &[u8], verb: Verb, start: usize, end: usize) -> Order
     ensures { λ r. ⌜ Tells (now (line .entry)) (does verb (part start end (now (line .entry)) ∷ [])) r ⌝ }
 {
     match verb {
-        Verb::Start | Verb::Room | Verb::Label => with_number(line, verb, start, end),
+        Verb::Start | Verb::Room | Verb::Label | Verb::Lost => {
+            with_number(line, verb, start, end)
+        }
         Verb::Restore => with_save(line, start, end),
         _ => with_hex(line, verb, start, end),
     }

@@ -115,29 +115,31 @@ not-written Order.Free h w = w
 not-written (Order.Notice n k s e) h w = miss (0 ∷ 1 ∷ 2 ∷ 3 ∷ 8 ∷ 9 ∷ 10 ∷ 12 ∷ 13 ∷ []) 11 tt h
 not-written Order.Save h w = w
 not-written (Order.Restore s e) h w = w
+not-written (Order.Lost n) h w = miss (0 ∷ 1 ∷ 2 ∷ 3 ∷ 8 ∷ 9 ∷ 10 ∷ 12 ∷ 13 ∷ []) 14 tt h
 
-pub written : (o : Order) → OneOf (4 ∷ 5 ∷ 6 ∷ 7 ∷ 11 ∷ []) (tagOf the-type o) → WritesRecords o
-written Order.Blank h = miss (4 ∷ 5 ∷ 6 ∷ 7 ∷ 11 ∷ []) 0 tt h
-written Order.Bad h = miss (4 ∷ 5 ∷ 6 ∷ 7 ∷ 11 ∷ []) 1 tt h
-written (Order.Start n) h = miss (4 ∷ 5 ∷ 6 ∷ 7 ∷ 11 ∷ []) 2 tt h
-written (Order.Room n) h = miss (4 ∷ 5 ∷ 6 ∷ 7 ∷ 11 ∷ []) 3 tt h
+pub written : (o : Order) → OneOf (4 ∷ 5 ∷ 6 ∷ 7 ∷ 11 ∷ 14 ∷ []) (tagOf the-type o) → WritesRecords o
+written Order.Blank h = miss (4 ∷ 5 ∷ 6 ∷ 7 ∷ 11 ∷ 14 ∷ []) 0 tt h
+written Order.Bad h = miss (4 ∷ 5 ∷ 6 ∷ 7 ∷ 11 ∷ 14 ∷ []) 1 tt h
+written (Order.Start n) h = miss (4 ∷ 5 ∷ 6 ∷ 7 ∷ 11 ∷ 14 ∷ []) 2 tt h
+written (Order.Room n) h = miss (4 ∷ 5 ∷ 6 ∷ 7 ∷ 11 ∷ 14 ∷ []) 3 tt h
 written (Order.Take n s f) h = tt
 written (Order.Join s f) h = tt
 written (Order.Leave s f) h = tt
 written (Order.Route s f n) h = tt
-written (Order.Label n) h = miss (4 ∷ 5 ∷ 6 ∷ 7 ∷ 11 ∷ []) 8 tt h
-written (Order.Tree s f) h = miss (4 ∷ 5 ∷ 6 ∷ 7 ∷ 11 ∷ []) 9 tt h
-written Order.Free h = miss (4 ∷ 5 ∷ 6 ∷ 7 ∷ 11 ∷ []) 10 tt h
+written (Order.Label n) h = miss (4 ∷ 5 ∷ 6 ∷ 7 ∷ 11 ∷ 14 ∷ []) 8 tt h
+written (Order.Tree s f) h = miss (4 ∷ 5 ∷ 6 ∷ 7 ∷ 11 ∷ 14 ∷ []) 9 tt h
+written Order.Free h = miss (4 ∷ 5 ∷ 6 ∷ 7 ∷ 11 ∷ 14 ∷ []) 10 tt h
 written (Order.Notice n k s f) h = tt
-written Order.Save h = miss (4 ∷ 5 ∷ 6 ∷ 7 ∷ 11 ∷ []) 12 tt h
-written (Order.Restore s f) h = miss (4 ∷ 5 ∷ 6 ∷ 7 ∷ 11 ∷ []) 13 tt h
+written Order.Save h = miss (4 ∷ 5 ∷ 6 ∷ 7 ∷ 11 ∷ 14 ∷ []) 12 tt h
+written (Order.Restore s f) h = miss (4 ∷ 5 ∷ 6 ∷ 7 ∷ 11 ∷ 14 ∷ []) 13 tt h
+written (Order.Lost n) h = tt
 
-pub room-stays : (number room : ℕ) (c : Card) (l : List ℕ) (o : Order) → OneOf (0 ∷ 1 ∷ 2 ∷ 4 ∷ 5 ∷ 6 ∷ 7 ∷ 8 ∷ 9 ∷ 10 ∷ 11 ∷ 12 ∷ 13 ∷ []) (tagOf the-type o) → room ≡ replyTo number room c (meant l o) .room
+pub room-stays : (number room : ℕ) (c : Card) (l : List ℕ) (o : Order) → OneOf (0 ∷ 1 ∷ 2 ∷ 4 ∷ 5 ∷ 6 ∷ 7 ∷ 8 ∷ 9 ∷ 10 ∷ 11 ∷ 12 ∷ 13 ∷ 14 ∷ []) (tagOf the-type o) → room ≡ replyTo number room c (meant l o) .room
 unfolding meant replyTo only counted told
 room-stays number room c l Order.Blank h = refl
 room-stays number room c l Order.Bad h = refl
 room-stays number room c l (Order.Start n) h = refl
-room-stays number room c l (Order.Room n) h = absurd (miss (0 ∷ 1 ∷ 2 ∷ 4 ∷ 5 ∷ 6 ∷ 7 ∷ 8 ∷ 9 ∷ 10 ∷ 11 ∷ 12 ∷ 13 ∷ []) 3 tt h)
+room-stays number room c l (Order.Room n) h = absurd (miss (0 ∷ 1 ∷ 2 ∷ 4 ∷ 5 ∷ 6 ∷ 7 ∷ 8 ∷ 9 ∷ 10 ∷ 11 ∷ 12 ∷ 13 ∷ 14 ∷ []) 3 tt h)
 room-stays number room c l (Order.Take n s e) h = refl
 room-stays number room c l (Order.Join s e) h = refl
 room-stays number room c l (Order.Leave s e) h = refl
@@ -148,6 +150,7 @@ room-stays number room c l Order.Free h = refl
 room-stays number room c l (Order.Notice n k s e) h = refl
 room-stays number room c l Order.Save h = refl
 room-stays number room c l (Order.Restore s e) h = refl
+room-stays number room c l (Order.Lost n) h = refl
 
 pub short : (l : List ℕ) (s e : ℕ) → Lies l s e → length (take (e - s) (drop s l)) ≤ 8192
 short l s e h = let n = length-take-le (e - s) (drop s l) (simp length-drop (omega arith)) in omega arith

@@ -5,7 +5,7 @@ use mathlib.Core.Path.{_≡_}
 use mathlib.Core.List.{List, []}
 use lib.ListN.{take}
 use Rattle.meaning.specs.Card.{Card, freeLabels, lookupLabel, lookupName, sentLimit}
-use Rattle.meaning.specs.Events.{Out, start, event, receive, join, leave, route}
+use Rattle.meaning.specs.Events.{Out, start, event, receive, join, leave, route, lost}
 use Rattle.meaning.specs.Notice.{notice}
 use Rattle.meaning.specs.Save.{save, restore, saveLimit}
 use Rattle.bench_words.specs.Words.{ascii}
@@ -48,6 +48,7 @@ replyTo number room c (Said.take n message) = told (ascii "take") (event (eventR
 replyTo number room c (Said.join element) = told (ascii "join") (event (eventRoom room) c (join element)) room
 replyTo number room c (Said.leave element) = told (ascii "leave") (event (eventRoom room) c (leave element)) room
 replyTo number room c (Said.route root via) = told (ascii "route") (event (eventRoom room) c (route root via)) room
+replyTo number room c (Said.lost n) = told (ascii "lost") (event (eventRoom room) c (lost n)) room
 replyTo number room c (Said.notice n refusal octets) = told (ascii "notice") (notice (eventRoom room) c n refusal octets) room
 replyTo number room c (Said.label n) = only (feedLine (ascii "label") (lookupLabel n c)) c room
 replyTo number room c (Said.tree element) = only (feedLine (ascii "tree") (lookupName element c)) c room
@@ -84,3 +85,4 @@ WritesRecords Order.Free = ⊥
 WritesRecords (Order.Notice n k s e) = Unit
 WritesRecords Order.Save = ⊥
 WritesRecords (Order.Restore s e) = ⊥
+WritesRecords (Order.Lost n) = Unit

@@ -147,6 +147,23 @@ fn on_route(
     bench_lines::put_event(text, b"route", answer, records)
 }
 
+fn on_lost(
+    numbers: &mut [u64; NUMBER_COUNT],
+    names: &mut [u8; OCTET_COUNT],
+    neighbour: u32,
+    room: u32,
+    text: &mut [u8],
+) -> usize
+    requires { ⌜ textSpace ≤ length (now text) ⌝ }
+    ensures { λ r. ⌜ ((number : ℕ) → Says (replyTo number room (cardOf (now (numbers .entry)) (now (names .entry))) (Said.lost neighbour))
+        r (now (text .exit)) (cardOf (now (numbers .exit)) (now (names .exit)))) ⌝ }
+{
+    let mut out = output();
+    let mut answer: u32 = 0;
+    let records = card::lost(numbers, names, neighbour, lent(&mut out, room), &mut answer);
+    bench_lines::put_event(text, b"lost", answer, records)
+}
+
 // Why a message was refused, to the neighbour that sent it.
 fn on_notice(
     numbers: &mut [u64; NUMBER_COUNT],
@@ -205,6 +222,7 @@ pub fn on_event(
             start,
             end,
         } => on_notice(numbers, neighbour, number, &line[start..end], room, text),
+        Order::Lost(neighbour) => on_lost(numbers, names, neighbour, room, text),
         _ => 0,
     }
 }

@@ -62,8 +62,16 @@ pub examples-shown : (says "" ≡ Said.nothing)
     × (says "restore --" ≡ Said.bad)
     × (says "Restore 4c" ≡ Said.bad)
     × (says "restor 4c" ≡ Said.bad)
+    × (says "lost 3" ≡ Said.lost 3)
+    × (says " lost 4294967295 # a line card dies" ≡ Said.lost 4294967295)
+    × (says "lost" ≡ Said.bad)
+    × (says "lost 4294967296" ≡ Said.bad)
+    × (says "lost -" ≡ Said.bad)
+    × (says "lost 3 -" ≡ Said.bad)
+    × (says "Lost 3" ≡ Said.bad)
+    × (says "los 3" ≡ Said.bad)
 unfolding says ascii all uncommented lengthen pieces filled words valueFrom value isNumber digit isHexTo isHex isSaveHex octetsOf requestedVerb verbOf withNumber withHex withSave withNumberHex withHexNumber withNumbersHex does saidBy orderOf same
-examples-shown = (refl, refl, refl, refl, refl, refl, refl, refl, refl, refl, refl, refl, refl, refl, refl, refl, refl, refl, refl, refl, refl, refl, refl, refl, refl, refl, refl, refl, refl, refl, refl, refl, refl, refl, refl, refl, refl, refl, refl, refl, refl, refl, refl, refl, refl, refl, refl, refl, refl, refl, refl, refl)
+examples-shown = (refl, refl, refl, refl, refl, refl, refl, refl, refl, refl, refl, refl, refl, refl, refl, refl, refl, refl, refl, refl, refl, refl, refl, refl, refl, refl, refl, refl, refl, refl, refl, refl, refl, refl, refl, refl, refl, refl, refl, refl, refl, refl, refl, refl, refl, refl, refl, refl, refl, refl, refl, refl, refl, refl, refl, refl, refl, refl, refl, refl)
 
 -- the longest HEX of a message, the longest of a save, and the longest line, and one more of each
 pub limits-shown : (orderOf (ascii "join " ++ replicate 8192 48) ≡ Said.join (replicate 4096 0))

@@ -11,7 +11,7 @@ use Rattle.bench_verbs.specs.declared.Verb.{Verb}
 
 pub data Said : Type 0 where
   nothing bad free save : Said
-  start room label : ℕ → Said
+  start room label lost : ℕ → Said
   take : ℕ → List ℕ → Said
   join leave tree restore : List ℕ → Said
   route : List ℕ → ℕ → Said
@@ -22,7 +22,8 @@ requestedVerb w =
     pick (same w (ascii "notice")) Verb.Notice
     (pick (same w (ascii "save")) Verb.Save
     (pick (same w (ascii "restore")) Verb.Restore
-    Verb.Other))
+    (pick (same w (ascii "lost")) Verb.Lost
+    Verb.Other)))
 
 unfoldable pub verbOf : List ℕ → Verb
 verbOf w =
@@ -83,6 +84,7 @@ does Verb.Notice ws = withNumbersHex notice ws
 does Verb.Save [] = save
 does Verb.Save (w ∷ ws) = bad
 does Verb.Restore ws = withSave ws
+does Verb.Lost ws = withNumber lost ws
 does Verb.Other ws = bad
 
 unfoldable pub saidBy : List (List ℕ) → Said

@@ -16,6 +16,7 @@ pub enum Verb {
     Notice,
     Save,
     Restore,
+    Lost,
     Other,
 }
 
@@ -31,6 +32,9 @@ fn requested_verb(word: &[u8]) -> Verb
     }
     if octets::equal(word, b"restore") {
         return Verb::Restore;
+    }
+    if octets::equal(word, b"lost") {
+        return Verb::Lost;
     }
     Verb::Other
 }

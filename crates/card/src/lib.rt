@@ -254,31 +254,31 @@ pub fn route<'a>(
 pub fn lost_core(
     numbers: &mut [u64; NUMBER_COUNT],
     names: &mut [u8; OCTET_COUNT],
-    neighbour: u32,
+    gone: u32,
     out: &mut [u8],
     answer: &mut u32,
 ) -> usize
-    ensures { λ r. ⌜ Does (event (length (now (out .entry))) (cardOf (now (numbers .entry)) (now (names .entry))) (lost neighbour))
+    ensures { λ r. ⌜ Does (event (length (now (out .entry))) (cardOf (now (numbers .entry)) (now (names .entry))) (lost gone))
         (now (answer .exit)) r (now (out .entry)) (now (out .exit)) (cardOf (now (numbers .exit)) (now (names .exit))) ⌝ }
 {
-    if 15 < neighbour {
+    if 15 < gone {
         *answer = 1;
         return 0;
     }
-    event_lost::lose(numbers, names, neighbour as usize, out, answer)
+    event_lost::lose(numbers, names, gone as usize, out, answer)
 }
 
 pub fn lost<'a>(
     numbers: &mut [u64; NUMBER_COUNT],
     names: &mut [u8; OCTET_COUNT],
-    neighbour: u32,
+    gone: u32,
     out: &'a mut [u8],
     answer: &mut u32,
 ) -> &'a mut [u8]
-    ensures { λ r. ⌜ Hands (event (length (now (out .entry))) (cardOf (now (numbers .entry)) (now (names .entry))) (lost neighbour))
+    ensures { λ r. ⌜ Hands (event (length (now (out .entry))) (cardOf (now (numbers .entry)) (now (names .entry))) (lost gone))
         (now (answer .exit)) (now r) (cardOf (now (numbers .exit)) (now (names .exit))) × (ptr r ≡ ptr (out .entry)) ⌝ }
 {
-    let n = lost_core(numbers, names, neighbour, &mut *out, answer);
+    let n = lost_core(numbers, names, gone, &mut *out, answer);
     &mut out[..n]
 }
 

@@ -5,7 +5,7 @@ ghost use mathlib.Core.List.{List};
 ghost use Prim.Native.Nat.{ℕ};
 ghost use lib.ListN.{length};
 ghost use Rattle.meaning.specs.Card.{freeLabels, lookupLabel, lookupName};
-ghost use Rattle.meaning.specs.Events.{start, event, receive, join, leave, route};
+ghost use Rattle.meaning.specs.Events.{start, event, receive, join, leave, route, lost};
 ghost use Rattle.meaning.specs.Notice.{notice};
 ghost use Rattle.meaning.specs.Save.{save, restore};
 ghost use Rattle.meaning.specs.Calls.{Does};
@@ -83,6 +83,20 @@ pub extern "C" fn card_route(
         (now (answer .exit)) r (now (out .entry)) (now (out .exit)) (cardOf (now (numbers .exit)) (now (names .exit))) ⌝ }
 {
     card::route_core(numbers, names, root, via, out, answer)
+}
+
+#[no_mangle]
+pub extern "C" fn card_lost(
+    numbers: &mut [u64; NUMBER_COUNT],
+    names: &mut [u8; OCTET_COUNT],
+    neighbour: u32,
+    out: &mut [u8],
+    answer: &mut u32,
+) -> usize
+    ensures { λ r. ⌜ Does (event (length (now (out .entry))) (cardOf (now (numbers .entry)) (now (names .entry))) (lost neighbour))
+        (now (answer .exit)) r (now (out .entry)) (now (out .exit)) (cardOf (now (numbers .exit)) (now (names .exit))) ⌝ }
+{
+    card::lost_core(numbers, names, neighbour, out, answer)
 }
 
 // ---- lookups: the branches go into a lent array, and the leaf mark is handed back

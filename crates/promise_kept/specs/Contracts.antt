@@ -1,6 +1,6 @@
 -- The calls of the code by their contracts, and nothing more: each constructor takes what a caller learns of one call (`Learnt`), and says of it what went in and what came back.
 -- a are the call's arguments, r is its result, and s are its parameters as they are right after it, in the order of the source (`.0`, `.1 .0`, `.1 .1 .0`, ..):
--- start: numbers, base. receive: numbers, names, neighbour, message, out, answer. join, leave: numbers, names, element, out, answer. route: numbers, names, root, via, out, answer.
+-- start: numbers, base. receive: numbers, names, neighbour, message, out, answer. join, leave: numbers, names, element, out, answer. route: numbers, names, root, via, out, answer. lost: numbers, names, neighbour, out, answer.
 -- notice: numbers, neighbour, number, octets, out, answer. save: numbers, names, out, answer. restore: numbers, names, octets, and spare memory, of which nothing is learnt.
 -- lookup by label: numbers, label, and in a core or for C the branches; by name: numbers, names, element, and the branches likewise. The cores and the calls for C have the order of the call.
 -- The law behind each type (`made`, `told`, ..) is its statement in the words of `meaning`. Assumes nothing.
@@ -11,7 +11,7 @@ use mathlib.Core.List.{List}
 use lib.ListN.{take, length}
 use denote.Ref.{now}
 use Rattle.meaning.specs.Card.{freeLabels, lookupLabel, lookupName}
-use Rattle.meaning.specs.Events.{Event, receive, join, leave, route, event, start}
+use Rattle.meaning.specs.Events.{Event, receive, join, leave, route, lost, event, start}
 use Rattle.meaning.specs.Notice.{notice}
 use Rattle.meaning.specs.Save.{save, restore}
 use Rattle.meaning.specs.Calls.{Hands}
@@ -27,6 +27,8 @@ use Rattle.card.proofs.leave.Reads as leave-reads
 use Rattle.card.proofs.leave_core.Reads as leave-core-reads
 use Rattle.card.proofs.route.Reads as route-reads
 use Rattle.card.proofs.route_core.Reads as route-core-reads
+use Rattle.card.proofs.lost.Reads as lost-reads
+use Rattle.card.proofs.lost_core.Reads as lost-core-reads
 use Rattle.card.proofs.lookup_label.Reads as lookup-label-reads
 use Rattle.card.proofs.lookup_label_core.Reads as lookup-label-core-reads
 use Rattle.card.proofs.lookup_name.Reads as lookup-name-reads
@@ -37,6 +39,7 @@ use Rattle.firmware.proofs.card_receive.Reads as card-receive-reads
 use Rattle.firmware.proofs.card_join.Reads as card-join-reads
 use Rattle.firmware.proofs.card_leave.Reads as card-leave-reads
 use Rattle.firmware.proofs.card_route.Reads as card-route-reads
+use Rattle.firmware.proofs.card_lost.Reads as card-lost-reads
 use Rattle.firmware.proofs.card_lookup_label.Reads as card-lookup-label-reads
 use Rattle.firmware.proofs.card_lookup_name.Reads as card-lookup-name-reads
 use Rattle.firmware.proofs.card_free_labels.Reads as card-free-labels-reads
@@ -84,6 +87,12 @@ pub data Called : List ℕ → List ℕ → Call → List ℕ → List ℕ → T
       → Called (now (a .0)) (now (a .1 .0)) (record { room = length (now (a .1 .1 .1 .1 .0)); does = route (now (a .1 .1 .0)) (a .1 .1 .1 .0); answer = now (s .1 .1 .1 .1 .1 .0); part = take r (now (s .1 .1 .1 .1 .0)) }) (now (s .0)) (now (s .1 .0))
   by-card-route : (κs : _) (a : _) (r : _) (s : _) → card-route-reads.Learnt κs a r s
       → Called (now (a .0)) (now (a .1 .0)) (record { room = length (now (a .1 .1 .1 .1 .0)); does = route (now (a .1 .1 .0)) (a .1 .1 .1 .0); answer = now (s .1 .1 .1 .1 .1 .0); part = take r (now (s .1 .1 .1 .1 .0)) }) (now (s .0)) (now (s .1 .0))
+  by-lost : (κs : _) (a : _) (r : _) (s : _) → lost-reads.Learnt κs a r s
+      → Called (now (a .0)) (now (a .1 .0)) (record { room = length (now (a .1 .1 .1 .0)); does = lost (a .1 .1 .0); answer = now (s .1 .1 .1 .1 .0); part = now r }) (now (s .0)) (now (s .1 .0))
+  by-lost-core : (κs : _) (a : _) (r : _) (s : _) → lost-core-reads.Learnt κs a r s
+      → Called (now (a .0)) (now (a .1 .0)) (record { room = length (now (a .1 .1 .1 .0)); does = lost (a .1 .1 .0); answer = now (s .1 .1 .1 .1 .0); part = take r (now (s .1 .1 .1 .0)) }) (now (s .0)) (now (s .1 .0))
+  by-card-lost : (κs : _) (a : _) (r : _) (s : _) → card-lost-reads.Learnt κs a r s
+      → Called (now (a .0)) (now (a .1 .0)) (record { room = length (now (a .1 .1 .1 .0)); does = lost (a .1 .1 .0); answer = now (s .1 .1 .1 .1 .0); part = take r (now (s .1 .1 .1 .0)) }) (now (s .0)) (now (s .1 .0))
 
 pub made : {ns os : List ℕ} {k : Call} {ns′ os′ : List ℕ} → Called ns os k ns′ os′ → Hands (event (k .room) (cardOf ns os) (k .does)) (k .answer) (k .part) (cardOf ns′ os′)
 made (by-receive κs a r s h) = h .0
@@ -98,6 +107,9 @@ made (by-card-leave κs a r s h) = handed _ _ _ _ _ _ h
 made (by-route κs a r s h) = h .0
 made (by-route-core κs a r s h) = handed _ _ _ _ _ _ h
 made (by-card-route κs a r s h) = handed _ _ _ _ _ _ h
+made (by-lost κs a r s h) = h .0
+made (by-lost-core κs a r s h) = handed _ _ _ _ _ _ h
+made (by-card-lost κs a r s h) = handed _ _ _ _ _ _ h
 
 -- ---- a notice
 

@@ -27,6 +27,8 @@ use Rattle.card.proofs.leave.Reads as leave-reads
 use Rattle.card.proofs.leave_core.Reads as leave-core-reads
 use Rattle.card.proofs.route.Reads as route-reads
 use Rattle.card.proofs.route_core.Reads as route-core-reads
+use Rattle.card.proofs.lost.Reads as lost-reads
+use Rattle.card.proofs.lost_core.Reads as lost-core-reads
 use Rattle.card.proofs.lookup_label.Reads as lookup-label-reads
 use Rattle.card.proofs.lookup_label_core.Reads as lookup-label-core-reads
 use Rattle.card.proofs.lookup_name.Reads as lookup-name-reads
@@ -43,6 +45,7 @@ use Rattle.firmware.proofs.card_receive.Reads as card-receive-reads
 use Rattle.firmware.proofs.card_join.Reads as card-join-reads
 use Rattle.firmware.proofs.card_leave.Reads as card-leave-reads
 use Rattle.firmware.proofs.card_route.Reads as card-route-reads
+use Rattle.firmware.proofs.card_lost.Reads as card-lost-reads
 use Rattle.firmware.proofs.card_lookup_label.Reads as card-lookup-label-reads
 use Rattle.firmware.proofs.card_lookup_name.Reads as card-lookup-name-reads
 use Rattle.firmware.proofs.card_free_labels.Reads as card-free-labels-reads
@@ -131,6 +134,15 @@ route-core-one κs a r r′ s s′ h h′ = does-one _ _ _ _ _ _ _ _ _ _ h h′
 
 pub card-route-one : (κs : _) (a : _) (r r′ : _) (s s′ : _) → card-route-reads.Learnt κs a r s → card-route-reads.Learnt κs a r′ s′ → (now (s .1 .1 .1 .1 .1 .0) ≡ now (s′ .1 .1 .1 .1 .1 .0)) × (r ≡ r′) × (now (s .1 .1 .1 .1 .0) ≡ now (s′ .1 .1 .1 .1 .0)) × (cardOf (now (s .0)) (now (s .1 .0)) ≡ cardOf (now (s′ .0)) (now (s′ .1 .0)))
 card-route-one κs a r r′ s s′ h h′ = does-one _ _ _ _ _ _ _ _ _ _ h h′
+
+pub lost-one : (κs : _) (a : _) (r r′ : _) (s s′ : _) → lost-reads.Learnt κs a r s → lost-reads.Learnt κs a r′ s′ → (now (s .1 .1 .1 .1 .0) ≡ now (s′ .1 .1 .1 .1 .0)) × (now r ≡ now r′) × (cardOf (now (s .0)) (now (s .1 .0)) ≡ cardOf (now (s′ .0)) (now (s′ .1 .0)))
+lost-one κs a r r′ s s′ h h′ = hands-one _ _ _ _ _ _ _ (h .0) (h′ .0)
+
+pub lost-core-one : (κs : _) (a : _) (r r′ : _) (s s′ : _) → lost-core-reads.Learnt κs a r s → lost-core-reads.Learnt κs a r′ s′ → (now (s .1 .1 .1 .1 .0) ≡ now (s′ .1 .1 .1 .1 .0)) × (r ≡ r′) × (now (s .1 .1 .1 .0) ≡ now (s′ .1 .1 .1 .0)) × (cardOf (now (s .0)) (now (s .1 .0)) ≡ cardOf (now (s′ .0)) (now (s′ .1 .0)))
+lost-core-one κs a r r′ s s′ h h′ = does-one _ _ _ _ _ _ _ _ _ _ h h′
+
+pub card-lost-one : (κs : _) (a : _) (r r′ : _) (s s′ : _) → card-lost-reads.Learnt κs a r s → card-lost-reads.Learnt κs a r′ s′ → (now (s .1 .1 .1 .1 .0) ≡ now (s′ .1 .1 .1 .1 .0)) × (r ≡ r′) × (now (s .1 .1 .1 .0) ≡ now (s′ .1 .1 .1 .0)) × (cardOf (now (s .0)) (now (s .1 .0)) ≡ cardOf (now (s′ .0)) (now (s′ .1 .0)))
+card-lost-one κs a r r′ s s′ h h′ = does-one _ _ _ _ _ _ _ _ _ _ h h′
 
 -- ---- lookups: the leaf mark and the sixteen labels
 

@@ -36,6 +36,9 @@ enum-told-3 c = search needs
 enum-told-4 : tie.Need-enum-told-4
 enum-told-4 c = search needs
 
+enum-told-5 : tie.Need-enum-told-5
+enum-told-5 c = search needs
+
 returns-2 : tie.Need-returns-2
 unfolding numbered meant
 returns-2 c = record { means = rw (c .enum-told2 .given .1) (as-number _ _ _ _ (c .before .before .before .before .before .read-number .ensures) (c .before .before .before .n .given .1)); lies = tt }
@@ -49,9 +52,13 @@ unfolding numbered meant
 returns-4 c = record { means = rw (c .enum-told4 .given .1) (as-number _ _ _ _ (c .before .before .before .before .before .read-number .ensures) (c .before .before .before .n .given .1)); lies = tt }
 
 returns-5 : tie.Need-returns-5
-returns-5 c =
+unfolding numbered meant
+returns-5 c = record { means = rw (c .enum-told5 .given .1) (as-number _ _ _ _ (c .before .before .before .before .before .read-number .ensures) (c .before .before .before .n .given .1)); lies = tt }
+
+returns-6 : tie.Need-returns-6
+returns-6 c =
     let start = c .before .before .before .before .before .before .before in
-    tells-bad _ _ (sym (as-number _ _ _ _ (c .before .before .before .before .read-number .ensures) (c .before .before .n .given .1)) ∙ numbered-other (start .args .verb) _ (c .match2 .keys4))
+    tells-bad _ _ (sym (as-number _ _ _ _ (c .before .before .before .before .read-number .ensures) (c .before .before .n .given .1)) ∙ numbered-other (start .args .verb) _ (c .match2 .keys5))
 
 pub with-number-spec : {M : Type 1} → statement M
 with-number-spec =
@@ -67,7 +74,9 @@ with-number-spec =
     enum-told-2
     enum-told-3
     enum-told-4
+    enum-told-5
     returns-2
     returns-3
     returns-4
-    returns-5)
+    returns-5
+    returns-6)

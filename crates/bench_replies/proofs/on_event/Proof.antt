@@ -89,6 +89,12 @@ on-notice-requires c κs =
     let start = c .before .before .before .before .before .before .before .before in
     (short _ _ _ (lies _ _ _ (start .pre .0) (c .before .before .before .before .order5 .given .1)), start .pre .2)
 
+enum-known-order-6 : tie.Need-enum-known-order-6
+enum-known-order-6 c = search needs
+
+on-lost-requires : tie.Need-on-lost-requires
+on-lost-requires c κs = search needs
+
 same-length : tie.Need-same-length
 same-length c = search needs
 
@@ -124,8 +130,15 @@ returns-5 : tie.Need-returns-5
 unfolding meant
 returns-5 c = λ number. rw (c .before .before .before .before .before .before .before .order5 .given .1) (c .before .before .on-notice .ensures number _)
 
+same-length-6 : tie.Need-same-length-6
+same-length-6 c = search needs
+
 returns-6 : tie.Need-returns-6
-returns-6 c = λ number. absurd (not-written (c .before .before .before .args .order) (c .match .keys6) (c .before .before .before .pre .1))
+unfolding meant
+returns-6 c = λ number. rw (c .before .before .before .before .before .before .order6 .given .1) (c .before .before .on-lost .ensures number)
+
+returns-7 : tie.Need-returns-7
+returns-7 c = λ number. absurd (not-written (c .before .before .before .args .order) (c .match .keys7) (c .before .before .before .pre .1))
 
 pub on-event-spec : {M : Type 1} → statement M
 on-event-spec =
@@ -156,6 +169,8 @@ on-event-spec =
     part-on-notice-start
     part-on-notice-end
     on-notice-requires
+    enum-known-order-6
+    on-lost-requires
     same-length
     returns
     same-length-2
@@ -166,4 +181,6 @@ on-event-spec =
     returns-4
     same-length-5
     returns-5
-    returns-6)
+    same-length-6
+    returns-6
+    returns-7)

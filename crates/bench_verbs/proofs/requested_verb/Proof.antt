@@ -39,12 +39,25 @@ returns-3 c =
     let at-equal = at-if1 .before in
     passed _ (at-equal .equal .ensures) (at-if1 .if1 .left) (passed _ (c .before .before .before .before .equal2 .ensures) (c .before .before .before .if2 .left) (found _ _ (c .before .equal3 .ensures) (c .if3 .taken)))
 
+slice-aggregate-equal-4 : tie.Need-slice-aggregate-equal-4
+slice-aggregate-equal-4 c = search needs
+
+equal-requires-4 : tie.Need-equal-requires-4
+equal-requires-4 c κs = search needs
+
 returns-4 : tie.Need-returns-4
 unfolding requestedVerb ascii
 returns-4 c =
-    let at-if1 = c .before .before .before .before .before .before in
-    let at-equal = at-if1 .before in
-    passed _ (at-equal .equal .ensures) (at-if1 .if1 .left) (passed _ (c .before .before .before .before .equal2 .ensures) (c .before .before .before .if2 .left) (passed _ (c .before .equal3 .ensures) (c .if3 .left) refl))
+    let at-if2 = c .before .before .before .before .before .before in
+    let at-if1 = at-if2 .before .before .before in
+    passed _ (at-if1 .before .equal .ensures) (at-if1 .if1 .left) (passed _ (at-if2 .before .equal2 .ensures) (at-if2 .if2 .left) (passed _ (c .before .before .before .before .equal3 .ensures) (c .before .before .before .if3 .left) (found _ _ (c .before .equal4 .ensures) (c .if4 .taken))))
+
+returns-5 : tie.Need-returns-5
+unfolding requestedVerb ascii
+returns-5 c =
+    let at-if2 = c .before .before .before .before .before .before in
+    let at-if1 = at-if2 .before .before .before in
+    passed _ (at-if1 .before .equal .ensures) (at-if1 .if1 .left) (passed _ (at-if2 .before .equal2 .ensures) (at-if2 .if2 .left) (passed _ (c .before .before .before .before .equal3 .ensures) (c .before .before .before .if3 .left) (passed _ (c .before .equal4 .ensures) (c .if4 .left) refl)))
 
 pub requested-verb-spec : {M : Type 1} → statement M
 requested-verb-spec =
@@ -59,4 +72,7 @@ requested-verb-spec =
     slice-aggregate-equal-3
     equal-requires-3
     returns-3
-    returns-4)
+    slice-aggregate-equal-4
+    equal-requires-4
+    returns-4
+    returns-5)
