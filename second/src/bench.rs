@@ -27,6 +27,8 @@ pub enum Order {
     Notice(u32, u32, Vec<u8>),
     Save,
     Restore(Vec<u8>),
+    /// A neighbour whose session is lost.
+    Lost(u32),
 }
 
 impl Order {
@@ -46,6 +48,7 @@ impl Order {
             }
             Order::Save => "save".to_string(),
             Order::Restore(octets) => format!("restore {}", hex_word(octets)),
+            Order::Lost(neighbour) => format!("lost {neighbour}"),
         }
     }
 }
@@ -90,6 +93,7 @@ fn read_order(words: &[&[u8]]) -> Option<Order> {
             read_hex(octets)?,
         )),
         [b"save"] => Some(Order::Save),
+        [b"lost", neighbour] => Some(Order::Lost(read_number(neighbour)?)),
         [b"restore", octets] => Some(Order::Restore(read_hex_to(octets, LONGEST_SAVE)?)),
         _ => None,
     }
@@ -142,7 +146,7 @@ pub fn answer_number<T>(answer: &Result<T, Refusal>) -> u8 {
 pub fn written_number(line: &str) -> Option<u8> {
     let mut words = line.split(' ');
     match words.next()? {
-        "take" | "join" | "leave" | "route" | "notice" | "start" | "save" | "restore" => {
+        "take" | "join" | "leave" | "route" | "notice" | "start" | "save" | "restore" | "lost" => {
             words.next()?.parse().ok()
         }
         _ => None,
@@ -210,6 +214,7 @@ pub fn event_answer(card: &mut Card, event: &Order, room: usize) -> Result<Vec<u
         Order::Leave(octets) => card.leave(octets, room),
         Order::Route(root, route) => card.route(root, *route, room),
         Order::Notice(to, number, octets) => card.notice(*to, *number, octets, room),
+        Order::Lost(neighbour) => card.lost(*neighbour, room),
         _ => Ok(Vec::new()),
     }
 }
@@ -220,6 +225,7 @@ fn event_word(event: &Order) -> &'static str {
         Order::Join(_) => "join",
         Order::Leave(_) => "leave",
         Order::Notice(..) => "notice",
+        Order::Lost(_) => "lost",
         _ => "route",
     }
 }

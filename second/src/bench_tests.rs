@@ -40,43 +40,50 @@ fn spaces_comments_and_blank_lines() {
     assert_eq!(output(b"# \x00\xff\n\nfre#e"), "? 3\n");
 }
 
+const BAD_LINES: &[&[u8]] = &[
+    b"free\r",
+    b"free\x00",
+    b"Free",
+    b"free 1",
+    b"take 1",
+    b"take 1 0",
+    b"take 1 0g",
+    b"take 1 00 00",
+    b"take -1 00",
+    b"take 1 -0",
+    b"label +1",
+    b"label 4294967296",
+    b"label 99999999999999999999999",
+    b"route 1 c0000201",
+    b"notice",
+    b"notice 1 2",
+    b"notice 1 2 00 00",
+    b"notice 1 2 0",
+    b"notice - 2 00",
+    b"notice 1 - 00",
+    b"notice 4294967296 2 00",
+    b"notice 1 4294967296 00",
+    b"Notice 1 2 00",
+    b"save 1",
+    b"save -",
+    b"Save",
+    b"restore",
+    b"restore 4c5",
+    b"restore 4c 53",
+    b"restore 4g",
+    b"Restore 4c",
+    b"start -",
+    b"lost",
+    b"lost -",
+    b"lost 1 2",
+    b"lost 4294967296",
+    b"Lost 1",
+    b"\x0bfree",
+];
+
 #[test]
 fn lines_that_cannot_be_taken() {
-    for line in [
-        &b"free\r"[..],
-        b"free\x00",
-        b"Free",
-        b"free 1",
-        b"take 1",
-        b"take 1 0",
-        b"take 1 0g",
-        b"take 1 00 00",
-        b"take -1 00",
-        b"take 1 -0",
-        b"label +1",
-        b"label 4294967296",
-        b"label 99999999999999999999999",
-        b"route 1 c0000201",
-        b"notice",
-        b"notice 1 2",
-        b"notice 1 2 00 00",
-        b"notice 1 2 0",
-        b"notice - 2 00",
-        b"notice 1 - 00",
-        b"notice 4294967296 2 00",
-        b"notice 1 4294967296 00",
-        b"Notice 1 2 00",
-        b"save 1",
-        b"save -",
-        b"Save",
-        b"restore",
-        b"restore 4c5",
-        b"restore 4c 53",
-        b"restore 4g",
-        b"Restore 4c",
-        b"start -",
-        b"\x0bfree",
-    ] {
+    for line in BAD_LINES {
         assert_eq!(output(line), "? 1\n", "{}", line.escape_ascii());
     }
 }
@@ -89,6 +96,10 @@ fn numbers() {
     assert_eq!(output(b"take 4294967295 -"), "take 1\n");
     assert_eq!(output(b"notice 4294967295 2 -"), "notice 1\n");
     assert_eq!(output(b"notice 0 4294967295 -"), "notice 0\n");
+    assert_eq!(
+        output(b"lost 0\nlost 0015\nlost 16\nlost 4294967295"),
+        "lost 0\nlost 0\nlost 1\nlost 1\n"
+    );
     assert_eq!(
         output(b"route - 4294967295\nroute - 0"),
         "route 1\nroute 6\n"
@@ -180,6 +191,9 @@ fn orders_read_back_what_they_write() {
         Order::Free,
         Order::Notice(16, 3, vec![0x84, 0]),
         Order::Notice(0, u32::MAX, vec![]),
+        Order::Save,
+        Order::Restore(vec![0x4c]),
+        Order::Lost(15),
     ] {
         assert_eq!(
             read_line(order.to_line().as_bytes()),

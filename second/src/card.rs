@@ -56,6 +56,14 @@ pub enum LabelUse {
 }
 
 impl LabelUse {
+    /// To whom the label is mapped, or from whom its Release is awaited.
+    pub fn neighbour(&self) -> Option<u32> {
+        match self {
+            LabelUse::Free => None,
+            LabelUse::Mapped(neighbour, _) | LabelUse::Awaiting(neighbour, _) => Some(*neighbour),
+        }
+    }
+
     pub fn name(&self) -> Option<&Name> {
         match self {
             LabelUse::Free => None,
@@ -165,6 +173,14 @@ impl Card {
         self.attempt(room, |draft| draft.reroute(root, route))
     }
 
+    /// The session with the neighbour is lost: nothing of it stays.
+    pub fn lost(&mut self, neighbour: u32, room: usize) -> Result<Vec<u8>, Refusal> {
+        if neighbour >= NEIGHBOURS {
+            return Err(Refusal::Neighbour);
+        }
+        self.attempt(room, |draft| draft.lose(neighbour))
+    }
+
     /// Tells a neighbour by what number its octets were refused.
     pub fn notice(
         &mut self,
@@ -265,6 +281,23 @@ impl Card {
         };
         if self.routes.insert(root.to_vec(), route).is_none() {
             self.roots.push(root.to_vec());
+        }
+    }
+
+    /// Mapped to the neighbour or awaited from it.
+    fn free_labels_of(&mut self, neighbour: u32) {
+        for held in &mut self.labels {
+            if held.neighbour() == Some(neighbour) {
+                *held = LabelUse::Free;
+            }
+        }
+    }
+
+    fn end_routes_through(&mut self, neighbour: u32) {
+        let through = |root: &&Vec<u8>| self.upstream(root) == Some(neighbour);
+        let roots: Vec<Vec<u8>> = self.roots.iter().filter(through).cloned().collect();
+        for root in roots {
+            self.set_route(&root, None);
         }
     }
 
@@ -407,6 +440,21 @@ impl Draft {
         self.card.set_route(root, route);
         let names: Vec<Name> = self.card.trees_of(root).map(|t| t.name.clone()).collect();
         names.iter().try_for_each(|name| self.settle(name))
+    }
+
+    /// With its labels free and its routes gone before the trees are looked at,
+    /// nothing is left that could be sent to the neighbour.
+    fn lose(&mut self, neighbour: u32) -> Result<(), Refusal> {
+        self.card.free_labels_of(neighbour);
+        self.card.end_routes_through(neighbour);
+        let names: Vec<Name> = self.card.trees.iter().map(|t| t.name.clone()).collect();
+        names.iter().try_for_each(|name| {
+            if let Some(tree) = self.standing(name) {
+                tree.branches.remove(&neighbour);
+            }
+            self.drop_if_bare(name);
+            self.settle(name)
+        })
     }
 
     /// The tree that stands, or a new one.

@@ -4,6 +4,9 @@ use crate::bench::{answer_number, WHOLE_BUFFER};
 #[path = "held_tests.rs"]
 mod held;
 
+#[path = "lost_tests.rs"]
+mod lost;
+
 const ROOT: [u8; 4] = [192, 0, 2, 1];
 /// Of a tree that `name` names.
 const RECORD: usize = 37;

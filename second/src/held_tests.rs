@@ -3,46 +3,46 @@
 
 use super::*;
 
-const MAPPING: u8 = 0;
-const WITHDRAW: u8 = 2;
-const RELEASE: u8 = 3;
+pub const MAPPING: u8 = 0;
+pub const WITHDRAW: u8 = 2;
+pub const RELEASE: u8 = 3;
 
 /// Neighbour, kind and label of each record of trees of ROOT.
-fn told(answer: Result<Vec<u8>, Refusal>) -> Vec<(u8, u8, u8)> {
+pub fn told(answer: Result<Vec<u8>, Refusal>) -> Vec<(u8, u8, u8)> {
     let records = answer.expect("it is taken");
     let heads = records.chunks(RECORD).map(|r| (r[3], r[5], r[RECORD - 1]));
     heads.collect()
 }
 
-fn says(card: &mut Card, from: u32, kind: Kind, number: u8, label: u32) -> Vec<(u8, u8, u8)> {
+pub fn says(card: &mut Card, from: u32, kind: Kind, number: u8, label: u32) -> Vec<(u8, u8, u8)> {
     let message = wire::write_message(kind, 5, &name(number), label);
     told(card.take(from, &message, WHOLE_BUFFER))
 }
 
-fn moved(card: &mut Card, to: u32) -> Vec<(u8, u8, u8)> {
+pub fn moved(card: &mut Card, to: u32) -> Vec<(u8, u8, u8)> {
     told(card.route(&ROOT, to, WHOLE_BUFFER))
 }
 
-fn joined(card: &mut Card, number: u8) -> Vec<(u8, u8, u8)> {
+pub fn joined(card: &mut Card, number: u8) -> Vec<(u8, u8, u8)> {
     told(card.join(&wire::write_element(&name(number)), WHOLE_BUFFER))
 }
 
-fn left(card: &mut Card, number: u8) -> Vec<(u8, u8, u8)> {
+pub fn left(card: &mut Card, number: u8) -> Vec<(u8, u8, u8)> {
     told(card.leave(&wire::write_element(&name(number)), WHOLE_BUFFER))
 }
 
-fn by_label(card: &Card, label: u32) -> Vec<(u32, u32)> {
+pub fn by_label(card: &Card, label: u32) -> Vec<(u32, u32)> {
     card.find_label(label)
         .map_or(vec![], |found| found.branches)
 }
 
-fn by_name(card: &Card, number: u8) -> Vec<(u32, u32)> {
+pub fn by_name(card: &Card, number: u8) -> Vec<(u32, u32)> {
     let found = card.find_tree(&wire::write_element(&name(number)));
     found.expect("it stands").branches
 }
 
 /// Tree 1 with a branch from each of these neighbours, its label 100 more.
-fn with_branches(neighbours: &[u32]) -> Card {
+pub fn with_branches(neighbours: &[u32]) -> Card {
     let mut card = grown(0);
     for &from in neighbours {
         says(&mut card, from, Kind::Mapping, 1, 100 + from);
@@ -319,7 +319,7 @@ fn release_others(card: &mut Card, first: u32, count: usize) {
 }
 
 /// The event is refused 16 in one octet less than its records have.
-fn needs_room(card: &Card, records: usize, event: impl Fn(&mut Card, usize) -> u8) {
+pub fn needs_room(card: &Card, records: usize, event: impl Fn(&mut Card, usize) -> u8) {
     let room = records * RECORD;
     if records > 0 {
         let mut before = card.clone();

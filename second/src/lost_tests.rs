@@ -1,0 +1,144 @@
+//! Request [11]: a neighbour's session is lost. The route of ROOT is neighbour
+//! 0 at first.
+
+use super::held::*;
+use super::*;
+
+fn gone(card: &mut Card, neighbour: u32) -> Vec<(u8, u8, u8)> {
+    told(card.lost(neighbour, WHOLE_BUFFER))
+}
+
+fn uses_of(card: &Card, neighbour: u32) -> usize {
+    let uses = card
+        .labels()
+        .filter(|(_, held)| held.neighbour() == Some(neighbour));
+    uses.count()
+}
+
+#[test]
+fn neighbours_above_15_are_refused() {
+    let mut card = with_branches(&[1]);
+    let before = card.clone();
+    for neighbour in [16, 17, u32::MAX] {
+        assert_eq!(answer_number(&card.lost(neighbour, 0)), 1);
+        assert_eq!(card, before);
+    }
+}
+
+#[test]
+fn of_nobody_it_changes_nothing() {
+    let mut card = with_branches(&[1]);
+    let before = card.clone();
+    for neighbour in [2, 15] {
+        assert_eq!(card.lost(neighbour, 0), Ok(Vec::new()));
+        assert_eq!(card, before);
+    }
+}
+
+#[test]
+fn a_branch_among_others_goes_silently() {
+    let mut card = with_branches(&[1, 2]);
+    assert_eq!(gone(&mut card, 1), []);
+    assert_eq!(by_label(&card, 16), [(2, 102)]);
+    assert_eq!(gone(&mut card, 1), []);
+}
+
+#[test]
+fn the_last_branch_takes_the_tree_and_withdraws_its_label() {
+    let mut card = with_branches(&[1]);
+    assert_eq!(gone(&mut card, 1), [(0, WITHDRAW, 16)]);
+    assert_eq!((card.trees().len(), card.free_labels()), (0, 255));
+    assert_eq!(tell(&mut card, 1, Kind::Release, 1, 16), 13);
+    assert_eq!(tell(&mut card, 0, Kind::Release, 1, 16), 0);
+}
+
+#[test]
+fn a_leaf_or_a_branch_keeps_the_label() {
+    let mut card = with_branches(&[1]);
+    joined(&mut card, 1);
+    assert_eq!(gone(&mut card, 1), []);
+    assert_eq!(card.find_label(16).map(|found| found.leaf), Some(true));
+}
+
+#[test]
+fn where_held_branches_remain_the_tree_stays() {
+    let mut card = with_branches(&[0, 1]);
+    assert_eq!(gone(&mut card, 1), [(0, WITHDRAW, 16)]);
+    assert_eq!((card.trees().len(), card.free_labels()), (1, 255));
+    assert_eq!(by_name(&card, 1), []);
+    assert_eq!(gone(&mut card, 1), []);
+}
+
+#[test]
+fn the_upstream_takes_route_label_and_held_branch() {
+    let mut card = with_branches(&[0, 1]);
+    assert_eq!(gone(&mut card, 0), []);
+    assert_eq!((card.routes().len(), card.free_labels()), (0, 256));
+    assert_eq!(by_name(&card, 1), [(1, 101)]);
+    assert_eq!(by_label(&card, 16), []);
+    assert_eq!(moved(&mut card, 5), [(5, MAPPING, 17)]);
+}
+
+#[test]
+fn a_tree_with_the_upstreams_branch_alone_goes() {
+    let mut card = with_branches(&[0]);
+    assert_eq!(gone(&mut card, 0), []);
+    assert_eq!((card.trees().len(), card.routes().len()), (0, 0));
+}
+
+#[test]
+fn a_tree_without_an_upstream_goes_silently() {
+    for to in [THIS_NODE, NO_ROUTE] {
+        let mut card = with_branches(&[1]);
+        moved(&mut card, to);
+        let awaiting = uses_of(&card, 0);
+        assert_eq!(gone(&mut card, 1), []);
+        assert_eq!((card.trees().len(), uses_of(&card, 0)), (0, awaiting));
+        let stays = usize::from(to == THIS_NODE);
+        assert_eq!(card.routes().len(), stays);
+    }
+}
+
+#[test]
+fn awaited_labels_are_free_at_once() {
+    let mut card = with_branches(&[1]);
+    moved(&mut card, 2);
+    moved(&mut card, 3);
+    assert_eq!(
+        (uses_of(&card, 0), uses_of(&card, 2), uses_of(&card, 3)),
+        (1, 1, 1)
+    );
+    assert_eq!(gone(&mut card, 2), []);
+    assert_eq!(
+        (uses_of(&card, 0), uses_of(&card, 2), uses_of(&card, 3)),
+        (1, 0, 1)
+    );
+    assert_eq!(tell(&mut card, 2, Kind::Release, 1, 17), 13);
+    assert_eq!(card.upstream(&ROOT), Some(3));
+}
+
+#[test]
+fn the_last_label_given_stays() {
+    let mut card = with_branches(&[1]);
+    gone(&mut card, 0);
+    assert_eq!((card.free_labels(), card.last_given()), (256, Some(16)));
+    assert_eq!(moved(&mut card, 4), [(4, MAPPING, 17)]);
+}
+
+/// Trees of one root in all states, by their age: records come oldest first.
+#[test]
+fn oldest_first() {
+    let mut card = grown(0);
+    for (number, from) in [(5, 7), (1, 7), (1, 0), (2, 7), (2, 1), (3, 0), (4, 7)] {
+        says(&mut card, from, Kind::Mapping, number, 100);
+    }
+    joined(&mut card, 4);
+    let before = card.clone();
+    let records = [(0, WITHDRAW, 16), (0, WITHDRAW, 17)];
+    assert_eq!(gone(&mut card, 7), records);
+    let names: Vec<u8> = card.trees().iter().map(|t| t.name.opaque[0]).collect();
+    assert_eq!(names, [1, 2, 3, 4]);
+    needs_room(&before, 2, |card, room| answer_number(&card.lost(7, room)));
+    let next = card.next_identifier();
+    assert_eq!(next, before.next_identifier() + 2);
+}
