@@ -13,6 +13,7 @@ mod formed;
 mod held_cases;
 mod held_events;
 mod long_cases;
+mod lost_cases;
 mod notice;
 mod notice_records;
 mod odd_lines;
@@ -184,6 +185,7 @@ fn write_gate_input(output: &mut impl Write) -> io::Result<()> {
         long_cases::day(),
         round_cases::day(),
         form_cases::day(),
+        lost_cases::day(),
     ] {
         writeln!(output, "{}", page.join("\n"))?;
     }
