@@ -7,6 +7,7 @@ use crate::damage;
 use crate::events::*;
 use crate::formed;
 use crate::held_events::*;
+use crate::lost_events::*;
 use crate::odd_lines;
 use crate::rng::Rng;
 use crate::save::LONGEST_SAVE;
@@ -21,7 +22,7 @@ pub struct Kind {
 }
 
 const DAMAGED: usize = 4;
-const MIXED: usize = 11;
+const MIXED: usize = 12;
 
 pub const KINDS: [Kind; MIXED + 1] = [
     kind("ordinary", open_ordinary, step_ordinary),
@@ -35,6 +36,7 @@ pub const KINDS: [Kind; MIXED + 1] = [
     kind("held", open_held, step_held),
     kind("saves", open_saves, step_saves),
     kind("round", open_round, step_round),
+    kind("lost", open_lost, step_lost),
     kind("mixed", open_ordinary, step_mixed),
 ];
 
@@ -155,6 +157,17 @@ const ROUND: &Recipe = &[
     (1, stray_release),
     (1, new_route),
     (1, ended_route),
+];
+
+const LOSSES: &Recipe = &[
+    (2, any_loss),
+    (1, stranger_loss),
+    (2, loss_of_nobody),
+    (5, upstream_loss),
+    (3, branch_loss),
+    (4, held_loss),
+    (5, last_live_loss),
+    (4, awaited_loss),
 ];
 
 pub struct Maker {
@@ -422,7 +435,7 @@ fn open_round(maker: &mut Maker) {
 fn step_round(maker: &mut Maker) {
     match maker.rng.below(100) {
         0 => swap(maker),
-        1..=5 => refused_first(maker),
+        1..=5 => refused_first(maker, &[(2, moved_trees), (1, new_leaf)]),
         _ => maker.run_short((40, 5, 50), 8, (ROUND, 30)),
     }
 }
@@ -436,8 +449,8 @@ fn swap(maker: &mut Maker) {
 }
 
 /// An event in one octet less than it needs, and then with room.
-fn refused_first(maker: &mut Maker) {
-    let order = maker.choose(&[(2, moved_trees), (1, new_leaf)]);
+fn refused_first(maker: &mut Maker, recipe: &Recipe) {
+    let order = maker.choose(recipe);
     let room = maker.bench.room as u32;
     if let Some(short) = maker.needed_room(&order).checked_sub(1) {
         maker.give(Order::Room(short as u32));
@@ -445,6 +458,40 @@ fn refused_first(maker: &mut Maker) {
         maker.give(Order::Room(room));
     }
     maker.give(order);
+}
+
+/// One in three on a full card.
+fn open_lost(maker: &mut Maker) {
+    if maker.rng.percent(33) {
+        return open_full(maker);
+    }
+    open_held(maker);
+}
+
+/// Losses, and enough between them for the next to find something.
+fn step_lost(maker: &mut Maker) {
+    let routes = maker.card().routes().len();
+    let busy = [ORDINARY, HELD, MOVES][maker.rng.below(3)];
+    match maker.rng.below(100) {
+        0..=4 => refused_first(maker, LOSSES),
+        5..=9 => lost_twice(maker),
+        10..=14 => maker.play(LOSSES, 80),
+        _ if routes < 3 => maker.play(&[(1, new_route)], 20),
+        15..=39 => maker.play(GROW, 20),
+        40..=54 => maker.play(&[(1, further_branch), (1, mapped_back)], 20),
+        _ => maker.play(busy, 25),
+    }
+}
+
+/// At once, or with something between.
+fn lost_twice(maker: &mut Maker) {
+    let loss = maker.choose(LOSSES);
+    maker.give(loss.clone());
+    if maker.rng.percent(50) {
+        maker.play(ORDINARY, 50);
+    }
+    maker.give(loss);
+    maker.look(50);
 }
 
 /// Few trees: a save of a full card makes a line of 46 thousand digits.

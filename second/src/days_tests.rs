@@ -199,6 +199,36 @@ fn a_round_day_goes_round() {
     }
 }
 
+/// What a loss of a day takes, by what it leaves.
+fn loss(before: &Card, order: &Order, number: u8, after: &Card) -> Option<&'static str> {
+    let Order::Lost(_) = order else {
+        return None;
+    };
+    let sent = after.next_identifier() - before.next_identifier();
+    let trees = after.trees().len() < before.trees().len();
+    let routes = after.routes().len() < before.routes().len();
+    Some(match (number, sent, trees, routes) {
+        (1, ..) => "a stranger",
+        (16, ..) => "no room",
+        _ if before == after => "of nobody",
+        (_, 0, false, false) => "branches or awaited labels alone",
+        (_, 0, true, false) => "trees without a label",
+        (_, 0, false, true) => "an upstream",
+        (_, 0, true, true) => "an upstream and its trees",
+        (_, _, false, _) => "labels of trees that stay",
+        (_, 1, true, _) => "one tree, or one of them with a label",
+        _ => "several trees",
+    })
+}
+
+#[test]
+fn a_day_of_losses_has_its_occasions() {
+    for seed in 1..=3 {
+        let met = occasions("lost", seed, loss);
+        assert!(met.len() == 10 && met.values().all(|n| *n >= 2), "{met:?}");
+    }
+}
+
 /// What a restore of a day meets: whether it is taken, whether a table stands
 /// in the way, and whether the octets are those of the table that stands.
 fn swap(before: &Card, order: &Order, number: u8) -> Option<&'static str> {

@@ -14,6 +14,7 @@ mod held_cases;
 mod held_events;
 mod long_cases;
 mod lost_cases;
+mod lost_events;
 mod notice;
 mod notice_records;
 mod odd_lines;
@@ -48,7 +49,7 @@ const USAGE: &str = "usage: second run [FILE]
 
 /// Seeds and lines of each kind's part of the gate's standard input.
 const GATE_SEEDS: [u64; 2] = [1, 2];
-const GATE_LINES: [(&str, usize); 12] = [
+const GATE_LINES: [(&str, usize); 13] = [
     ("ordinary", 120),
     ("full", 240),
     ("moves", 120),
@@ -59,6 +60,7 @@ const GATE_LINES: [(&str, usize); 12] = [
     ("held", 260),
     ("saves", 90),
     ("round", 160),
+    ("lost", 180),
     ("lines", 50),
     ("mixed", 150),
 ];
