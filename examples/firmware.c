@@ -180,7 +180,8 @@ static void tell(void)
     if (card_read_notice(out, written, fields) != CARD_ACCEPTED || memcmp(fields, said, sizeof said) != 0)
         fail("what the notice says");
     printf("  read: to %u, identifier %u, status %u, of message %u, type %04X\n", fields[CARD_FIELD_NEIGHBOUR],
-           fields[CARD_FIELD_ID], fields[CARD_FIELD_STATUS], fields[CARD_FIELD_COPIED_ID], fields[CARD_FIELD_COPIED_TYPE]);
+           fields[CARD_FIELD_ID], fields[CARD_FIELD_STATUS], fields[CARD_FIELD_COPIED_ID],
+           fields[CARD_FIELD_COPIED_TYPE]);
     if (card_read_notice(out, written - 1, fields) != CARD_BAD_NOTICE || memcmp(fields, said, sizeof said) != 0)
         fail("a notice cut short");
 }
@@ -200,7 +201,8 @@ static void swap(void)
         fail("the restore");
     if (card_restore(new_numbers, new_names, save, saved - 1, spare_numbers, spare_names, spare_save) != CARD_BAD_SAVE)
         fail("a save cut short");
-    if (card_save(new_numbers, new_names, save_again, sizeof save_again, &answer) != saved || memcmp(save, save_again, saved) != 0)
+    size_t again = card_save(new_numbers, new_names, save_again, sizeof save_again, &answer);
+    if (again != saved || memcmp(save, save_again, saved) != 0)
         fail("the save of what was restored");
     memcpy(numbers, new_numbers, sizeof numbers);
     memcpy(names, new_names, sizeof names);

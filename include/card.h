@@ -6,7 +6,7 @@
  *     static uint64_t numbers[CARD_NUMBERS];
  *     static uint8_t names[CARD_NAMES];
  *     static uint8_t out[CARD_OUT_MOST];
- *     uint32_t answer;
+ *     uint32_t answer = 0;
  *     card_start(numbers, 16);
  *     size_t written = card_receive(numbers, names, 1, message, length, out, sizeof out, &answer);
  *
@@ -17,17 +17,17 @@
  *   - No pointer is null, also where a length is 0.
  *   - An array has at least the elements that its parameter names; a pointer followed by a length has that many octets.
  *   - A pointer is aligned as its type asks: to 8 octets for uint64_t, to 4 for uint32_t. Octets may begin anywhere.
- *   - All that is lent was set before, to anything: what is lent for writing alone (`out`, `answer`, `branches`, `fields`,
- *     `spare_..`) too. A static array is set; a local without an initialiser is not.
+ *   - All that is lent was set before, to anything: what is lent for writing alone (`out`, `answer`, `branches`,
+ *     `fields`, `spare_..`) too. A static array is set; a local without an initialiser is not.
  *   - What one call is lent for writing shares no octet with anything else that the same call is lent.
- *   - Nobody else reads or writes during a call what it is lent for writing, or writes what it is lent as const. Lookups,
- *     card_free_labels and card_save are lent the card as const: several may run at once on one card, each with
- *     `branches`, `out` and `answer` of its own.
+ *   - Nobody else reads or writes during a call what it is lent for writing, or writes what it is lent as const.
+ *     Lookups, card_free_labels and card_save are lent the card as const: several may run at once on one card, each
+ *     with `branches`, `out` and `answer` of its own.
  *
  * A call takes no lock, asks for no memory, calls nothing outside the library but memcpy and memset, and ends.
  *
- * The most stack that each call takes, in octets, its return address counted and its arguments not. It is read from the object
- * code, over every path (tools/stack), and memcpy and memset come on top:
+ * The most stack that each call takes, in octets, its return address counted and its arguments not. It is read from
+ * the object code, over every path (tools/stack), and memcpy and memset come on top:
  *
  *     card_start         40     card_lookup_label    8     card_notice        32
  *     card_receive      608     card_lookup_name   232     card_read_notice   24
@@ -154,11 +154,10 @@ bool card_lookup_name(const uint64_t numbers[CARD_NUMBERS], const uint8_t names[
 uint32_t card_free_labels(const uint64_t numbers[CARD_NUMBERS]);
 
 /*
- * Notices. card_notice tells a neighbour by which number of enum card_answer its octets were refused: lent the card's
- * numbers alone, those octets, an output buffer and a place for the answer, it answers and returns as an event does. The
- * record has CARD_NOTICE_OCTETS octets, and its identifier is the card's next. Of most numbers there is one; of 0, 1, 10,
- * 13 and above, and of 3 where the U bit of the type is set, there is none: accepted, 0 octets. Number and octets are taken
- * as they are given.
+ * Tells a neighbour by which number of enum card_answer its octets were refused. It is lent the card's numbers alone,
+ * those octets, an output buffer and a place for the answer; it answers and returns as an event does. The record has
+ * CARD_NOTICE_OCTETS octets, and its identifier is the card's next. Of 0, 1, 10, 13 and above, and of 3 where the U bit
+ * of the type is set, there is none: accepted, 0 octets. Number and octets are taken as they are given.
  */
 size_t card_notice(uint64_t numbers[CARD_NUMBERS], uint32_t neighbour, uint32_t number, const uint8_t *octets,
                    size_t octets_length, uint8_t *out, size_t out_length, uint32_t *answer);
@@ -174,24 +173,24 @@ enum {
 };
 
 /*
- * Reads the record of a notice. Returns CARD_ACCEPTED, with all of `fields` written; or CARD_BAD_NOTICE, with `fields` as it
- * was. It is lent no card.
+ * Reads the record of a notice. Returns CARD_ACCEPTED, with all of `fields` written; or CARD_BAD_NOTICE, with `fields`
+ * as it was. It is lent no card.
  */
 uint32_t card_read_notice(const uint8_t *octets, size_t octets_length, uint32_t fields[CARD_FIELDS]);
 
 /*
  * The table as octets, for a card swap: their form is drawn in docs/SAVE.md. The card stays as it is. Sets *answer to
- * CARD_ACCEPTED or CARD_NO_ROOM and returns how many octets of `out` it wrote, from its front; the rest of `out` keeps its
- * octets. A buffer of CARD_SAVE_MOST octets is never too short.
+ * CARD_ACCEPTED or CARD_NO_ROOM and returns how many octets of `out` it wrote, from its front; the rest of `out` keeps
+ * its octets. A buffer of CARD_SAVE_MOST octets is never too short.
  */
-size_t card_save(const uint64_t numbers[CARD_NUMBERS], const uint8_t names[CARD_NAMES], uint8_t *out, size_t out_length,
-                 uint32_t *answer);
+size_t card_save(const uint64_t numbers[CARD_NUMBERS], const uint8_t names[CARD_NAMES], uint8_t *out,
+                 size_t out_length, uint32_t *answer);
 
 /*
- * Takes back a save. Returns CARD_ACCEPTED, and its table stands in the place of the card's; or CARD_BAD_SAVE, and the card
- * is as it was. The octets are read into the spare memory first, which has the sizes of a card and of the longest save, and
- * may hold anything before and after. A save that is older than the last event or notice gives labels out again that
- * a neighbour still uses: restore none such.
+ * Takes back a save. Returns CARD_ACCEPTED, and its table stands in the place of the card's; or CARD_BAD_SAVE, and the
+ * card is as it was. The octets are read into the spare memory first, which has the sizes of a card and of the longest
+ * save, and may hold anything before and after. What the card promises of its labels goes on where no event and no
+ * notice came between the save and its restore: labels that an older save has free may be in a neighbour's use.
  */
 uint32_t card_restore(uint64_t numbers[CARD_NUMBERS], uint8_t names[CARD_NAMES], const uint8_t *octets,
                       size_t octets_length, uint64_t spare_numbers[CARD_NUMBERS], uint8_t spare_names[CARD_NAMES],
