@@ -20,7 +20,7 @@ struct form {
 
 static const struct form forms[] = {
     {"start", START, "n"}, {"room", ROOM, "n"},    {"take", TAKE, "nh"}, {"join", JOIN, "h"}, {"leave", LEAVE, "h"},
-    {"route", ROUTE, "hn"}, {"label", LABEL, "n"}, {"tree", TREE, "h"},  {"free", FREE, ""},
+    {"route", ROUTE, "hn"}, {"lost", LOST, "n"},   {"label", LABEL, "n"}, {"tree", TREE, "h"},  {"free", FREE, ""},
 };
 
 enum { FORMS = sizeof forms / sizeof forms[0] };

@@ -5,7 +5,7 @@
 #include <stddef.h>
 #include <stdint.h>
 
-enum order_kind { BAD, START, ROOM, TAKE, JOIN, LEAVE, ROUTE, LABEL, TREE, FREE };
+enum order_kind { BAD, START, ROOM, TAKE, JOIN, LEAVE, ROUTE, LOST, LABEL, TREE, FREE };
 
 struct order {
     enum order_kind kind;

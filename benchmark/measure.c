@@ -157,7 +157,7 @@ static size_t do_day(struct bench *b, bool cleared)
     size_t events = 0;
     for (size_t i = 0; i < day.count; i++) {
         enum order_kind kind = day.orders[i].kind;
-        if (kind != START && kind != TAKE && kind != JOIN && kind != LEAVE && kind != ROUTE)
+        if (kind != START && kind != TAKE && kind != JOIN && kind != LEAVE && kind != ROUTE && kind != LOST)
             continue;
         clear(b, (struct clearing){cleared, false});
         obey(b, &day.orders[i]);
@@ -205,6 +205,15 @@ static size_t do_move(struct bench *b, bool cleared)
     return 1;
 }
 
+/* The card of the move: each tree has that neighbour's branch alone, so each goes, and its label is withdrawn. */
+static size_t do_loss(struct bench *b, bool cleared)
+{
+    clear(b, (struct clearing){cleared, false});
+    give(b, (struct order){LOST, 0, branch_of(0), NULL, 0});
+    sink += b->written;
+    return 1;
+}
+
 struct measure {
     const char *what;
     void (*prepare)(struct bench *);
@@ -217,6 +226,7 @@ static const struct measure measures[] = {
     {"an event of an ordinary day", prepare_day, do_day, 2},
     {"the set-up of a full card of 64 trees", prepare_set_up, do_set_up, 3},
     {"a route order that moves 64 trees", prepare_move, do_move, 3},
+    {"a loss that ends 64 branches", prepare_move, do_loss, 3},
 };
 
 /* ---- the table */

@@ -606,6 +606,78 @@ size_t plain_route(uint64_t *numbers, uint8_t *names, const uint8_t *root, size_
     return o.written;
 }
 
+/* ---- a neighbour's session is lost */
+
+/* Whether the tree, without that neighbour's branch, withdraws its label from another. */
+static bool withdraws(const struct table *t, size_t slot, uint32_t gone)
+{
+    size_t p = t->own_label[slot];
+    if (p == NO_LABEL || (t->mark[p] & MARK) == MAPPED + gone || is_leaf(t, slot))
+        return false;
+    uint64_t any = 0;
+    for (uint32_t n = 0; n < CARD_NEIGHBOURS; n++)
+        any |= n == gone || n == t->route[slot] ? 0 : t->branches[slot][n];
+    return any == 0;
+}
+
+static size_t loss_size(struct card c, uint32_t gone)
+{
+    const uint8_t *order = order_of(c.table);
+    size_t size = 0;
+    for (size_t i = 0; i < c.table->tree_count; i++)
+        if (withdraws(c.table, order[i], gone))
+            size += RECORD_HEAD + c.texts->tree[order[i]][0];
+    return size;
+}
+
+/* Its branches, its labels, mapped or awaiting, and the routes through it. */
+static void part_from(struct card c, uint32_t gone)
+{
+    struct table *t = c.table;
+    const uint8_t *order = order_of(t);
+    for (size_t i = 0; i < t->tree_count; i++) {
+        size_t slot = order[i];
+        t->branches[slot][gone] = 0;
+        if (t->route[slot] == gone) {
+            t->route[slot] = CARD_NO_ROUTE;
+            t->own_label[slot] = NO_LABEL;
+        }
+    }
+    for (size_t p = 0; p < CARD_LABELS; p++) {
+        uint64_t use = t->mark[p] & MARK;
+        if (use == MAPPED + gone || use == AWAITING + gone) {
+            t->mark[p] = 0;
+            t->free_labels[p / 64] |= 1ull << p % 64;
+        }
+    }
+    for (size_t i = t->route_count; i-- > 0;)
+        if (t->via[i] == gone)
+            set_route(c, i, kept(c.texts->root[i]), CARD_NO_ROUTE);
+}
+
+size_t plain_lost(uint64_t *numbers, uint8_t *names, uint32_t neighbour, uint8_t *out, size_t out_length,
+                  uint32_t *answer)
+{
+    struct card c = card_in(numbers, names);
+    struct output o = {out, out_length, 0};
+    uint8_t slots[CARD_TREES];
+    if (neighbour >= CARD_NEIGHBOURS) {
+        *answer = CARD_NO_SUCH_NEIGHBOUR;
+        return 0;
+    }
+    if (out_length < loss_size(c, neighbour)) {
+        *answer = CARD_NO_ROOM;
+        return 0;
+    }
+    part_from(c, neighbour);
+    size_t count = c.table->tree_count;
+    memcpy(slots, order_of(c.table), count);
+    for (size_t i = 0; i < count; i++)
+        let_go(c, slots[i], ending_of(c.table, slots[i]), &o);
+    *answer = CARD_ACCEPTED;
+    return o.written;
+}
+
 /* ---- start and lookups */
 
 uint32_t plain_start(uint64_t *numbers, uint32_t base)

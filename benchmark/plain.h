@@ -13,6 +13,8 @@ size_t plain_leave(uint64_t *numbers, uint8_t *names, const uint8_t *element, si
                    size_t out_length, uint32_t *answer);
 size_t plain_route(uint64_t *numbers, uint8_t *names, const uint8_t *root, size_t root_length, uint32_t route,
                    uint8_t *out, size_t out_length, uint32_t *answer);
+size_t plain_lost(uint64_t *numbers, uint8_t *names, uint32_t neighbour, uint8_t *out, size_t out_length,
+                  uint32_t *answer);
 bool plain_lookup_label(const uint64_t *numbers, uint32_t label, uint64_t *branches);
 bool plain_lookup_name(const uint64_t *numbers, const uint8_t *names, const uint8_t *element, size_t element_length,
                        uint64_t *branches);

@@ -4,8 +4,8 @@
 
 #define SIDE(name, prefix)                                                                                             \
     {                                                                                                                  \
-        name, prefix##_start, prefix##_receive, prefix##_join, prefix##_leave, prefix##_route, prefix##_lookup_label,  \
-            prefix##_lookup_name, prefix##_free_labels                                                                 \
+        name, prefix##_start, prefix##_receive, prefix##_join, prefix##_leave, prefix##_route, prefix##_lost,          \
+            prefix##_lookup_label, prefix##_lookup_name, prefix##_free_labels                                          \
     }
 
 const struct side proved = SIDE("proved", card);
@@ -30,6 +30,8 @@ static void obey_event(struct bench *b, const struct order *o)
         b->written = s->leave(b->numbers, b->names, o->octets, o->length, b->out, b->room, &b->answer);
     else if (o->kind == ROUTE)
         b->written = s->route(b->numbers, b->names, o->octets, o->length, o->number, b->out, b->room, &b->answer);
+    else if (o->kind == LOST)
+        b->written = s->lost(b->numbers, b->names, o->number, b->out, b->room, &b->answer);
 }
 
 void obey(struct bench *b, const struct order *o)

@@ -12,6 +12,7 @@ struct side {
     size_t (*join)(uint64_t *, uint8_t *, const uint8_t *, size_t, uint8_t *, size_t, uint32_t *);
     size_t (*leave)(uint64_t *, uint8_t *, const uint8_t *, size_t, uint8_t *, size_t, uint32_t *);
     size_t (*route)(uint64_t *, uint8_t *, const uint8_t *, size_t, uint32_t, uint8_t *, size_t, uint32_t *);
+    size_t (*lost)(uint64_t *, uint8_t *, uint32_t, uint8_t *, size_t, uint32_t *);
     bool (*lookup_label)(const uint64_t *, uint32_t, uint64_t *);
     bool (*lookup_name)(const uint64_t *, const uint8_t *, const uint8_t *, size_t, uint64_t *);
     uint32_t (*free_labels)(const uint64_t *);

@@ -33,7 +33,7 @@
  *     card_receive      608     card_lookup_name   232     card_read_notice   24
  *     card_join         448     card_free_labels     8     card_save         152
  *     card_leave        528                                card_restore      408
- *     card_route        432
+ *     card_route        432     card_lost          600
  */
 #ifndef CARD_H
 #define CARD_H
