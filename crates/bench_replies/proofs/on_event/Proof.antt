@@ -135,7 +135,7 @@ same-length-6 c = search needs
 
 returns-6 : tie.Need-returns-6
 unfolding meant
-returns-6 c = λ number. rw (c .before .before .before .before .before .before .order6 .given .1) (c .before .before .on-lost .ensures number)
+returns-6 c = λ number. rw (c .before .before .before .before .before .before .before .order6 .given .1) (c .before .before .on-lost .ensures number)
 
 returns-7 : tie.Need-returns-7
 returns-7 c = λ number. absurd (not-written (c .before .before .before .args .order) (c .match .keys7) (c .before .before .before .pre .1))
