@@ -157,8 +157,8 @@ static void cases_5_to_7(void)
     receive("6. Release <A, 16> from 3", 3, RELEASE, 16, CARD_NOT_AWAITED, 0, NULL);
     receive("   Release <A, 16> from 0", 0, RELEASE, 16, CARD_ACCEPTED, 0, NULL);
     receive("   Release <A, 16> from 0 again", 0, RELEASE, 16, CARD_NOT_AWAITED, 0, NULL);
-    route("7. Route of A's root to neighbour 3", 3, 2, (struct record[]){{0, WITHDRAW, 6, 17}, {3, MAPPING, 7, 16}});
-    look(16, 1, 300);
+    route("7. Route of A's root to neighbour 3", 3, 2, (struct record[]){{0, WITHDRAW, 6, 17}, {3, MAPPING, 7, 18}});
+    look(18, 1, 300);
     look(17, 0, 0);
     count_free(254);
 }
@@ -206,7 +206,7 @@ static void swap(void)
         fail("the save of what was restored");
     memcpy(numbers, new_numbers, sizeof numbers);
     memcpy(names, new_names, sizeof names);
-    look(16, 1, 300);
+    look(18, 1, 300);
     count_free(254);
 }
 

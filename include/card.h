@@ -30,10 +30,10 @@
  * the object code, over every path (tools/stack), and memcpy and memset come on top:
  *
  *     card_start         40     card_lookup_label    8     card_notice        32
- *     card_receive      608     card_lookup_name   232     card_read_notice   24
- *     card_join         448     card_free_labels     8     card_save         152
- *     card_leave        528                                card_restore      408
- *     card_route        432     card_lost          600
+ *     card_receive      592     card_lookup_name   216     card_read_notice   24
+ *     card_join         320     card_free_labels     8     card_save         184
+ *     card_leave        496                                card_restore      456
+ *     card_route        352     card_lost          216
  */
 #ifndef CARD_H
 #define CARD_H
