@@ -146,6 +146,11 @@ class Progress(Case):
         self.assertRegex(seen.decode(), "\r\x1b\\[Kcheck: (proving room [123] of 3|must-fail edit [12] of 2) \\(")
 
 
+def heeds_the_keyboard():
+    """What a shell starts in the background ignores SIGINT, and so would all that it starts."""
+    signal.signal(signal.SIGINT, signal.SIG_DFL)
+
+
 class Interrupted(Case):
     """./bench, told to end while rt is at work."""
 
@@ -163,7 +168,8 @@ class Interrupted(Case):
 
     def interrupt(self, number):
         ran = subprocess.Popen(["./bench"], cwd=self.place, env=self.environment | {"STUCK": "1"},
-                               stdin=subprocess.DEVNULL, stdout=subprocess.PIPE, stderr=subprocess.STDOUT)
+                               stdin=subprocess.DEVNULL, stdout=subprocess.PIPE, stderr=subprocess.STDOUT,
+                               preexec_fn=heeds_the_keyboard)
         self.addCleanup(ran.kill)
         self.wait_for((self.place / "stuck").exists)
         group = os.getpgid(int((self.place / "began").read_text()))
