@@ -160,7 +160,7 @@ class Stack(unittest.TestCase):
 class Library(unittest.TestCase):
     def make(self, *words):
         # the archive is taken as it is
-        command = ["make", "-s", "-C", made.ROOT / "library", "-o", "../target/staticlib/libfirmware.a", *words]
+        command = ["make", "-s", "--no-print-directory", "-C", made.ROOT / "library", "-o", "../target/staticlib/libfirmware.a", *words]
         return subprocess.run(command, capture_output=True, text=True, check=False)
 
     def test_installed_and_taken_away(self):
