@@ -5,9 +5,9 @@ ghost use mathlib.Core.List.{List, _∷_};
 ghost use Prim.Native.Nat.{ℕ, _+_, _-_, _≤_, _<_};
 ghost use lib.ListN.{length, replicate};
 ghost use Rattle.meaning.specs.Card.{turn, withNext, withLast, labelCount, routeLimit, treeLimit};
-ghost use Rattle.memory.specs.Sizes.{Numbers};
+ghost use Rattle.memory.specs.Sizes.{Numbers, Names, nameSpace};
 ghost use Rattle.memory.specs.Parts.{Written, Closed};
-ghost use Rattle.memory.specs.Memory.{cardOf, baseIn, labelBefore, treeCount, routeCount, textAt};
+ghost use Rattle.memory.specs.Memory.{cardOf, baseIn, labelBefore, treeCount, routeCount, textAt, treeName};
 use meaning::LABEL_COUNT;
 use meaning::NAME_LIMIT;
 use meaning::NEIGHBOUR_COUNT;
@@ -134,6 +134,14 @@ pub fn text(names: &[u8], k: usize, a: usize) -> &[u8]
     }
     let e = s + k;
     &names[s..e]
+}
+
+// How many octets the name of the tree at place i takes of its space, with its length before it.
+pub fn used_octets(names: &[u8], i: usize) -> usize
+    requires { ⌜ Names (now names) × (i < treeLimit) ⌝ }
+    ensures { λ r. ⌜ (r ≡ 1 + length (treeName (now (names .entry)) i)) × (r ≤ nameSpace) ⌝ }
+{
+    1 + text(names, NAME_LIMIT, i * NAME_SPACE).len()
 }
 
 // A text in its slot: its length, and then its octets.

@@ -10,20 +10,11 @@ ghost use Rattle.meaning.specs.Card.{withLabels, treeAt, mapped, awaiting, labe
 ghost use Rattle.meaning.specs.Events.{setUse, setLabel};
 ghost use Rattle.memory.specs.Sizes.{Numbers, Names, nameSpace};
 ghost use Rattle.memory.specs.Memory.{cardOf, baseIn, treeCount, treeName, isFreeAt, isMappedAt};
-use meaning::NAME_LIMIT;
 use memory::LABEL_NAMES;
 use memory::MARK_COLUMN;
 use memory::NAME_SPACE;
 use memory::NOWHERE;
 use memory::OWN_COLUMN;
-
-// How many octets the name of the tree at place i takes of its space, with its length before it.
-fn used_octets(names: &[u8], i: usize) -> usize
-    requires { ⌜ Names (now names) × (i < treeLimit) ⌝ }
-    ensures { λ r. ⌜ (r ≡ 1 + length (treeName (now (names .entry)) i)) × (r ≤ nameSpace) ⌝ }
-{
-    1 + memory::text(names, NAME_LIMIT, i * NAME_SPACE).len()
-}
 
 // The label at place p of the block, which is free, is mapped to neighbour n for the tree at place i, which carries it from now on.
 pub fn map_label(numbers: &mut [u64], names: &mut [u8], p: usize, i: usize, n: u64)
@@ -31,7 +22,7 @@ pub fn map_label(numbers: &mut [u64], names: &mut [u8], p: usize, i: usize, n: u
     ensures { λ _. ⌜ (let c = cardOf (now (numbers .entry)) (now (names .entry)) in cardOf (now (numbers .exit)) (now (names .exit))
         ≡ setLabel i (baseIn (now (numbers .entry)) + p) (setUse (baseIn (now (numbers .entry)) + p) (mapped n (treeAt i c .name)) c)) ⌝ }
 {
-    let used = used_octets(names, i);
+    let used = memory::used_octets(names, i);
     octets::copy_within(names, i * NAME_SPACE, LABEL_NAMES + p * NAME_SPACE, used);
     memory_labels::set_taken(numbers, p);
     numbers[MARK_COLUMN + p] = n + 256 * i as u64;

@@ -4,17 +4,20 @@ use native.Mathlib.Omega.{arith}
 use mathlib.Core.Path.{_≡_, refl, sym, _∙_}
 use mathlib.Core.Bool.{true, false}
 use mathlib.Core.List.{List}
-use lib.ListN.{set, length-set}
+use lib.ListN.{length, set, length-set}
 use lib.Seq.{getD-set-same, getD-set-other}
 use lib.Dec.{eqb}
 use borrow.Author.Tests.{eqb-true, eqb-false}
 use Rattle.meaning.specs.Lists.{by-test}
+use Rattle.meaning.specs.Wire.{nameLimit}
 use Rattle.meaning.specs.Card.{labelCount, treeLimit}
 use Rattle.memory.specs.Sizes.{nameSpace, ownColumn, markColumn, wordColumn, wordCount, labelNames, Numbers, noLabel}
-use Rattle.memory.specs.Memory.{markAt, markUse, markPlace, isFreeAt, isMappedAt, labelIn, ownPlace, carriesAt, Relabelled}
-use Rattle.memory.proofs.Memory.{base-same, free-same, own-same, label-same, agree-refl, agree-set}
+use Rattle.memory.specs.Parts.{Closed}
+use Rattle.memory.specs.Memory.{treeName, markAt, markUse, markPlace, isFreeAt, isMappedAt, labelIn, ownPlace, carriesAt, Relabelled}
+use Rattle.memory.proofs.Memory.{text-same, base-same, free-same, own-same, label-same, agree-refl, agree-set}
 use Rattle.memory.proofs.Marks.{mapped-at, mapped-use, carried-in, carried-out, not-far, not-named, own-some, own-none, use-kept, remarked, remarked-free, own-beside}
-use Rattle.memory_rows.specs.Lower.{Lowered, LoweredOne}
+use Rattle.memory.proofs.Parts.{lower, text-brought}
+use Rattle.memory_rows.specs.Lower.{Lowered, LoweredOne, NamesLowered}
 
 module _ (ns : List ℕ) (j : ℕ) (l : Numbers ns) (h : j + 1 < treeLimit) where
   -- the tree carries its label
@@ -130,3 +133,38 @@ lowered-more i j ns ms ks h k w o = record {
   where
     sharper : (q j : ℕ) → q ≤ j → (q ≡ j → ⊥) → q < j
     sharper q j le ne = omega arith
+
+-- ---- their names
+
+pub names-none : (i : ℕ) (os : List ℕ) → NamesLowered i i os os
+names-none i os = record {
+  long = refl;
+  moved = λ q h k. absurd (omega arith);
+  rest = λ k out. refl;
+}
+
+-- the name at place j + 1 and its length stand one space lower
+pub name-lowered : (j : ℕ) (os qs : List ℕ) (used : ℕ) → used ≡ 1 + length (treeName os (j + 1)) → used ≤ nameSpace → Closed (j * nameSpace) ((j + 1) * nameSpace + used) nameSpace os qs → NamesLowered j (j + 1) os qs
+unfolding treeName
+name-lowered j os qs used e short cl = record {
+  long = cl .long;
+  moved = λ q h k.
+      let same : q ≡ j = omega arith in
+      rw same (text-brought nameLimit ((j + 1) * nameSpace) (j * nameSpace) os qs (lower (j * nameSpace) ((j + 1) * nameSpace + used) nameSpace ((j + 1) * nameSpace) (j * nameSpace) (1 + length (treeName os (j + 1))) os qs cl (omega arith) (omega arith) (omega arith)));
+  rest = λ k out. cl .rest k (λ x y. out x (omega arith));
+}
+
+pub names-more : (i j : ℕ) (os qs rs : List ℕ) → i ≤ j → NamesLowered i j os qs → NamesLowered j (j + 1) qs rs → NamesLowered i (j + 1) os rs
+unfolding treeName
+names-more i j os qs rs h w o = record {
+  long = o .long ∙ w .long;
+  moved = λ q le lt.
+      by-test (eqb q j)
+      (λ t.
+      let e : q ≡ j = eqb-true q j t in
+      rw e (o .moved j (omega arith) (omega arith) ∙ text-same nameLimit ((j + 1) * nameSpace) os qs (λ k x y. w .rest k (λ u v. omega arith))))
+      (λ t.
+      let ne = eqb-false q j t in
+      text-same nameLimit (q * nameSpace) qs rs (λ k x y. o .rest k (λ u v. omega arith)) ∙ w .moved q le (omega arith));
+  rest = λ k out. o .rest k (λ x y. out (omega arith) y) ∙ w .rest k (λ x y. out x (omega arith));
+}

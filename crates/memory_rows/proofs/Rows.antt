@@ -21,16 +21,15 @@ use Rattle.memory.specs.Parts.{Written, Closed}
 use Rattle.memory.specs.Memory.{upTo, textAt, treeName, baseIn, nextIn, routeCount, treeCount, routeIn, wordAt, isFreeAt, labelIn, ownPlace, ownLabel, treeIn, cardOf, turnIn, lastIn, labelBefore}
 use Rattle.memory.proofs.Memory.{upTo-le, upTo-in, free-same, own-same, own-kept, tree-same, label-same, but-trees}
 use Rattle.memory.proofs.Marks.{label-free, not-far, own-none}
-use Rattle.memory.proofs.Parts.{Carries, lower, text-carried, text-put}
-use Rattle.memory_rows.specs.Lower.{Lowered}
+use Rattle.memory.proofs.Parts.{Carries, lower, text-put}
+use Rattle.memory_rows.specs.Lower.{Lowered, NamesLowered}
 
 -- ---- a row that stands at another place
 
 module _ (ns ns' os os' : List ℕ) where
-  tree-carried : (i j : ℕ) → ownLabel ns' j (ownPlace ns' j) ≡ ownLabel ns i (ownPlace ns i) → Carries (rowColumn + i * rowWidth) (rowColumn + j * rowWidth) rowWidth ns ns' → Carries (i * nameSpace) (j * nameSpace) nameSpace os os' → treeIn ns' os' j ≡ treeIn ns os i
-  unfolding treeIn treeName
-  tree-carried i j l r n =
-      let name : textAt nameLimit os' (j * nameSpace) ≡ textAt nameLimit os (i * nameSpace) = text-carried nameLimit (i * nameSpace) (j * nameSpace) os os' n in
+  tree-carried : (i j : ℕ) → ownLabel ns' j (ownPlace ns' j) ≡ ownLabel ns i (ownPlace ns i) → Carries (rowColumn + i * rowWidth) (rowColumn + j * rowWidth) rowWidth ns ns' → treeName os' j ≡ treeName os i → treeIn ns' os' j ≡ treeIn ns os i
+  unfolding treeIn
+  tree-carried i j l r name =
       let branches : tab 16 (λ k. getD ns' (branchColumn + j * rowWidth + k) 0) ≡ tab 16 (λ k. getD ns (branchColumn + i * rowWidth + k) 0) =
       tab-ext 16 _ _ (λ k lt.
       let x : branchColumn + j * rowWidth + k ≡ rowColumn + j * rowWidth + (1 + k) = omega arith in
@@ -126,7 +125,7 @@ start-fresh ns zs os base h lo hi e =
 -- ---- a row goes
 
 pub remove-tree : (ns ks ls rs os qs : List ℕ) (i n : ℕ) → Numbers ns → n ≡ treeCount ns → i < n → Lowered i (n - 1) ns ks
-    → Closed (ownColumn + i) (ownColumn + n) 1 ks ls → Closed (rowColumn + i * rowWidth) (rowColumn + n * rowWidth) rowWidth ls rs → Closed (i * nameSpace) (n * nameSpace) nameSpace os qs
+    → Closed (ownColumn + i) (ownColumn + n) 1 ks ls → Closed (rowColumn + i * rowWidth) (rowColumn + n * rowWidth) rowWidth ls rs → NamesLowered i (n - 1) os qs
     → cardOf (set rs 3 (n - 1)) qs ≡ withTrees (cut (cardOf ns os .trees) i) (cardOf ns os)
 unfolding treeCount cardOf
 remove-tree ns ks ls rs os qs i n hl hn hi lo cl cr cn =
@@ -182,7 +181,7 @@ remove-tree ns ks ls rs os qs i n hl hn hi lo cl cr cn =
         ∙ lower (rowColumn + i * rowWidth) (rowColumn + n * rowWidth) rowWidth (rowColumn + (j + 1) * rowWidth) (rowColumn + j * rowWidth) rowWidth ls rs cr (omega arith) (omega arith) (omega arith) k h
         ∙ cl .rest (rowColumn + (j + 1) * rowWidth + k) (λ u v. omega (arith, limit))
         ∙ lo .rest (rowColumn + (j + 1) * rowWidth + k) (λ u v. omega arith) (λ u v. omega (arith, limit)))
-        (lower (i * nameSpace) (n * nameSpace) nameSpace ((j + 1) * nameSpace) (j * nameSpace) nameSpace os qs cn (omega arith) (omega arith) (omega arith))
+        (cn .moved j le (omega arith))
 
 -- ---- a row comes
 

@@ -1,11 +1,11 @@
 -- What is said of trees that are made ready to stand one place lower. Assumes nothing.
-use Prim.Native.Nat.{ℕ, _+_, _≤_, _<_}
+use Prim.Native.Nat.{ℕ, _+_, _*_, _≤_, _<_}
 use mathlib.Core.Path.{_≡_}
 use mathlib.Core.List.{List}
 use lib.ListN.{length, getD}
 use Rattle.meaning.specs.Card.{labelCount, treeLimit}
-use Rattle.memory.specs.Sizes.{ownColumn, rowColumn, markColumn, wordColumn}
-use Rattle.memory.specs.Memory.{labelIn, ownPlace, ownLabel}
+use Rattle.memory.specs.Sizes.{nameSpace, ownColumn, rowColumn, markColumn, wordColumn}
+use Rattle.memory.specs.Memory.{treeName, labelIn, ownPlace, ownLabel}
 
 -- Before the gap at place i is closed: the trees at the places i + 1 to j are ready to stand one place lower. Each carries the same label there.
 -- Those before the gap and those behind j carry theirs as they did; what every label is used for, and all else, is as it was.
@@ -24,3 +24,9 @@ pub record LoweredOne (j : ℕ) (ns ms : List ℕ) : Type 0 where
   pub uses : (os : List ℕ) (p : ℕ) → p < labelCount → labelIn ms os p ≡ labelIn ns os p
   pub moved : ownLabel ms j (ownPlace ms (j + 1)) ≡ ownLabel ns (j + 1) (ownPlace ns (j + 1))
   pub others : (q a : ℕ) → q < treeLimit → (q ≡ j + 1 → ⊥) → (a ≡ j → ⊥) → (a ≡ j + 1 → ⊥) → ownLabel ms a (ownPlace ms q) ≡ ownLabel ns a (ownPlace ns q)
+
+-- The names of the trees at the places i + 1 to j stand one place lower. What the spaces of the places i to j hold beside a name is not said.
+pub record NamesLowered (i j : ℕ) (os qs : List ℕ) : Type 0 where
+  pub long : length qs ≡ length os
+  pub moved : (q : ℕ) → i ≤ q → q < j → treeName qs q ≡ treeName os (q + 1)
+  pub rest : (k : ℕ) → (i * nameSpace ≤ k → k < (j + 1) * nameSpace → ⊥) → getD qs k 0 ≡ getD os k 0

@@ -8,7 +8,7 @@ ghost use Rattle.meaning.specs.Wire.{nameLimit};
 ghost use Rattle.meaning.specs.Card.{fresh, withTrees, bare, treeLimit};
 ghost use Rattle.memory.specs.Sizes.{Numbers, Names};
 ghost use Rattle.memory.specs.Memory.{cardOf, treeCount};
-ghost use Rattle.memory_rows.specs.Lower.{Lowered, LoweredOne};
+ghost use Rattle.memory_rows.specs.Lower.{Lowered, LoweredOne, NamesLowered};
 use memory::FOURTH_WORD;
 use memory::MARK_COLUMN;
 use memory::NAME_SPACE;
@@ -62,6 +62,28 @@ fn lower_behind(numbers: &mut [u64], i: usize, n: usize)
     }
 }
 
+// The name at place j + 1 is to stand at place j: its own octets move, and not its space.
+fn lower_name(names: &mut [u8], j: usize)
+    requires { ⌜ Names (now names) × (j + 1 < treeLimit) ⌝ }
+    ensures { λ _. ⌜ NamesLowered j (j + 1) (now (names .entry)) (now (names .exit)) ⌝ }
+{
+    let t = j + 1;
+    let used = memory::used_octets(names, t);
+    memory::close_octets(names, j * NAME_SPACE, t * NAME_SPACE + used, NAME_SPACE);
+}
+
+// The name of each of the n trees that stands behind place i is to stand one place lower.
+fn lower_names(names: &mut [u8], i: usize, n: usize)
+    requires { ⌜ Names (now names) × (i < n) × (n ≤ treeLimit) ⌝ }
+    ensures { λ _. ⌜ NamesLowered i (n - 1) (now (names .entry)) (now (names .exit)) ⌝ }
+{
+    let mut j = i;
+    while j + 1 < n {
+        lower_name(names, j);
+        j += 1;
+    }
+}
+
 // A tree goes, and the gap is closed.
 pub fn remove_tree(numbers: &mut [u64], names: &mut [u8], i: usize)
     requires { ⌜ Numbers (now numbers) × Names (now names) × (i < treeCount (now numbers)) × (i < treeLimit) ⌝ }
@@ -76,7 +98,7 @@ pub fn remove_tree(numbers: &mut [u64], names: &mut [u8], i: usize)
         ROW_COLUMN + n * ROW_WIDTH,
         ROW_WIDTH,
     );
-    memory::close_octets(names, i * NAME_SPACE, n * NAME_SPACE, NAME_SPACE);
+    lower_names(names, i, n);
     numbers[3] = (n - 1) as u64;
 }
 

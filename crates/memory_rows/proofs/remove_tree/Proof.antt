@@ -36,14 +36,8 @@ add-close-numbers-4 c = search needs
 close-numbers-requires-2 : tie.Need-close-numbers-requires-2
 close-numbers-requires-2 c κs = search needs
 
-mul-close-octets : tie.Need-mul-close-octets
-mul-close-octets c = search needs
-
-mul-close-octets-2 : tie.Need-mul-close-octets-2
-mul-close-octets-2 c = search needs
-
-close-octets-requires : tie.Need-close-octets-requires
-close-octets-requires c κs = search needs
+lower-names-requires : tie.Need-lower-names-requires
+lower-names-requires c κs = search needs
 
 sub-numbers : tie.Need-sub-numbers
 sub-numbers c = search needs
@@ -68,7 +62,7 @@ returns c =
     let w = l .before .before .before .before in
     let k = w .before .before in
     let s = k .before .before .before .before in
-    remove-tree _ _ _ _ _ _ _ _ (s .pre .0) (k .tree-count .ensures .0) (omega (arith, k .tree-count .ensures .0, s .pre)) (w .lower-behind .ensures) (l .close-numbers .ensures) (m .close-numbers2 .ensures) (c .before .before .close-octets .ensures)
+    remove-tree _ _ _ _ _ _ _ _ (s .pre .0) (k .tree-count .ensures .0) (omega (arith, k .tree-count .ensures .0, s .pre)) (w .lower-behind .ensures) (l .close-numbers .ensures) (m .close-numbers2 .ensures) (c .before .before .lower-names .ensures)
 
 pub remove-tree-spec : {M : Type 1} → statement M
 remove-tree-spec =
@@ -84,9 +78,7 @@ remove-tree-spec =
     mul-close-numbers-2
     add-close-numbers-4
     close-numbers-requires-2
-    mul-close-octets
-    mul-close-octets-2
-    close-octets-requires
+    lower-names-requires
     sub-numbers
     slice-write-numbers
     same-length

@@ -3,10 +3,10 @@ use native.Mathlib.Omega.{arith}
 use mathlib.Core.Path.{ap}
 use mathlib.Core.List.{List}
 use lib.ListN.{length}
 use Rattle.memory.specs.Memory.{treeName}
 use borrow.Author.Needs.{needs}
-use Rattle.memory_marks.proofs.used_octets.Statement.{statement}
-use Rattle.memory_marks.proofs.used_octets.Tie as tie
+use Rattle.memory.proofs.used_octets.Statement.{statement}
+use Rattle.memory.proofs.used_octets.Tie as tie
 
 mul-text : tie.Need-mul-text
 mul-text c = search needs
