@@ -1,6 +1,6 @@
-"""The library for C: include/card.h against the sources, and library/ with examples/firmware.c and tools/stack on the archive.
+"""The library for C: include/card.h against the sources, and library/ with examples/firmware.c and tools/stack on the archives.
 
-The archive is what `rt staticlib firmware` wrote: nothing is proved here. Where it is missing or older than its sources, or
+The archives are what `make -C library` wrote: nothing is proved here. Where one is missing or older than its sources, or
 no compiler for x86-64 is there, what needs them is passed over, and it says so.
 """
 
@@ -19,7 +19,9 @@ import made
 stack = made.tool("tools/stack")
 
 HEADER = (made.ROOT / "include/card.h").read_text(encoding="utf-8")
-FIRMWARE = (made.ROOT / "crates/firmware/src/lib.rt").read_text(encoding="utf-8")
+PARTS = re.findall(r"^firmware_(\w+):", (made.ROOT / "crates.txt").read_text(encoding="utf-8"), re.M)
+FIRMWARE = "".join((made.ROOT / f"crates/firmware_{part}/src/lib.rt").read_text(encoding="utf-8") for part in PARTS)
+ARCHIVES = [stack.FOLDER / f"libfirmware_{part}.a" for part in PARTS]
 COMPILER = "cc" if platform.machine() == "x86_64" else "x86_64-linux-gnu-gcc"
 STACK_LIMIT = 8192
 SIZES = {
@@ -62,7 +64,7 @@ def in_c(kind):
 
 
 def exported():
-    """The exported calls of firmware, each as C declares it, without the parameters' names."""
+    """The exported calls for C, each as C declares it, without the parameters' names."""
     calls = {}
     for name, inside, result in re.findall(r'pub extern "C" fn (\w+)\(([^)]*)\) -> (\w+)', FIRMWARE):
         kinds = [p.split(":", 1)[1].strip() for p in re.split(r",(?![^\[]*\])", inside) if p.strip()]
@@ -85,17 +87,17 @@ def stack_said():
 
 
 def missing():
-    """Why the archive cannot be tried; None where it can."""
-    if not stack.ARCHIVE.is_file():
-        return "target/staticlib/libfirmware.a is not there ('rt staticlib firmware' writes it)"
+    """Why the archives cannot be tried; None where they can."""
+    if not all(a.is_file() for a in ARCHIVES):
+        return "target/staticlib has not every archive of calls for C ('make -C library' writes them)"
     sources = [f for kind in ("*.rt", "*.antt") for f in (made.ROOT / "crates").rglob(kind)]
-    if stack.ARCHIVE.stat().st_mtime < max(f.stat().st_mtime for f in sources):
-        return "target/staticlib/libfirmware.a is older than its sources ('rt staticlib firmware' writes it anew)"
+    if min(a.stat().st_mtime for a in ARCHIVES) < max(f.stat().st_mtime for f in sources):
+        return "an archive in target/staticlib is older than its sources ('make -C library' writes it anew)"
     return None
 
 
 def needs_archive(what):
-    """Skips a test where there is no archive of these sources, and says so."""
+    """Skips a test where the archives are not of these sources, and says so."""
     why = missing()
     if not why:
         return lambda test: test
@@ -150,8 +152,9 @@ class Stack(unittest.TestCase):
     @needs_archive("the stack that card.h names is not held to it")
     def test_no_call_takes_more_than_the_header_says(self):
         said = stack_said()
-        for name, octets in stack.measured(stack.ARCHIVE, stack.objdump()).items():
-            self.assertLessEqual(octets, said[name], name)
+        for archive in ARCHIVES:
+            for name, octets in stack.measured(archive, stack.objdump()).items():
+                self.assertLessEqual(octets, said[name], name)
 
 
 @made.needs(COMPILER, "examples/firmware.c is not built (no compiler for x86-64)")
@@ -159,15 +162,16 @@ class Stack(unittest.TestCase):
 @needs_archive("examples/firmware.c is not built")
 class Library(unittest.TestCase):
     def make(self, *words):
-        # the archive is taken as it is
-        command = ["make", "-s", "--no-print-directory", "-C", made.ROOT / "library", "-o", "../target/staticlib/libfirmware.a", *words]
+        # the archives are taken as they are
+        kept = [word for part in PARTS for word in ("-o", f"../target/staticlib/libfirmware_{part}.a")]
+        command = ["make", "-s", "--no-print-directory", "-C", made.ROOT / "library", *kept, *words]
         return subprocess.run(command, capture_output=True, text=True, check=False)
 
     def test_installed_and_taken_away(self):
         with tempfile.TemporaryDirectory() as folder:
             self.assertEqual(self.make("install", f"PREFIX={folder}").returncode, 0)
             files = {str(f.relative_to(folder)) for f in pathlib.Path(folder).rglob("*") if f.is_file()}
-            self.assertEqual(files, {"include/card.h", "lib/libcard.a", "lib/pkgconfig/card.pc"})
+            self.assertEqual(files, {"include/card.h", *(f"lib/libcard_{part}.a" for part in PARTS), "lib/pkgconfig/card.pc"})
             flags = subprocess.run(
                 ["pkg-config", "--cflags", "--libs", "card"],
                 env={**os.environ, "PKG_CONFIG_LIBDIR": f"{folder}/lib/pkgconfig"},
@@ -175,7 +179,7 @@ class Library(unittest.TestCase):
                 text=True,
                 check=True,
             ).stdout
-            self.assertEqual(flags.split(), [f"-I{folder}/include", f"-L{folder}/lib", "-lcard"])
+            self.assertEqual(flags.split(), [f"-I{folder}/include", f"-L{folder}/lib", *(f"-lcard_{part}" for part in PARTS)])
             self.assertEqual(self.make("uninstall", f"PREFIX={folder}").returncode, 0)
             self.assertEqual([f for f in pathlib.Path(folder).rglob("*") if f.is_file()], [])
 

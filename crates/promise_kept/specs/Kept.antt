@@ -1,4 +1,4 @@
--- DEMAND 3 OF THE CODE: what is promised of a history, said of what the calls of `card`, `firmware`, `notice_writer`, `save_writer` and `save_reader` are handed and give back.
+-- DEMAND 3 OF THE CODE: what is promised of a history, said of what the calls of `card`, `firmware_*`, `notice_writer`, `save_writer` and `save_reader` are handed and give back.
 -- Of the calls it takes their contracts (`Contracts`) and nothing more.
 use Prim.Native.Nat.{ℕ, _+_, _≤_}
 use native.Mathlib.Omega.{arith}

@@ -40,19 +40,19 @@ use Rattle.notice_reader.proofs.read_notice.Reads as read-notice-reads
 use Rattle.save_writer.proofs.save.Reads as save-reads
 use Rattle.save_writer.proofs.save_core.Reads as save-core-reads
 use Rattle.save_reader.proofs.restore.Reads as restore-reads
-use Rattle.firmware.proofs.card_start.Reads as card-start-reads
-use Rattle.firmware.proofs.card_receive.Reads as card-receive-reads
-use Rattle.firmware.proofs.card_join.Reads as card-join-reads
-use Rattle.firmware.proofs.card_leave.Reads as card-leave-reads
-use Rattle.firmware.proofs.card_route.Reads as card-route-reads
-use Rattle.firmware.proofs.card_lost.Reads as card-lost-reads
-use Rattle.firmware.proofs.card_lookup_label.Reads as card-lookup-label-reads
-use Rattle.firmware.proofs.card_lookup_name.Reads as card-lookup-name-reads
-use Rattle.firmware.proofs.card_free_labels.Reads as card-free-labels-reads
-use Rattle.firmware.proofs.card_notice.Reads as card-notice-reads
-use Rattle.firmware.proofs.card_read_notice.Reads as card-read-notice-reads
-use Rattle.firmware.proofs.card_save.Reads as card-save-reads
-use Rattle.firmware.proofs.card_restore.Reads as card-restore-reads
+use Rattle.firmware_events.proofs.card_start.Reads as card-start-reads
+use Rattle.firmware_events.proofs.card_receive.Reads as card-receive-reads
+use Rattle.firmware_events.proofs.card_join.Reads as card-join-reads
+use Rattle.firmware_events.proofs.card_leave.Reads as card-leave-reads
+use Rattle.firmware_events.proofs.card_route.Reads as card-route-reads
+use Rattle.firmware_events.proofs.card_lost.Reads as card-lost-reads
+use Rattle.firmware_lookups.proofs.card_lookup_label.Reads as card-lookup-label-reads
+use Rattle.firmware_lookups.proofs.card_lookup_name.Reads as card-lookup-name-reads
+use Rattle.firmware_lookups.proofs.card_free_labels.Reads as card-free-labels-reads
+use Rattle.firmware_notices.proofs.card_notice.Reads as card-notice-reads
+use Rattle.firmware_notices.proofs.card_read_notice.Reads as card-read-notice-reads
+use Rattle.firmware_saves.proofs.card_save.Reads as card-save-reads
+use Rattle.firmware_saves.proofs.card_restore.Reads as card-restore-reads
 
 -- ---- sixteen places are told by their feed
 

@@ -1,8 +1,8 @@
 use mathlib.Core.Path.{refl}
 use borrow.Author.Needs.{needs}
-use Rattle.firmware.specs.Fields.{answerOf, fieldsOf}
-use Rattle.firmware.proofs.card_read_notice.Statement.{statement}
-use Rattle.firmware.proofs.card_read_notice.Tie as tie
+use Rattle.firmware_notices.specs.Fields.{answerOf, fieldsOf}
+use Rattle.firmware_notices.proofs.card_read_notice.Statement.{statement}
+use Rattle.firmware_notices.proofs.card_read_notice.Tie as tie
 
 read-notice-requires : tie.Need-read-notice-requires
 read-notice-requires c κs = search needs
