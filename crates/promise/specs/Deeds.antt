@@ -69,10 +69,10 @@ unfolding recordsIn recordsF noteAll noteSent messageIn twoAt spread two four
 notice-mute id to number s gs = rw (record-spread id to number s) refl
 
 -- the past with another next identifier
-unfoldable renumbered : ℕ → Past → Past
+unfoldable pub renumbered : ℕ → Past → Past
 renumbered id p = record { card = withNext id (p .card); live = p .live; accepted = p .accepted }
 
-renumbered-upheld : (id : ℕ) (p : Past) → Upheld p → Upheld (renumbered id p)
+pub renumbered-upheld : (id : ℕ) (p : Past) → Upheld p → Upheld (renumbered id p)
 unfolding renumbered withNext treeOf treePlace useOf freeLabels
 renumbered-upheld id p u = record {
   sound = record { tidy = u .sound .tidy; low = u .sound .low; high = u .sound .high; many = u .sound .many; linked = u .sound .linked; books = u .sound .books; sum = u .sound .sum; last = spent-eq (p .card) _ refl refl (λ e. e) (u .sound .last) };

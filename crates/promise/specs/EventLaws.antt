@@ -12,13 +12,13 @@ use Rattle.meaning.specs.Octets.{pick, place, same, put}
 use Rattle.meaning.specs.Wire.{isKind, mapping, withdraw, release, Message, messageIn, elementRefusal, Sent}
 use Rattle.meaning.specs.Card.{Tree, Use, free, mapped, awaiting, Card, nobody, withRoutes, withTrees, withLabels, withBranch, withLeaf, treeLimit, named, bare, treePlace, treeOf, treeAt, stands, isEmpty, isFree, isAwaiting, mappedTo, useOf, heldFor, freeLabels, routeOf}
 use Rattle.meaning.specs.Events.{Outcome, refused, taken, unless, Moved, tell, setUse, relabel, need, labelsShort, upstream, holderOf, entered, swept, treesFull, treeRefusal, enter, become, branch, otherLabel, onMapping, lessBranch, onWithdraw, notAwaited, onRelease, onMessage, noNeighbour, onOctets, onJoin, onLeave, moveAll, needAll, routesWith, routeRefusal, reRoute, onRoute, Event, receive, join, leave, route, outcome, part, onLost, lost}
-use Rattle.promise.specs.Promise.{Given, remove, noteSent, noteAll, noteTaken, NoneLive, useBut, Untouched, without}
+use Rattle.promise.specs.Promise.{Given, remove, noteSent, noteAll, noteTaken, NoneLive, AllMapped, useBut, Untouched, without}
 use Rattle.meaning.specs.Lists.{by-test, picked, same-eq, count-new, no-when}
 use Rattle.meaning.specs.RoundTrip.{Heard, heard, AllSendable, sendable-append}
 use Rattle.promise.specs.LiveLaws.{linked-eq, upd, free-linked, books-eq, books-remove, books-removed}
 use Rattle.promise.specs.CardLaws.{use-after, in-block, shape, Proper, tree-name, tree-sized, entered-is, entered-tidy, put-within, swept-use, swept-routes, untouched-then, entered-untouched, swept-untouched, used-untouched}
 use Rattle.promise.specs.RuleLaws.{empty-asked, Ruled, shape-empty, holder-same, route-ruled, put-in, put-more, cut-in, put-other-at, swept-at}
-use Rattle.promise.specs.LabelLaws.{shape-name, own-awaiting, holder-near, at-other, held-other, relabel-own, Sound, Fine, relabel-fine, relabel-none, none-append, note-append, Kept, all-kept, use-place, spent-eq}
+use Rattle.promise.specs.LabelLaws.{shape-name, own-awaiting, holder-near, at-other, held-other, relabel-own, Sound, Fine, relabel-fine, relabel-none, none-append, mapped-append, note-append, Kept, all-kept, use-place, spent-eq}
 use Rattle.promise.specs.LossLaws.{one-swept-tree, one-swept-sound, loss-kept, loss-swept, loss-shapes, loss-ruled}
 
 -- ---- what an event that is taken makes of the tree named a
@@ -46,6 +46,7 @@ Apart (lost n) = λ before after. Unit {0}
 pub record Follows (c : Card) (gs : List Given) (f : List ℕ → Tree → Tree) (A : Card → Type 0) (ms : List Sent) (after : Card) : Type 0 where
   pub sound : Sound after (noteAll ms gs)
   pub fair : NoneLive ms gs
+  pub ends : AllMapped ms gs
   pub said : AllSendable ms
   pub shapes : (b : List ℕ) → shape (treeOf b after) ≡ shape (f b (treeOf b c))
   pub apart : A after
@@ -67,23 +68,24 @@ refused-keeps c gs f t n = λ z. omega arith
 keeps-eq : (c : Card) (gs : List Given) (f g : List ℕ → Tree → Tree) (t : Card → Type 0) (o : Outcome) → ((a : List ℕ) (x : Tree) → f a x ≡ g a x) → Keeps c gs f t o → Keeps c gs g t o
 unfolding Keeps
 keeps-eq c gs f g t (refused n) e k = k
-keeps-eq c gs f g t (taken ms after) e k = record { sound = k .sound; fair = k .fair; said = k .said; shapes = λ b. k .shapes b ∙ ap shape (e b (treeOf b c)); apart = k .apart; ruled = k .ruled }
+keeps-eq c gs f g t (taken ms after) e k = record { sound = k .sound; fair = k .fair; ends = k .ends; said = k .said; shapes = λ b. k .shapes b ∙ ap shape (e b (treeOf b c)); apart = k .apart; ruled = k .ruled }
 
 -- messages that make no label live, and mark none
 unfoldable pub Quiet : List Given → List Sent → Type 0
-Quiet gs ms = (noteAll ms gs ≡ gs) × NoneLive ms gs × AllSendable ms
+Quiet gs ms = (noteAll ms gs ≡ gs) × NoneLive ms gs × AllSendable ms × AllMapped ms gs
 
 none-quiet : (gs : List Given) → Quiet gs []
-unfolding Quiet noteAll NoneLive AllSendable
-none-quiet gs = (refl, tt, tt)
+unfolding Quiet noteAll NoneLive AllSendable AllMapped
+none-quiet gs = (refl, tt, tt, tt)
 
 -- what is known of a message that 1 to 9 and 18 pass, from neighbour n
 release-quiet : (gs : List Given) (n : ℕ) (a : List ℕ) (l : ℕ) → Heard n a l → Quiet gs (tell n release a l ∷ [])
-unfolding Quiet noteAll noteSent NoneLive AllSendable isKind
+unfolding Quiet noteAll noteSent NoneLive AllSendable AllMapped isKind
 release-quiet gs n a l g = (
   refl,
   ((λ e. absurd (omega arith)), tt),
   (record { near = g .near; says = record { kind = refl; kind-fits = omega arith; name = g .name; low = g .low; high = g .high } }, tt),
+  ((λ e. absurd (omega arith)), tt),
 )
 
 pub upstream-near : (via : ℕ) → eqb (upstream via) nobody ≡ false → upstream via < 16
@@ -267,6 +269,7 @@ module _ (c : Card) (gs : List Given) (S : Sound c gs) (a : List ℕ) (good : el
     entered-follows full first q = record {
       sound = rw (note-append first (relabelled .sent) gs, q .0) swept-sound;
       fair = none-append first (relabelled .sent) gs (q .1) (rw (q .0) (fine .fair));
+      ends = mapped-append first (relabelled .sent) gs (q .3) (rw (q .0) (fine .ends));
       said = sendable-append first (relabelled .sent) (q .2) (fine .said);
       shapes = λ b. ap shape (swept-tree b) ∙ fine .shapes b ∙ ap shape (entered-tree b);
       apart = all-apart;
@@ -378,6 +381,7 @@ module _ (c : Card) (gs : List Given) (S : Sound c gs) where
       (λ e. unfold Keeps in record {
         sound = unfold noteAll in freed-sound n k a l (not-false _ (no-when 12 _ 0 e .0));
         fair = unfold NoneLive in tt;
+        ends = unfold AllMapped in tt;
         said = unfold AllSendable in tt;
         shapes = λ b. ap shape (freed-tree c l b);
         apart = freed-apart n a l (not-false _ (no-when 12 _ 0 e .0));
@@ -420,6 +424,7 @@ module _ (c : Card) (gs : List Given) (S : Sound c gs) where
       last = spent-eq (m .card) (withRoutes (routesWith c r via) (m .card)) (unfold withRoutes in refl) (unfold withRoutes in refl) (λ e. unfold withRoutes freeLabels in e) (k .sound .last);
     };
     fair = k .fair;
+    ends = k .ends;
     said = k .said;
     shapes = λ b. unfold withRoutes treeOf treePlace in k .shapes b;
     apart = tt;
@@ -438,7 +443,7 @@ module _ (c : Card) (gs : List Given) (S : Sound c gs) where
   route-keeps r via =
       unless-keeps c gs _ _ _ _
       (λ _. picked (Keeps c gs (λ b x. x) (λ _. Unit {0})) (eqb (routeOf r c) via)
-      (λ _. unfold Keeps noteAll NoneLive AllSendable in record { sound = S; fair = tt; said = tt; shapes = λ b. refl; apart = tt; ruled = λ R. R })
+      (λ _. unfold Keeps noteAll NoneLive AllMapped AllSendable in record { sound = S; fair = tt; ends = tt; said = tt; shapes = λ b. refl; apart = tt; ruled = λ R. R })
       (λ _. unless-keeps c gs _ _ (routeRefusal c r via) (reRoute c r via) (moved-keeps r via)))
 
   -- ---- the loss of a neighbour
@@ -448,6 +453,7 @@ module _ (c : Card) (gs : List Given) (S : Sound c gs) where
   lost-keeps n near = record {
     sound = loss-swept n c gs S .sound;
     fair = loss-kept n c gs S .fair;
+    ends = loss-kept n c gs S .ends;
     said = loss-kept n c gs S .said;
     shapes = loss-shapes n c gs S;
     apart = tt;

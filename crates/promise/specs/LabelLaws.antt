@@ -13,10 +13,10 @@ use Rattle.meaning.specs.Octets.{pick, same}
 use Rattle.meaning.specs.Wire.{elementRefusal, isKind, withdraw, Sent}
 use Rattle.meaning.specs.Card.{Tree, Use, free, mapped, awaiting, Card, nobody, withTrees, withLabels, withLabel, treePlace, treeOf, treeAt, leadsOn, isFree, mappedTo, useOf, heldFor, freeLabels, nextFree, withLast}
 use Rattle.meaning.specs.Events.{Moved, still, followedBy, setUse, setLabel, ended, giveUp, give, letGo, takeUp, moveLabel, relabel, needMove, need, holder, ofRoot, moveOne, moveFrom, moveAll, needOne, sumFrom, needAll}
-use Rattle.promise.specs.Promise.{Given, noteSent, noteAll, NoneLive, useBut, Untouched}
+use Rattle.promise.specs.Promise.{Given, noteSent, noteAll, NoneLive, AllMapped, useBut, Untouched}
 use Rattle.meaning.specs.Lists.{by-test, picked, same-eq, same-refl, count-set, count-less}
 use Rattle.meaning.specs.RoundTrip.{AllSendable, sendable-append}
-use Rattle.promise.specs.LiveLaws.{isMapped, mapped-near, mapped-eq, stray-not, Linked, linked-eq, upd, carry, up-linked, give-linked, up-keeps, give-keeps, Books, books-eq, books-free, books-give, books-mark, mark-length}
+use Rattle.promise.specs.LiveLaws.{isMapped, mapped-near, mapped-eq, stray-not, Linked, linked-eq, upd, carry, up-linked, give-linked, up-keeps, give-keeps, Books, books-eq, books-free, books-give, books-mark, books-standing, mark-length}
 use Rattle.promise.specs.CardLaws.{use-after, in-block, shape, Proper, Tidy, at-proper, at-place, at-named, labelled-is, labelled-tidy, labelled-at, untouched-same, untouched-then, untouched-last, labelled-untouched, used-untouched, next-within, next-use, next-from, next-free}
 
 -- the last label given is of the block, and none only while no label is in use
@@ -43,6 +43,7 @@ pub record Sound (c : Card) (gs : List Given) : Type 0 where
 pub record Fine (i : ℕ) (c : Card) (gs : List Given) (m : Moved) : Type 0 where
   pub sound : Sound (m .card) (noteAll (m .sent) gs)
   pub fair : NoneLive (m .sent) gs
+  pub ends : AllMapped (m .sent) gs
   pub said : AllSendable (m .sent)
   -- other trees keep their entries, and their labels' uses
   pub others : (b : List ℕ) → same (treeAt i c .name) b ≡ false → treeOf b (m .card) ≡ treeOf b c
@@ -54,8 +55,8 @@ pub record Fine (i : ℕ) (c : Card) (gs : List Given) (m : Moved) : Type 0 wher
   pub apart : Untouched (treeAt i c .name) c (m .card)
 
 pub still-fine : (i : ℕ) (c : Card) (gs : List Given) → Sound c gs → Fine i c gs (still c)
-unfolding still noteAll NoneLive AllSendable
-still-fine i c gs S = record { sound = S; fair = tt; said = tt; others = λ b n. refl; uses = λ b n. refl; shapes = λ b. refl; size = refl; routes = refl; at = λ j. refl; apart = untouched-same _ c }
+unfolding still noteAll NoneLive AllMapped AllSendable
+still-fine i c gs S = record { sound = S; fair = tt; ends = tt; said = tt; others = λ b n. refl; uses = λ b n. refl; shapes = λ b. refl; size = refl; routes = refl; at = λ j. refl; apart = untouched-same _ c }
 
 pub shape-name : (t s : Tree) → shape t ≡ shape s → t .name ≡ s .name
 unfolding shape withLabel
@@ -71,6 +72,11 @@ unfolding noteAll NoneLive
 none-append [] ns gs f g = g
 none-append (m ∷ ms) ns gs f g = (f .0, none-append ms ns (noteSent (m .to) (m .message) gs) (f .1) g)
 
+pub mapped-append : (ms ns : List Sent) (gs : List Given) → AllMapped ms gs → AllMapped ns (noteAll ms gs) → AllMapped (ms ++ ns) gs
+unfolding noteAll AllMapped
+mapped-append [] ns gs f g = g
+mapped-append (m ∷ ms) ns gs f g = (f .0, mapped-append ms ns (noteSent (m .to) (m .message) gs) (f .1) g)
+
 then-fine : (i : ℕ) (c : Card) (gs : List Given) (m : Moved) (f : Card → Moved) → Fine i c gs m → Fine i (m .card) (noteAll (m .sent) gs) (f (m .card)) → Fine i c gs (followedBy m f)
 unfolding followedBy
 then-fine i c gs m f p q =
@@ -78,6 +84,7 @@ then-fine i c gs m f p q =
     record {
       sound = rw (note-append (m .sent) (f (m .card) .sent) gs) (q .sound);
       fair = none-append (m .sent) (f (m .card) .sent) gs (p .fair) (q .fair);
+      ends = mapped-append (m .sent) (f (m .card) .sent) gs (p .ends) (q .ends);
       said = sendable-append (m .sent) (f (m .card) .sent) (p .said) (q .said);
       others = λ b n. q .others b (rw nm n) ∙ p .others b n;
       uses = λ b n. ap (λ (t : Tree). useOf (t .label) (f (m .card) .card)) (sym (p .others b n)) ∙ q .uses b (rw nm n) ∙ ap (λ (t : Tree). useOf (t .label) (m .card)) (p .others b n) ∙ p .uses b n;
@@ -131,12 +138,12 @@ module _ (c : Card) (gs : List Given) (S : Sound c gs) (i : ℕ) (h : i < length
 
   -- (and k is the last label given)
   moved-fine : (ms : List Sent) (k : ℕ) → Linked (carry (λ a. treeOf a c .label) (treeAt i c .name) x) (upd (λ l. useOf l c) m v) → Books (upd (λ l. useOf l c) m v) (noteAll ms gs)
-      → length (noteAll ms gs) + freeLabels moved ≡ 256 → NoneLive ms gs → AllSendable ms → Spent (withLast k moved)
+      → length (noteAll ms gs) + freeLabels moved ≡ 256 → NoneLive ms gs → AllMapped ms gs → AllSendable ms → Spent (withLast k moved)
       → ((b : List ℕ) → same (treeAt i c .name) b ≡ false → upd (λ l. useOf l c) m v (treeOf b c .label) ≡ useOf (treeOf b c .label) c)
       → useBut (treeAt i c .name) v ≡ useBut (treeAt i c .name) (useOf m c)
       → Fine i c gs (record { sent = ms; card = withLast k moved })
   unfolding withLast
-  moved-fine ms k L B n f sd sp keep mine = record {
+  moved-fine ms k L B n f en sd sp keep mine = record {
     sound = record {
       tidy = moved-tidy;
       low = unfold setLabel setUse withLabels withTrees in S .low;
@@ -148,6 +155,7 @@ module _ (c : Card) (gs : List Given) (S : Sound c gs) (i : ℕ) (h : i < length
       last = sp;
     };
     fair = f;
+    ends = en;
     said = sd;
     others = λ b e. unfold treeOf treePlace in (moved-tree b ∙ rw e refl);
     uses = λ b e. unfold useOf in (moved-use (treeOf b c .label) ∙ keep b e);
@@ -232,6 +240,7 @@ module _ (c : Card) (gs : List Given) (S : Sound c gs) (i : ℕ) (h : i < length
         (unfold noteAll noteSent in books-mark _ gs (S .books) (treeAt i c .name) (treeAt i c .label) (heldFor c (treeAt i c)) withdraw its-use)
         (unfold noteAll noteSent in ap₂ _+_ (mark-length _ _ gs) ended-free ∙ S .sum)
         (unfold NoneLive in ((λ e. absurd (omega arith)), tt))
+        (unfold AllMapped in ((λ _. books-standing _ gs (S .books) (treeAt i c .name) (treeAt i c .label) (heldFor c (treeAt i c)) withdraw its-use), tt))
         (unfold giveUp in up-said)
         (rw up-last up-spent)
         (λ b n. up-keeps _ _ (S .linked) (treeAt i c .name) (treeAt i c .label) _ b (held-own some-one) n)
@@ -268,6 +277,7 @@ module _ (c : Card) (gs : List Given) (S : Sound c gs) (i : ℕ) (h : i < length
         (unfold noteAll noteSent in books-give _ gs (S .books) (treeAt i c .name) (nextFree c) u (next-free c some-free))
         (unfold noteAll noteSent in omega (arith, given-free, S .sum))
         (unfold NoneLive in ((λ _. books-free _ gs (S .books) (nextFree c) (next-free c some-free)), tt))
+        (unfold AllMapped in ((λ e. absurd (omega arith)), tt))
         (unfold give in give-said)
         (unfold give in give-spent)
         (λ b n. give-keeps _ _ (S .linked) (nextFree c) _ b (next-free c some-free) not-zero)
@@ -420,6 +430,7 @@ module _ (c : Card) (gs : List Given) (S : Sound c gs) (i : ℕ) (h : i < length
 pub record Kept (c : Card) (gs : List Given) (m : Moved) : Type 0 where
   pub sound : Sound (m .card) (noteAll (m .sent) gs)
   pub fair : NoneLive (m .sent) gs
+  pub ends : AllMapped (m .sent) gs
   pub said : AllSendable (m .sent)
   pub shapes : (b : List ℕ) → shape (treeOf b (m .card)) ≡ shape (treeOf b c)
   pub size : length (m .card .trees) ≡ length (c .trees)
@@ -431,6 +442,7 @@ unfolding followedBy
 then-kept c gs m f p q = record {
   sound = rw (note-append (m .sent) (f (m .card) .sent) gs) (q .sound);
   fair = none-append (m .sent) (f (m .card) .sent) gs (p .fair) (q .fair);
+  ends = mapped-append (m .sent) (f (m .card) .sent) gs (p .ends) (q .ends);
   said = sendable-append (m .sent) (f (m .card) .sent) (p .said) (q .said);
   shapes = λ b. q .shapes b ∙ p .shapes b;
   size = q .size ∙ p .size;
@@ -489,7 +501,7 @@ module _ (r : List ℕ) (u : ℕ) (near : eqb u nobody ≡ false → u < 16) whe
 
   pub from-kept : (n i : ℕ) (c : Card) (gs : List Given) → Sound c gs → i + n ≤ length (c .trees) → sumFrom (needOne r u) n i c ≤ freeLabels c → Kept c gs (moveFrom r u n i c)
   unfolding moveFrom sumFrom
-  from-kept zero i c gs S h enough = unfold still noteAll NoneLive AllSendable in record { sound = S; fair = tt; said = tt; shapes = λ b. refl; size = refl; routes = refl; at = λ j. refl }
+  from-kept zero i c gs S h enough = unfold still noteAll NoneLive AllMapped AllSendable in record { sound = S; fair = tt; ends = tt; said = tt; shapes = λ b. refl; size = refl; routes = refl; at = λ j. refl }
   from-kept (suc n) i c gs S h enough =
       let within : i < length (c .trees) = omega arith in
       let first : needOne r u (treeAt i c) ≤ freeLabels c = omega arith in
@@ -497,7 +509,7 @@ module _ (r : List ℕ) (u : ℕ) (near : eqb u nobody ≡ false → u < 16) whe
       let later = need-later c gs S i within (moveOne r u i c) p n (suc i) (le-refl _) (omega arith) in
       let spent = one-free c gs S i within first in
       let size : length (moveOne r u i c .card .trees) ≡ length (c .trees) = p .size in
-      then-kept c gs (moveOne r u i c) (moveFrom r u n (suc i)) (record { sound = p .sound; fair = p .fair; said = p .said; shapes = p .shapes; size = p .size; routes = p .routes; at = p .at })
+      then-kept c gs (moveOne r u i c) (moveFrom r u n (suc i)) (record { sound = p .sound; fair = p .fair; ends = p .ends; said = p .said; shapes = p .shapes; size = p .size; routes = p .routes; at = p .at })
       (from-kept n (suc i) (moveOne r u i c .card) _ (p .sound) (omega arith) (omega arith))
 
   pub all-kept : (c : Card) (gs : List Given) → Sound c gs → needAll r u c ≤ freeLabels c → Kept c gs (moveAll r u c)

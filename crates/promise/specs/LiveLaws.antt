@@ -12,7 +12,7 @@ use borrow.Author.Tests.{eqb-true, eqb-false, eq-eqb, ne-eqb, leb-false}
 use Rattle.meaning.specs.Octets.{pick, count, same}
 use Rattle.meaning.specs.Wire.{Message}
 use Rattle.meaning.specs.Card.{Use, free, mapped, awaiting, nobody, isFree, isAwaiting, mappedTo}
-use Rattle.promise.specs.Promise.{Given, ofLabel, isAbout, mark, remove, Each}
+use Rattle.promise.specs.Promise.{Given, ofLabel, isAbout, isStanding, mark, remove, Each}
 use Rattle.meaning.specs.Lists.{by-test, picked, same-eq, same-refl, same-no}
 
 -- ---- a label's use
@@ -267,7 +267,24 @@ module _ (n : ℕ) (m : Message) where
       (λ e. rw e (rw (count-about gs) refl))
       (λ e. rw (e, about-label g e) (count-about gs))
 
+  standing-label : (g : Given) → eqb (g .label) (m .label) ≡ false → isStanding n m g ≡ false
+  unfolding isStanding
+  standing-label g e = rw (about-label g e) refl
+
+  count-standing : (gs : List Given) → count (isStanding n m) gs ≡ count (isStanding n m) (only (m .label) gs)
+  unfolding count only ofLabel
+  count-standing [] = refl
+  count-standing (g ∷ gs) =
+      by-test (eqb (g .label) (m .label))
+      (λ e. rw e (rw (count-standing gs) refl))
+      (λ e. rw (e, standing-label g e) (count-standing gs))
+
 module _ (U : ℕ → Use) (gs : List Given) (B : Books U gs) where
+  -- a label that is mapped is noted so
+  pub books-standing : (a : List ℕ) (m h k : ℕ) → U m ≡ mapped h a → count (isStanding h (record { kind = k; name = a; label = m })) gs ≡ 1
+  unfolding Books givens count isStanding isAbout
+  books-standing a m h k us = count-standing h (record { kind = k; name = a; label = m }) gs ∙ rw (B m, us) (rw (eq-eqb m m refl, eq-eqb h h refl, same-refl a) refl)
+
   pub books-give : (a : List ℕ) (m u : ℕ) → U m ≡ free → Books (upd U m (mapped u a)) (record { to = u; tree = a; label = m; withdrawn = false } ∷ gs)
   unfolding Books only ofLabel givens
   books-give a m u fr l =

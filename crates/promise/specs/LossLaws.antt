@@ -16,7 +16,7 @@ use Rattle.meaning.specs.Events.{Moved, still, followedBy, letGo, upstream, hol
 use Rattle.meaning.specs.Lists.{by-test, picked}
 use Rattle.meaning.specs.RoundTrip.{AllSendable}
 use Rattle.meaning.specs.Losses.{without-name, parted-held, parted-tree, parted-at, parted-size}
-use Rattle.promise.specs.Promise.{Given, noteAll, NoneLive, without}
+use Rattle.promise.specs.Promise.{Given, noteAll, NoneLive, AllMapped, without}
 use Rattle.promise.specs.LiveLaws.{linked-eq, books-eq}
 use Rattle.promise.specs.CardLaws.{shape, swept-is, swept-tidy, swept-use, swept-labels, swept-base, swept-last, swept-routes}
 use Rattle.promise.specs.LabelLaws.{Sound, spent-eq, Fine, Kept, still-fine, let-go-fine, let-go-none, none-held, held-none, then-kept, at-other, held-other}
@@ -45,11 +45,11 @@ module _ (c : Card) (gs : List Given) (S : Sound c gs) (i : ℕ) (h : i < length
 
 pub shed-kept : (n i : ℕ) (c : Card) (gs : List Given) → Sound c gs → i + n ≤ length (c .trees) → Kept c gs (shedFrom n i c)
 unfolding shedFrom
-shed-kept zero i c gs S h = unfold still noteAll NoneLive AllSendable in record { sound = S; fair = tt; said = tt; shapes = λ b. refl; size = refl; routes = refl; at = λ j. refl }
+shed-kept zero i c gs S h = unfold still noteAll NoneLive AllMapped AllSendable in record { sound = S; fair = tt; ends = tt; said = tt; shapes = λ b. refl; size = refl; routes = refl; at = λ j. refl }
 shed-kept (suc n) i c gs S h =
     let p : Fine i c gs (shed i c) = shed-fine c gs S i (omega arith) in
     let size : length (shed i c .card .trees) ≡ length (c .trees) = p .size in
-    then-kept c gs (shed i c) (shedFrom n (suc i)) (record { sound = p .sound; fair = p .fair; said = p .said; shapes = p .shapes; size = p .size; routes = p .routes; at = p .at })
+    then-kept c gs (shed i c) (shedFrom n (suc i)) (record { sound = p .sound; fair = p .fair; ends = p .ends; said = p .said; shapes = p .shapes; size = p .size; routes = p .routes; at = p .at })
     (shed-kept n (suc i) (shed i c .card) _ (p .sound) (omega arith))
 
 shed-before : (n i : ℕ) (c : Card) (gs : List Given) → Sound c gs → i + n ≤ length (c .trees) → (j : ℕ) → j < i → j < length (c .trees)

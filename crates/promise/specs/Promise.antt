@@ -2,7 +2,7 @@
 -- Assumes nothing.
 use Prim.Native.Nat.{ℕ, zero, suc, _+_, _≤_}
 use mathlib.Core.Path.{_≡_}
-use mathlib.Core.Bool.{Bool, true, false, _&&_}
+use mathlib.Core.Bool.{Bool, true, false, not, _&&_}
 use mathlib.Core.List.{List, [], _∷_, _++_}
 use lib.ListN.{length}
 use lib.Dec.{eqb}
@@ -182,6 +182,17 @@ Leads p g = lookupLabel (g .label) (p .card) ≡ pick (g .withdrawn) nothing (fe
 unfoldable pub isWithdrawn : ℕ → Message → Given → Bool
 isWithdrawn n m g = isAbout n m g && g .withdrawn
 
+-- a label that n may use for the tree of m, and for which we have sent no Withdraw
+unfoldable pub isStanding : ℕ → Message → Given → Bool
+isStanding n m g = isAbout n m g && not (g .withdrawn)
+
+-- every Withdraw among the messages names a label that is mapped when it is sent: to that neighbour, for that tree
+unfoldable pub AllMapped : List Sent → List Given → Type 0
+AllMapped [] gs = Unit {0}
+AllMapped (m ∷ ms) gs =
+    (m .message .kind ≡ withdraw → count (isStanding (m .to) (m .message)) gs ≡ 1)
+    × AllMapped ms (noteSent (m .to) (m .message) gs)
+
 -- the trees, in their order, but for one named a
 unfoldable pub treesBut : List ℕ → List Tree → List Tree
 treesBut a [] = []
@@ -207,6 +218,8 @@ pub record Promise (p : Past) : Type 0 where
   pub one : (l : ℕ) → count (ofLabel l) (p .live) ≤ 1
   -- No live label is given out again.
   pub anew : (s : Step) → NoneLive (sends (p .card) s) (liveAt p s)
+  -- A Withdraw is sent only of a label that is mapped, to that neighbour, for that tree: no label is withdrawn twice.
+  pub withdraws : (s : Step) → AllMapped (sends (p .card) s) (liveAt p s)
   -- While mapped it leads exactly to the leaf, if joined, and the branches, those held left out, whose accepted Mapping no accepted Withdraw has since ended under its label, and no loss of its neighbour; once withdrawn, to nobody.
   pub leads : Each (Leads p) (p .live)
   -- (any other number leads to nobody)

@@ -14,7 +14,7 @@ use Rattle.meaning.specs.Octets.{pick, place, count, same}
 use Rattle.meaning.specs.Wire.{rootIn, mapping, withdraw, Message, messageIn, Sent, records, recordsF, recordsIn, elementRefusal}
 use Rattle.meaning.specs.Card.{Tree, Use, free, mapped, awaiting, Card, fresh, withNext, withBranch, withLeaf, withLabel, bare, treePlace, treeOf, treeAt, isFree, isAwaiting, mappedTo, notHeld, leadsOn, useOf, freeLabels, heldFor, routeOf, routePlace, branchesFrom, feedOf, carries, carrier, feedOfUse, lookupLabel, isBranch, nothing, lookupName}
 use Rattle.meaning.specs.Events.{Out, Outcome, refused, taken, refuse, accept, roomShort, finish, upstream, holder, holderOf, branch, lessBranch, Event, receive, join, leave, route, outcome, event, baseOutside, start, otherLabel, lost}
-use Rattle.promise.specs.Promise.{Given, ofLabel, isAbout, isWithdrawn, Demand3, noteAll, noteTaken, leafBy, branchesBy, routeBy, feedBy, Step, Past, answerTo, sends, thenStep, thenSteps, history, Each, NoneLive, Leads, Promise, saidBy, branchesSaid, branchesTo, isTaken, liveAt, acceptedAt, Untouched, begun, withoutLabel}
+use Rattle.promise.specs.Promise.{Given, ofLabel, isAbout, isWithdrawn, Demand3, noteAll, noteTaken, leafBy, branchesBy, routeBy, feedBy, Step, Past, answerTo, sends, thenStep, thenSteps, history, Each, NoneLive, AllMapped, Leads, Promise, saidBy, branchesSaid, branchesTo, isTaken, liveAt, acceptedAt, Untouched, begun, withoutLabel}
 use Rattle.meaning.specs.Lists.{getD-same, by-test, picked, place-finds, place-count, same-eq, same-refl, getD-out, getD-all, count-some, set-replicate}
 use Rattle.meaning.specs.RoundTrip.{both, AllSendable, records-back}
 use Rattle.meaning.specs.Refusals.{refusal-keeps}
@@ -51,10 +51,10 @@ unfolding shape withLabel
 reads-shape a es t s e r = record { name = ap (λ (x : Tree). x .name) e ∙ r .name; said = λ n. r .said n ∙ ap (λ (x : Tree). listed (getD (x .branches) n 0)) (sym e); leaf = ap (λ (x : Tree). x .leaf) e ∙ r .leaf }
 
 -- what a message makes of the branch of its neighbour
-unfoldable newBranch : Message → ℕ → ℕ
+unfoldable pub newBranch : Message → ℕ → ℕ
 newBranch m before = pick (eqb (m .kind) mapping) (m .label) (pick (eqb (m .kind) withdraw && eqb before (m .label)) 0 before)
 
-message-branches : (n : ℕ) (m : Message) (t : Tree) → byMessage n m t .branches ≡ set (t .branches) n (newBranch m (branch t n))
+pub message-branches : (n : ℕ) (m : Message) (t : Tree) → byMessage n m t .branches ≡ set (t .branches) n (newBranch m (branch t n))
 unfolding byMessage newBranch lessBranch withBranch branch
 message-branches n m t =
     by-test (eqb (m .kind) mapping)
@@ -142,7 +142,7 @@ module _ (c : Card) (d : Tidy (c .trees)) (a : List ℕ) (es : List Event) (r : 
 
 -- ---- the table against the past
 
-unfoldable messagesOf : Outcome → List Sent
+unfoldable pub messagesOf : Outcome → List Sent
 messagesOf (refused n) = []
 messagesOf (taken ms c) = ms
 
@@ -194,6 +194,14 @@ module _ (c : Card) (gs : List Given) (es : List Event) (e : Event) where
       (λ t. rw t tt)
       (λ t. rw t (k .fair))
 
+  step-ends : (room : ℕ) (o : Outcome) → Keeps c (noteTaken e gs) (became e) (Apart e c) o → AllMapped (sentWith (finish room c o) o) (liveWith (finish room c o))
+  unfolding messagesOf Keeps finish refuse accept AllMapped
+  step-ends room (refused n) k = rw (ne-eqb n 0 k) tt
+  step-ends room (taken ms after) k =
+      by-test (roomShort room (records (c .next) ms))
+      (λ t. rw t tt)
+      (λ t. rw t (k .ends))
+
   -- the octets read back
   step-wire : (room : ℕ) (o : Outcome) → Keeps c (noteTaken e gs) (became e) (Apart e c) o → recordsIn (finish room c o .octets) ≡ pick (eqb (finish room c o .answer) 0) (messagesOf o) []
   unfolding messagesOf Keeps finish refuse accept recordsIn recordsF
@@ -218,7 +226,7 @@ module _ (c : Card) (gs : List Given) (es : List Event) (e : Event) where
       picked (λ (x : Out). Untouched a c (x .card)) (roomShort room (records (c .next) ms)) (λ _. untouched-same a c) (λ _. unfold withNext useOf in record { trees = k .apart .trees; uses = k .apart .uses })
 
 -- what the octets of a step say
-sends-is : (p : Past) (s : Step) → Upheld p → sends (p .card) s ≡ pick (eqb (answerTo (p .card) s .answer) 0) (messagesOf (outcome (p .card) (s .does))) []
+pub sends-is : (p : Past) (s : Step) → Upheld p → sends (p .card) s ≡ pick (eqb (answerTo (p .card) s .answer) 0) (messagesOf (outcome (p .card) (s .does))) []
 unfolding sends answerTo event
 sends-is p s u = step-wire (p .card) (p .live) (p .accepted) (s .does) (s .room) (outcome (p .card) (s .does)) (event-keeps (p .card) (p .live) (u .sound) (s .does))
 
@@ -360,7 +368,7 @@ unfolding feedOf notHeld bare nothing
 bare-leads u a = rw (set-replicate {A = ℕ} 16 u 0) (unfold branchesFrom isBranch in refl)
 
 module _ (p : Past) (u : Upheld p) where
-  carrier-is : (l n : ℕ) (a : List ℕ) → useOf l (p .card) ≡ mapped n a → carrier l (p .card) ≡ treeOf a (p .card)
+  pub carrier-is : (l n : ℕ) (a : List ℕ) → useOf l (p .card) ≡ mapped n a → carrier l (p .card) ≡ treeOf a (p .card)
   carrier-is l n a us =
       let L : Linked (λ (b : List ℕ). treeOf b (p .card) .label) (λ (k : ℕ). useOf k (p .card)) = u .sound .linked in
       let ma : isMapped a (useOf l (p .card)) ≡ true = ap (isMapped a) us ∙ mapped-own n a in
@@ -369,7 +377,7 @@ module _ (p : Past) (u : Upheld p) where
       (λ b lb. mapped-one b a (useOf l (p .card)) (subst (λ (k : ℕ). isMapped b (useOf k (p .card)) ≡ true) lb (L .own b (λ z. nz (sym lb ∙ z)))) ma)
 
   -- who sends on a mapped label is the upstream of the route in force
-  sender-is : (l n : ℕ) (a : List ℕ) → useOf l (p .card) ≡ mapped n a → n ≡ routeBy (rootIn a) (p .accepted)
+  pub sender-is : (l n : ℕ) (a : List ℕ) → useOf l (p .card) ≡ mapped n a → n ≡ routeBy (rootIn a) (p .accepted)
   unfolding heldFor
   sender-is l n a us =
       let L : Linked (λ (b : List ℕ). treeOf b (p .card) .label) (λ (k : ℕ). useOf k (p .card)) = u .sound .linked in
@@ -383,7 +391,7 @@ module _ (p : Past) (u : Upheld p) where
       ∙ u .routed (rootIn a)
 
   -- the branch places with that of the upstream cleared, read by rising neighbour number, are the branches that were said
-  feed-is : (n : ℕ) (a : List ℕ) → n ≡ routeBy (rootIn a) (p .accepted) → feedOf n (treeOf a (p .card)) ≡ feedBy a (p .accepted)
+  pub feed-is : (n : ℕ) (a : List ℕ) → n ≡ routeBy (rootIn a) (p .accepted) → feedOf n (treeOf a (p .card)) ≡ feedBy a (p .accepted)
   unfolding feedOf feedBy notHeld
   feed-is n a e =
       let bs : List ℕ = treeOf a (p .card) .branches in
@@ -438,6 +446,7 @@ module _ (p : Past) (u : Upheld p) where
   kept = record {
     one = books-one _ (p .live) (u .sound .books);
     anew = λ s. rw (sends-is p s u) (unfold liveAt isTaken answerTo event in step-fair (p .card) (p .live) (p .accepted) (s .does) (s .room) (outcome (p .card) (s .does)) (event-keeps (p .card) (p .live) (u .sound) (s .does)));
+    withdraws = λ s. rw (sends-is p s u) (unfold liveAt isTaken answerTo event in step-ends (p .card) (p .live) (p .accepted) (s .does) (s .room) (outcome (p .card) (s .does)) (event-keeps (p .card) (p .live) (u .sound) (s .does)));
     wire = λ s. rw (sends-is p s u) (unfold answerTo event in step-octets (p .card) (p .live) (p .accepted) (s .does) (s .room) (outcome (p .card) (s .does)) (event-keeps (p .card) (p .live) (u .sound) (s .does)));
     answers = λ room n s z e. released n (messageIn s) (awaited-use room n s (outcome (p .card) (receive n s)) (unfold event in z) (heard-awaited (p .card) n s e));
     single = λ a n. rw (u .reads a .said n) (listed-one _);
