@@ -93,15 +93,15 @@ does-bound far W w A k s d i p j q e =
 
 -- ---- a message of another box
 
-anew-here {ℓ} : {X : Type ℓ} (i p : ℕ) (x : X) (f : ℕ → ℕ → X) → anew i p x f i p ≡ x
+pub anew-here {ℓ} : {X : Type ℓ} (i p : ℕ) (x : X) (f : ℕ → ℕ → X) → anew i p x f i p ≡ x
 unfolding anew
 anew-here i p x f = rw (eq-eqb i i refl, eq-eqb p p refl) refl
 
-anew-box {ℓ} : {X : Type ℓ} (i p : ℕ) (x : X) (f : ℕ → ℕ → X) (k n : ℕ) → (k ≡ i → ⊥) → anew i p x f k n ≡ f k n
+pub anew-box {ℓ} : {X : Type ℓ} (i p : ℕ) (x : X) (f : ℕ → ℕ → X) (k n : ℕ) → (k ≡ i → ⊥) → anew i p x f k n ≡ f k n
 unfolding anew
 anew-box i p x f k n d = rw (ne-eqb k i d) refl
 
-anew-number {ℓ} : {X : Type ℓ} (i p : ℕ) (x : X) (f : ℕ → ℕ → X) (k n : ℕ) → (n ≡ p → ⊥) → anew i p x f k n ≡ f k n
+pub anew-number {ℓ} : {X : Type ℓ} (i p : ℕ) (x : X) (f : ℕ → ℕ → X) (k n : ℕ) → (n ≡ p → ⊥) → anew i p x f k n ≡ f k n
 unfolding anew
 anew-number i p x f k n d = rw (ne-eqb n p d) (by-test (eqb k i) (λ e. rw e refl) (λ e. rw e refl))
 

@@ -27,7 +27,7 @@ use Rattle.promise_net.specs.Ways.{rank-up, one-door}
 
 -- ---- every box of a net keeps its promises
 
-stepped-upheld : (far : Wires) (w : Net) (k : ℕ) (s : Step) (inbox : ℕ → ℕ → List (List ℕ)) (refused : ℕ → ℕ → Bool) → ((i : ℕ) → Upheld (w .past i)) → (i : ℕ) → Upheld (stepped far w k s inbox refused .past i)
+pub stepped-upheld : (far : Wires) (w : Net) (k : ℕ) (s : Step) (inbox : ℕ → ℕ → List (List ℕ)) (refused : ℕ → ℕ → Bool) → ((i : ℕ) → Upheld (w .past i)) → (i : ℕ) → Upheld (stepped far w k s inbox refused .past i)
 unfolding stepped
 stepped-upheld far w k s inbox refused U i = picked Upheld (eqb i k) (λ _. then-upheld (w .past k) s (U k)) (λ _. U i)
 
@@ -47,7 +47,7 @@ turns-upheld far w (t ∷ ts) U = turns-upheld far (turn far w t) ts (turn-uphel
 
 -- ---- counting
 
-count-append : (t : ℕ → Bool) (xs ys : List ℕ) → count t (xs ++ ys) ≡ count t xs + count t ys
+pub count-append : (t : ℕ → Bool) (xs ys : List ℕ) → count t (xs ++ ys) ≡ count t xs + count t ys
 unfolding count
 count-append t [] ys = omega arith
 count-append t (x ∷ xs) ys = by-test (t x) (λ e. rw e (omega (arith, count-append t xs ys))) (λ e. rw e (count-append t xs ys))
@@ -87,7 +87,7 @@ set-zero [] u = refl
 set-zero (b ∷ bs) zero = refl
 set-zero (b ∷ bs) (suc u) = set-zero bs u
 
-not-held : (bs : List ℕ) (u p l : ℕ) → getD (set bs u 0) p 0 ≡ l → (l ≡ 0 → ⊥) → getD bs p 0 ≡ l
+pub not-held : (bs : List ℕ) (u p l : ℕ) → getD (set bs u 0) p 0 ≡ l → (l ≡ 0 → ⊥) → getD bs p 0 ≡ l
 not-held bs u p l e nz =
     by-test (eqb p u)
     (λ k. absurd (nz (sym e ∙ ap (λ (x : ℕ). getD (set bs u 0) x 0) (eqb-true p u k) ∙ set-zero bs u)))
@@ -99,7 +99,7 @@ any-at [] p e = absurd (let z : 0 < 0 = unfold isBranch in (ltb-true 0 0 e) in o
 any-at (b ∷ bs) zero e = rw e refl
 any-at (b ∷ bs) (suc p) e = rw (any-at bs p e) (picked (λ (x : Bool). x ≡ true) (isBranch b) (λ _. refl) (λ _. refl))
 
-some-label : (l : ℕ) → isBranch l ≡ true → l ≡ 0 → ⊥
+pub some-label : (l : ℕ) → isBranch l ≡ true → l ≡ 0 → ⊥
 unfolding isBranch
 some-label l b z = let lt = ltb-true 0 l b in omega arith
 
