@@ -1,21 +1,25 @@
 -- The sizes of document 01, after any history: trees, routes, labels, and the octets that are written.
 -- Assumes nothing.
-use Prim.Native.Nat.{ℕ, zero, suc, _*_, _≤_, zero-le}
+use Prim.Native.Nat.{ℕ, zero, suc, _*_, _≤_, _<_, zero-le}
 use native.Mathlib.Omega.{arith}
 use mathlib.Core.Path.{_≡_, refl}
+use mathlib.Core.Bool.{false}
 use mathlib.Core.List.{List, [], _∷_}
 use lib.ListN.{length, length-append}
-use lib.Dec.{eqb}
+use lib.Dec.{eqb, ltb}
+use borrow.Author.Tests.{ltb-true}
 use Rattle.meaning.specs.Octets.{two}
 use Rattle.meaning.specs.Wire.{Sent, recordOf, nextId, records, recordLimit}
 use Rattle.meaning.specs.Card.{Card, nobody, treeLimit, routeLimit, labelCount, treeAt, routeOf, sentLimit, leadsOn, heldFor}
-use Rattle.meaning.specs.Events.{Outcome, refused, taken, unless, refuse, accept, roomShort, finish, Moved, still, followedBy, giveUp, give, letGo, takeUp, moveLabel, upstream, holder, ofRoot, moveOne, moveFrom, moveAll, reRoute, onRoute, parted, shed, shedFrom, part, onLost, Event, route, lost, outcome, event}
+use Rattle.meaning.specs.Events.{Outcome, refused, taken, unless, refuse, accept, roomShort, finish, Moved, still, followedBy, giveUp, give, letGo, takeUp, moveLabel, upstream, holder, ofRoot, moveOne, moveFrom, moveAll, reRoute, onRoute, parted, shed, shedFrom, part, onLost, noNeighbour, Event, route, lost, outcome, event}
 use Rattle.meaning.specs.Lists.{by-test, picked}
 use Rattle.meaning.specs.RoundTrip.{AllSendable, Sendable, message-length, name-fits}
 use Rattle.promise.specs.Promise.{Given, noteTaken, Step, sends, history}
 use Rattle.promise.specs.LabelLaws.{Sound}
 use Rattle.promise.specs.RuleLaws.{Ruled}
 use Rattle.promise.specs.EventLaws.{became, Apart, Keeps, event-keeps}
+use Rattle.promise.specs.LossLaws.{loss-kept}
+use Rattle.promise.specs.LossKept.{lost-taken}
 use Rattle.promise.specs.PromiseProof.{history-upheld, sends-said}
 
 -- the numbers that the limits below come to
@@ -115,6 +119,25 @@ most-octets c gs e room k (taken ms after) h g =
     by-test (roomShort room (records (c .next) ms))
     (λ t. rw t zero-le)
     (λ t. rw t (omega (arith, records-short (c .next) ms (g .said))))
+
+-- A loss of a neighbour is taken wherever there is room for a record for each tree.
+part-room : (c : Card) (gs : List Given) → Sound c gs → Ruled c → (room n : ℕ) → treeLimit * recordLimit ≤ room → finish room c (part c n) .answer ≡ 0
+unfolding part finish refuse accept
+part-room c gs S R room n h =
+    let m = shedFrom (length (c .trees)) 0 (parted n c) in
+    let one = records-short (c .next) (m .sent) (loss-kept n c gs S .said) in
+    let few = shed-most (length (c .trees)) 0 (parted n c) in
+    let trees = R .trees in
+    by-test (roomShort room (records (c .next) (m .sent)))
+    (λ t. absurd (let short = ltb-true room (length (records (c .next) (m .sent))) (unfold roomShort in t) in omega arith))
+    (λ t. rw t refl)
+
+pub loss-taken : (c : Card) (gs : List Given) → Sound c gs → Ruled c → (room n : ℕ) → n < 16 → treeLimit * recordLimit ≤ room → event room c (lost n) .answer ≡ 0
+unfolding event noNeighbour
+loss-taken c gs S R room n near h = rw (lost-taken c n (unfold noNeighbour in le-ltb n near)) (part-room c gs S R room n h)
+  where
+    le-ltb : (n : ℕ) → n < 16 → ltb 15 n ≡ false
+    le-ltb n k = by-test (ltb 15 n) (λ e. absurd (let z = ltb-true 15 n e in omega arith)) (λ e. e)
 
 -- After any history.
 pub sizes-kept : (base : ℕ) (steps : List Step) → Sized (history base steps .card)

@@ -1,5 +1,5 @@
 -- NO BARK: a packet that was put in under one tree's name is never handed out as another's. Boxes and lines as in `Net`; here packets travel too, at any moment of any day.
--- Assumes nothing beside what the definitions say; what they ask of the world is said at `mayPass`, and at `comes`.
+-- Assumes nothing beside what the definitions say; what they ask of the world is said at `mayPass`, at `severed`, and at `comes`.
 use Prim.Native.Nat.{ℕ, zero, suc}
 use mathlib.Core.Path.{_≡_}
 use mathlib.Core.Bool.{Bool, true, false, not, _||_}
@@ -15,7 +15,7 @@ use Rattle.promise.specs.Deeds.{thenDeed}
 use Rattle.promise.specs.Deeds
 use Rattle.promise_line.specs.Line.{parcels, addressed, hearing, refuses}
 use Rattle.promise_line.specs.Sends.{isDown}
-use Rattle.promise_net.specs.Net.{Far, nobody, box, Wires, Wired, Net, boxAt, arriving, anew, overLine, fed, joined}
+use Rattle.promise_net.specs.Net.{Far, nobody, box, Wires, Wired, Net, boxAt, arriving, anew, overLine, losing, fed, joined}
 use Rattle.promise_net.specs.Net
 
 -- ---- a packet that takes no time
@@ -118,13 +118,27 @@ dropped far w i p [] = w
 dropped far w i p (letter s ∷ rest) = w
 dropped far w i p (packet a l ∷ rest) = sent far w i a [] (anew i p rest (w .line))
 
+-- boxes i and j lose each other, which they know as p and q
+unfoldable pub parted : Wires → Traffic → ℕ → ℕ → ℕ → ℕ → Traffic
+parted far w i p j q =
+    let one = stepped far w i (losing p) (w .line) (w .refused) in
+    stepped far one j (losing q) (one .line) (one .refused)
+
+-- THE ASSUMPTION ON A LINE THAT IS CUT. As in `Net` both its boxes lose the session, and its messages are gone. A loss frees the labels of its neighbour at once, so its packets are gone too:
+-- none that was sent on the line before the cut, either way, is taken after it.
+unfoldable pub severed : Wires → Traffic → ℕ → ℕ → Far → Traffic
+severed far w i p nobody = w
+severed far w i p (box j q) =
+    let both = parted far w i p j q in
+    record { past = both .past; line = anew i p [] (anew j q [] (both .line)); refused = anew i p false (anew j q false (both .refused)) }
+
 -- whether the label l of box i is live at its neighbour p, for the tree named a
 unfoldable pub isLive : Traffic → ℕ → ℕ → List ℕ → ℕ → Bool
 isLive w i p a l = eqb (count (isAbout p (record { kind = mapping; name = a; label = l })) (w .past i .live)) 1
 
 -- Box i takes from its number p, with so much room; it does a step that is no message of another box; it tells a neighbour of a refusal (the room, the neighbour, the number of a refusal, the refused octets);
 -- a packet is put in at box i, under the tree named a; one of the tree named a comes to box i from outside, from neighbour p, on label l;
--- the next under way to box i from its number p is lost, if it is a packet; or the one at place n there is overtaken by the one behind it, if it may be.
+-- the next under way to box i from its number p is lost, if it is a packet; the one at place n there is overtaken by the one behind it, if it may be; or the line at number p of box i is cut.
 -- (One comes from outside only on a label that is live at the neighbour it comes from, for the packet's tree: a neighbour that keeps its word uses no other.)
 pub data Turn : Type 0 where
   takes : ℕ → ℕ → ℕ → Turn
@@ -134,6 +148,7 @@ pub data Turn : Type 0 where
   comes : ℕ → ℕ → List ℕ → ℕ → Turn
   loses : ℕ → ℕ → Turn
   passes : ℕ → ℕ → ℕ → Turn
+  cuts : ℕ → ℕ → Turn
 
 unfoldable pub turn : Wires → Traffic → Turn → Traffic
 turn far w (takes i p room) = taken far w i p room (w .line i p)
@@ -143,6 +158,7 @@ turn far w (puts i a) = sent far w i a (lookupName a (w .past i .card) .branches
 turn far w (comes i p a l) = pick (isLive w i p a l) (sent far w i a (lookupLabel l (w .past i .card) .branches) (w .line)) w
 turn far w (loses i p) = dropped far w i p (w .line i p)
 turn far w (passes i p n) = sent far w i [] [] (anew i p (passed n (w .line i p)) (w .line))
+turn far w (cuts i p) = severed far w i p (far i p)
 
 unfoldable pub turns : Wires → Traffic → List Turn → Traffic
 turns far w [] = w
@@ -173,6 +189,7 @@ hands w (puts i a) = handed a i a (lookupName a (w .past i .card))
 hands w (comes i p a l) = pick (isLive w i p a l) (handed a i (carrier l (w .past i .card) .name) (lookupLabel l (w .past i .card))) []
 hands w (loses i p) = []
 hands w (passes i p n) = []
+hands w (cuts i p) = []
 
 -- A copy of a packet put in under the name `tree`, that box `at` sends to its neighbour `to` on a label.
 pub record Copy : Type 0 where
@@ -199,6 +216,7 @@ goes w (puts i a) = copied a i (lookupName a (w .past i .card) .branches)
 goes w (comes i p a l) = pick (isLive w i p a l) (copied a i (lookupLabel l (w .past i .card) .branches)) []
 goes w (loses i p) = []
 goes w (passes i p n) = []
+goes w (cuts i p) = []
 
 -- ---- what is said
 
@@ -215,10 +233,11 @@ unfoldable pub EachCopy : (Copy → Type 0) → List Copy → Type 0
 EachCopy P [] = Unit {0}
 EachCopy P (c ∷ cs) = P c × EachCopy P cs
 
--- What box j may do next: a step that is no message of another box; or to hear, with any room, a message that is the next to arrive from its number p.
+-- What box j may do next: a step that is no message of another box, nor the loss of its line; to hear, with any room, a message that is the next to arrive from its number p; or to lose the line there.
 pub data Next (far : Wires) (w : Traffic) (j : ℕ) : Step → Type 0 where
   order : (s : Step) → overLine far j (s .does) ≡ false → Next far w j s
   message : (p room : ℕ) (o : List ℕ) (rest : List Item) → w .line j p ≡ letter o ∷ rest → Next far w j (hearing room p o)
+  cut : (p i q : ℕ) → far j p ≡ box i q → Next far w j (losing p)
 
 -- no Mapping among the messages is of the label l
 unfoldable pub NotGiven : ℕ → List Sent → Type 0

@@ -10,12 +10,12 @@ use Rattle.meaning.specs.Card.{sentLimit, withLast}
 use Rattle.meaning.specs.Events.{Event, join, route}
 use Rattle.meaning.specs.Computing.{computing}
 use Rattle.meaning.specs.Examples.{A}
-use Rattle.promise.specs.Promise.{Past, answerTo, isTaken, liveAt, acceptedAt, thenStep}
+use Rattle.promise.specs.Promise.{Past, without, answerTo, isTaken, liveAt, acceptedAt, thenStep}
 use Rattle.promise_line.specs.Line.{parcelsF, parcels, addressed, sentBy, refuses}
 use Rattle.promise_line.specs.Sends.{isDown}
 use Rattle.promise_net.specs.Net.{nobody, box, Wires, boxAt, arriving, anew, isBox, overLine}
 use Rattle.promise_net.specs.NetExample.{isAt}
-use Rattle.promise_bark.specs.Bark.{Item, Traffic, letters, messages, talk, laid, stepped, copies, copiesTo, sent, taken, mayPass, passed, Turn, takes, does, puts, passes, turn, turns, Hand, handed, handedOf, hands}
+use Rattle.promise_bark.specs.Bark.{Item, Traffic, letters, messages, talk, laid, stepped, copies, copiesTo, sent, taken, mayPass, passed, parted, severed, Turn, takes, does, puts, passes, cuts, turn, turns, Hand, handed, handedOf, hands}
 use Rattle.promise_bark.specs.Slip.{atOnce, allAtOnce, early}
 
 -- the commentary: another tree, with a root of its own
@@ -128,3 +128,21 @@ overtaken w = record { past = w .past; line = anew 2 0 (behind (w .line 2 0)) (w
 pub order-needed : T (same (listened lines answered (passes 2 0 0 ∷ takesFrom 2 0 ∷ noon)) (1 ∷ 2 ∷ 1 ∷ []) && same (listened lines (overtaken answered) (takesFrom 2 0 ∷ noon)) (1 ∷ 3 ∷ 2 ∷ 1 ∷ 2 ∷ 1 ∷ []))
 unfolding shown answered behind overtaken
 order-needed = tt
+
+-- ---- the assumption on a line that is cut is needed
+
+-- The feed A comes to box 2 by way of box 0, a packet is under way, and the line is cut.
+unfoldable pub feeding : Traffic
+feeding = turns lines dawn (order 2 (route (rootIn A) 0) ∷ order 2 (join A) ∷ takesFrom 0 2 ∷ puts 0 A ∷ [])
+
+unfoldable pub parting : Traffic
+parting = later (turn lines feeding (cuts 0 2))
+
+-- the packet is not gone, which `severed` rules out
+unfoldable pub left : Traffic → Traffic
+left w = record { past = w .past; line = anew 2 0 (feeding .line 2 0) (w .line); refused = w .refused }
+
+-- Box 2 has freed the label at once and gives it for B: what was left on the line is heard at box 3, as B's. With the packet gone, nobody hears anything.
+pub cut-needed : T (same (listened lines parting noon) [] && same (listened lines (left parting) noon) (1 ∷ 3 ∷ 2 ∷ []))
+unfolding shown feeding parting left parted severed without
+cut-needed = tt

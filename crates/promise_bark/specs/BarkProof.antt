@@ -1,20 +1,22 @@
 -- NO BARK: packets that travel.
 -- Assumes nothing.
-use Prim.Native.Nat.{ℕ}
+use Prim.Native.Nat.{ℕ, _<_}
 use native.Mathlib.Omega.{arith}
 use mathlib.Core.Path.{_≡_, refl, sym, ap, _∙_, subst}
 use mathlib.Core.Bool.{Bool, true, false, _&&_, _||_}
-use mathlib.Core.List.{List, [], _∷_}
+use mathlib.Core.List.{List, [], _∷_, _++_}
 use lib.Dec.{eqb}
 use borrow.Author.Tests.{eqb-true, eqb-false, eq-eqb, ne-eqb}
 use Rattle.meaning.specs.Octets.{pick}
 use Rattle.meaning.specs.Lists.{by-test, picked, append-nil}
 use Rattle.meaning.specs.RoundTrip.{both}
-use Rattle.meaning.specs.Wire.{release, Message, messageIn}
+use Rattle.meaning.specs.Wire.{withdraw, release, Message, messageIn, Sent}
 use Rattle.meaning.specs.Card.{Card, treeOf, Branch, carrier, lookupLabel, lookupName}
-use Rattle.meaning.specs.Events.{Event, receive, join, leave, route, lost, branch}
-use Rattle.promise.specs.Promise.{Given, Step, Past, sends, thenStep}
-use Rattle.promise.specs.PromiseProof.{Upheld, then-upheld, started}
+use Rattle.meaning.specs.Events.{Outcome, outcome, Event, receive, join, leave, route, lost, branch}
+use Rattle.promise.specs.Promise.{Given, Step, Past, answerTo, sends, thenStep}
+use Rattle.promise.specs.PromiseProof.{messagesOf, Upheld, sends-is, then-upheld, started}
+use Rattle.promise.specs.LossKept.{lost-taken, NotTo, Gone, lost-gone}
+use Rattle.promise_net.specs.Cuts.{far-off}
 use Rattle.promise.specs.Deeds.{thenDeed}
 use Rattle.promise.specs.Deeds
 use Rattle.meaning.specs.Notice.{notice}
@@ -25,10 +27,10 @@ use Rattle.promise_line.specs.LineProof
 use Rattle.promise_line.specs.Notices.{notice-aside}
 use Rattle.promise_line.specs.Life.{Life, idle, asked, standing, hasty, leaving, going, stranded}
 use Rattle.promise_line.specs.Sends.{isDown, kin}
-use Rattle.promise_net.specs.Net.{Far, nobody, box, Wires, Wired, Net, boxAt, arriving, anew, isBox, overLine, joined}
+use Rattle.promise_net.specs.Net.{Far, nobody, box, Wires, Wired, Net, boxAt, arriving, anew, isBox, overLine, losing, joined}
 use Rattle.promise_net.specs.Net
 use Rattle.promise_net.specs.NetProof.{AllBound, turns-bound, laid-bound}
-use Rattle.promise_bark.specs.Bark.{Item, letter, packet, Traffic, letters, messages, talk, laid, stepped, noticed, told, copies, copiesTo, sent, taken, passed, dropped, isLive, Turn, takes, does, tells, puts, comes, loses, passes, turn, turns, handed, handedOf, hands, copied, copiedOf, goes, EachPacket, EachHand, EachCopy, Next, order, message, NotGiven, Alive, Right, Asked, NoBark, NoBarkInTime}
+use Rattle.promise_bark.specs.Bark.{Item, letter, packet, Traffic, letters, messages, talk, laid, stepped, noticed, told, copies, copiesTo, sent, taken, passed, dropped, parted, severed, isLive, Turn, takes, does, tells, puts, comes, loses, passes, cuts, turn, turns, handed, handedOf, hands, copied, copiedOf, goes, EachPacket, EachHand, EachCopy, Next, order, message, cut, NotGiven, Alive, Right, Asked, NoBark, NoBarkInTime}
 use Rattle.promise_bark.specs.Lookups.{EachBranch, Listed, name-fair, label-fair, label-carried}
 use Rattle.promise_bark.specs.AtOnce.{listed-alive, at-once}
 use Rattle.promise_bark.specs.Ledger.{frees, alive-then, step-not-given}
@@ -380,6 +382,73 @@ passes-sure far W w S i p n =
     (λ j q. anew-at (λ (x y : ℕ) (xs : List Item). Orderly y (w .past x .live) xs) i p (passed n (w .line i p)) (w .line) j q (orderly-passed p (w .past i .live) n (w .line i p) (S .orderly i p)) (λ _. S .orderly j q))
     (λ j q. anew-at (λ (x y : ℕ) (xs : List Item). far x y ≡ nobody → xs ≡ []) i p (passed n (w .line i p)) (w .line) j q (λ f. empty-passed n (w .line i p) (S .ended i p f)) (λ _. S .ended j q))
 
+-- ---- a line that is cut
+
+talk-stepped : (far : Wires) (w : Traffic) (k : ℕ) (s : Step) → talk (stepped far w k s (w .line) (w .refused)) ≡ Net.stepped far (talk w) k s (talk w .inbox) (talk w .refused)
+unfolding talk stepped Net.stepped
+talk-stepped far w k s = λ t. record {
+  past = λ x. pick (eqb x k) (thenStep (w .past k) s) (w .past x);
+  inbox = λ x p. (messages-append (w .line x p) (letters (arriving (talk w) k s (far x p))) ∙ ap (λ (ms : List (List ℕ)). messages (w .line x p) ++ ms) (messages-letters (arriving (talk w) k s (far x p)))) t;
+  refused = w .refused;
+}
+
+talk-parted : (far : Wires) (w : Traffic) (i p j q : ℕ) → talk (parted far w i p j q) ≡ Net.parted far (talk w) i p j q
+unfolding parted Net.parted
+talk-parted far w i p j q = talk-stepped far (stepped far w i (losing p) (w .line) (w .refused)) j (losing q) ∙ ap (λ (v : Net). Net.stepped far v j (losing q) (v .inbox) (v .refused)) (talk-stepped far w i (losing p))
+
+talk-severed : (far : Wires) (w : Traffic) (i p : ℕ) (f : Far) → talk (severed far w i p f) ≡ Net.severed far (talk w) i p f
+unfolding severed Net.severed
+talk-severed far w i p nobody = refl
+talk-severed far w i p (box j q) = cleared ∙ ap (λ (v : Net). record { past = v .past; inbox = anew i p [] (anew j q [] (v .inbox)); refused = anew i p false (anew j q false (v .refused)) }) (talk-parted far w i p j q)
+  where
+    emptied : (k n : ℕ) → messages (anew i p [] (anew j q [] ((parted far w i p j q) .line)) k n) ≡ anew i p [] (anew j q [] (λ x y. messages ((parted far w i p j q) .line x y))) k n
+    emptied k n = unfold anew in by-test (eqb k i && eqb n p) (λ e. rw e (unfold messages in refl)) (λ e. rw e (by-test (eqb k j && eqb n q) (λ h. rw h (unfold messages in refl)) (λ h. rw h refl)))
+
+    cleared : talk (severed far w i p (box j q)) ≡ record { past = talk (parted far w i p j q) .past; inbox = anew i p [] (anew j q [] (talk (parted far w i p j q) .inbox)); refused = anew i p false (anew j q false (talk (parted far w i p j q) .refused)) }
+    cleared = unfold talk in λ t. record { past = (parted far w i p j q) .past; inbox = λ k n. emptied k n t; refused = anew i p false (anew j q false ((parted far w i p j q) .refused)) }
+
+cuts-net : (far : Wires) → Wired far → (v : Net) → AllBound far v → (i p : ℕ) → AllBound far (Net.severed far v i p (far i p))
+unfolding Net.turns Net.turn
+cuts-net far W v A i p = turns-bound far W v A (Net.cuts i p ∷ [])
+
+module _ (far : Wires) (W : Wired far) (w : Traffic) (S : Sure far w) (i p j q : ℕ) (e : far i p ≡ box j q) where
+  abbrev one : Traffic
+  one = stepped far w i (losing p) (w .line) (w .refused)
+
+  -- a packet on another line is on a label that the loss does not end
+  else-orderly : (k n : ℕ) → (eqb k i && eqb n p) ≡ false → (eqb k j && eqb n q) ≡ false → Orderly n (parted far w i p j q .past k .live) (parted far w i p j q .line k n)
+  unfolding parted frees
+  else-orderly k n a b =
+      stepped-orderly far one j (losing q) (one .line) (one .refused) k n (stepped-upheld far w i (losing p) (w .line) (w .refused) (S .upheld) j)
+      (λ z. each-all _ (λ _ _. ne-eqb q n (λ y. elsewhere k j n q b z (sym y))) (one .line k n))
+      (stepped-orderly far w i (losing p) (w .line) (w .refused) k n (S .upheld i) (λ z. each-all _ (λ _ _. ne-eqb p n (λ y. elsewhere k i n p a z (sym y))) (w .line k n)) (S .orderly k n))
+    where
+      elsewhere : (a b c d : ℕ) → (eqb a b && eqb c d) ≡ false → a ≡ b → c ≡ d → ⊥
+      elsewhere a b c d h x y = let t : true ≡ false = sym (rw (eq-eqb a b x, eq-eqb c d y) refl) ∙ h in let t′ : _≡_ {A = ℕ} 0 1 = cc in omega arith
+
+  cut-orderly : (k n : ℕ) → Orderly n (severed far w i p (box j q) .past k .live) (severed far w i p (box j q) .line k n)
+  unfolding severed anew
+  cut-orderly k n =
+      by-test (eqb k i && eqb n p)
+      (λ a. rw a (unfold Orderly in tt))
+      (λ a. rw a (by-test (eqb k j && eqb n q) (λ b. rw b (unfold Orderly in tt)) (λ b. rw b (else-orderly k n a b))))
+
+  cut-ended : (k n : ℕ) → far k n ≡ nobody → severed far w i p (box j q) .line k n ≡ []
+  unfolding severed parted anew
+  cut-ended k n f =
+      by-test (eqb k i && eqb n p)
+      (λ a. rw a refl)
+      (λ a. rw a (by-test (eqb k j && eqb n q) (λ b. rw b refl) (λ b. rw b (stepped-ended far one j (losing q) (one .line) (one .refused) k n f (stepped-ended far w i (losing p) (w .line) (w .refused) k n f (S .ended k n f))))))
+
+severed-sure : (far : Wires) → Wired far → (w : Traffic) → Sure far w → (i p : ℕ) (f : Far) → far i p ≡ f → Sure far (severed far w i p f)
+severed-sure far W w S i p nobody e = unfold severed in S
+severed-sure far W w S i p (box j q) e = record {
+  bound = subst (AllBound far) (sym (talk-severed far w i p (box j q))) (rw e at (cuts-net far W (talk w) (S .bound) i p));
+  upheld = λ k. unfold severed parted in stepped-upheld far _ j (losing q) _ _ (stepped-upheld far w i (losing p) (w .line) (w .refused) (S .upheld)) k;
+  orderly = cut-orderly far W w S i p j q e;
+  ended = cut-ended far W w S i p j q e;
+}
+
 -- ---- any turns
 
 turn-sure : (far : Wires) → Wired far → (w : Traffic) → Sure far w → (t : Turn) → Sure far (turn far w t)
@@ -389,6 +458,7 @@ turn-sure far W w S (does i s) = by-test (overLine far i (s .does)) (λ d. rw d 
 turn-sure far W w S (tells i room n number s) = tells-sure far W w S i room n number s
 turn-sure far W w S (loses i p) = lost-sure far W w S i p 0 (w .line i p) refl
 turn-sure far W w S (passes i p n) = passes-sure far W w S i p n
+turn-sure far W w S (cuts i p) = severed-sure far W w S i p (far i p) refl
 turn-sure far W w S (comes i p a l) =
     by-test (isLive w i p a l)
     (λ d. rw d (sent-sure far W w S i a (lookupLabel l (w .past i .card) .branches) (label-fair (w .past i) (S .upheld i) p a l (is-live w i p a l d) .branches) (w .line) (λ j q. refl) (S .orderly) (S .ended)))
@@ -418,12 +488,28 @@ message-keeps w j O p o rest u q =
     (λ e. subst (λ (x : ℕ). EachPacket (λ a l. frees x l (receive p o) ≡ false) (w .line j x)) (sym (eqb-true q p e)) (rw u (unfold EachPacket in none-freed p (w .past j .live) o rest (subst (Orderly p (w .past j .live)) u (O p)))))
     (λ e. each-all _ (λ a l. other-number p q l o (eqb-false q p e)) (w .line j q))
 
-next-keeps : (far : Wires) (w : Traffic) → Sure far w → (j : ℕ) {s : Step} → Next far w j s → (q : ℕ) → EachPacket (λ a l. NotGiven l (sends (w .past j .card) s)) (w .line j q)
-next-keeps far w S j (order s d) q = each-both _ _ _ (λ a l f alive. step-not-given q a l (w .past j) (S .upheld j) s f alive) (w .line j q) (order-keeps far w S j s d j q refl) (orderly-live q (w .past j .live) (w .line j q) (S .orderly j q))
-next-keeps far w S j (message p room o rest u) q = each-both _ _ _ (λ a l f alive. step-not-given q a l (w .past j) (S .upheld j) (hearing room p o) f alive) (w .line j q) (message-keeps w j (S .orderly j) p o rest u q) (orderly-live q (w .past j .live) (w .line j q) (S .orderly j q))
+-- a loss sends Withdraws alone
+only-withdraws : (n l : ℕ) (ms : List Sent) → NotTo n ms → NotGiven l ms
+unfolding NotTo NotGiven
+only-withdraws n l [] h = tt
+only-withdraws n l (m ∷ ms) h = ((λ k _. let w : m .message .kind ≡ withdraw = h .0 .1 in omega arith), only-withdraws n l ms (h .1))
+
+gone-gives : (n l : ℕ) (o : Outcome) → Gone n o → NotGiven l (messagesOf o)
+unfolding messagesOf
+gone-gives n l o G = rw (G .so) (only-withdraws n l (G .sent) (G .silent))
+
+loss-gives : (p : Past) → Upheld p → (n : ℕ) → n < 16 → (l : ℕ) → NotGiven l (sends (p .card) (losing n))
+loss-gives p u n near l =
+    rw (sends-is p (losing n) u)
+    (picked (NotGiven l) (eqb (answerTo (p .card) (losing n) .answer) 0) (λ _. gone-gives n l (outcome (p .card) (lost n)) (rw (lost-taken (p .card) n (far-off n near)) (lost-gone (p .card) n near))) (λ _. unfold NotGiven in tt))
+
+next-keeps : (far : Wires) → Wired far → (w : Traffic) → Sure far w → (j : ℕ) {s : Step} → Next far w j s → (q : ℕ) → EachPacket (λ a l. NotGiven l (sends (w .past j .card) s)) (w .line j q)
+next-keeps far W w S j (order s d) q = each-both _ _ _ (λ a l f alive. step-not-given q a l (w .past j) (S .upheld j) s f alive) (w .line j q) (order-keeps far w S j s d j q refl) (orderly-live q (w .past j .live) (w .line j q) (S .orderly j q))
+next-keeps far W w S j (cut p i r e) q = each-all _ (λ a l. loss-gives (w .past j) (S .upheld j) p (W .near j p i r e) l) (w .line j q)
+next-keeps far W w S j (message p room o rest u) q = each-both _ _ _ (λ a l f alive. step-not-given q a l (w .past j) (S .upheld j) (hearing room p o) f alive) (w .line j q) (message-keeps w j (S .orderly j) p o rest u q) (orderly-live q (w .past j .live) (w .line j q) (S .orderly j q))
 
 pub no-bark : (far : Wires) → Wired far → (w : Traffic) → Sure far w → NoBark far w
-no-bark far W w S = record { live = λ j q. orderly-live q (w .past j .live) (w .line j q) (S .orderly j q); kept = λ j s h q. next-keeps far w S j h q; right = at-turn; asked = asks; atOnce = at-once far (talk w) (S .bound) }
+no-bark far W w S = record { live = λ j q. orderly-live q (w .past j .live) (w .line j q) (S .orderly j q); kept = λ j s h q. next-keeps far W w S j h q; right = at-turn; asked = asks; atOnce = at-once far (talk w) (S .bound) }
   where
     at-turn : (t : Turn) → EachHand (Right w) (hands w t)
     at-turn (takes i p room) = unfold hands in taken-right far W w S i p room (w .line i p) refl
@@ -433,6 +519,7 @@ no-bark far W w S = record { live = λ j q. orderly-live q (w .past j .live) (w 
     at-turn (comes i p a l) = unfold hands in (picked (EachHand (Right w)) (isLive w i p a l) (λ d. label-right w (S .upheld) i p a l (is-live w i p a l d)) (λ _. unfold EachHand in tt))
     at-turn (loses i p) = unfold hands EachHand in tt
     at-turn (passes i p n) = unfold hands EachHand in tt
+    at-turn (cuts i p) = unfold hands EachHand in tt
 
     asks : (t : Turn) → EachCopy (Asked w) (goes w t)
     asks (takes i p room) = unfold goes in taken-asked far W w S i p room (w .line i p) refl
@@ -442,6 +529,7 @@ no-bark far W w S = record { live = λ j q. orderly-live q (w .past j .live) (w 
     asks (comes i p a l) = unfold goes in (picked (EachCopy (Asked w)) (isLive w i p a l) (λ d. copied-asked w a i (lookupLabel l (w .past i .card) .branches) (label-fair (w .past i) (S .upheld i) p a l (is-live w i p a l d) .branches)) (λ _. unfold EachCopy in tt))
     asks (loses i p) = unfold goes EachCopy in tt
     asks (passes i p n) = unfold goes EachCopy in tt
+    asks (cuts i p) = unfold goes EachCopy in tt
 
 -- THE SECOND STATEMENT
 pub no-bark-in-time : NoBarkInTime

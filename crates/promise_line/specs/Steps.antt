@@ -58,7 +58,7 @@ module _ (p : Past) (u : Upheld p) (s : Step) (yes′ : isTaken (p .card) s ≡ 
   releases l n = ap (kinTo (isDown l) n) (sends-is p s u ∙ unfold answerTo event in rw yes′ refl) ∙ spoken (p .card) (p .live) (s .does) (s .room) l n _ (outcome (p .card) (s .does)) keeps (event-speaks (p .card) l n (s .does)) yes′
 
   -- its branches are those that it makes
-  branches : (a : List ℕ) (n : ℕ) → from n (thenStep p s) a ≡ branch (became (s .does) a (treeOf a (p .card))) n
+  pub branches : (a : List ℕ) (n : ℕ) → from n (thenStep p s) a ≡ branch (became (s .does) a (treeOf a (p .card))) n
   unfolding isTaken answerTo event thenStep
   branches a n = formed (p .card) (p .live) (s .does) (s .room) (outcome (p .card) (s .does)) keeps yes′ a n
 

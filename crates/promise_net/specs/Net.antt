@@ -1,13 +1,13 @@
 -- A NET OF BOXES: any number of cards, joined by lines that neither lose nor reorder, and a packet on its way through them.
 -- Assumes nothing.
-use Prim.Native.Nat.{ℕ, zero, suc, _+_, _<_}
+use Prim.Native.Nat.{ℕ, zero, suc, _+_, _*_, _<_}
 use mathlib.Core.Path.{_≡_}
 use mathlib.Core.Bool.{Bool, true, false, _&&_, _||_}
 use mathlib.Core.List.{List, [], _∷_, _++_}
 use lib.Dec.{eqb}
 use Rattle.meaning.specs.Octets.{pick, count}
-use Rattle.meaning.specs.Wire.{rootIn, elementRefusal}
-use Rattle.meaning.specs.Card.{treeOf, routeOf, Branch, Feed, lookupLabel, lookupName}
+use Rattle.meaning.specs.Wire.{rootIn, recordLimit, elementRefusal}
+use Rattle.meaning.specs.Card.{treeLimit, treeOf, routeOf, Branch, Feed, lookupLabel, lookupName}
 use Rattle.meaning.specs.Events.{Event, receive, join, leave, route, lost}
 use Rattle.promise.specs.Promise.{Step, Past, thenStep, begun}
 use Rattle.promise_line.specs.Line.{Box, hearing, sentBy, refuses}
@@ -81,14 +81,33 @@ overLine far i (leave e) = false
 overLine far i (route r via) = false
 overLine far i (lost n) = isBox (far i n)
 
--- box i hears from its number p, with so much room; or does a step that is no message of another box, nor the loss of its line
+-- the loss of neighbour n, with room for all that it sends: a record for each tree
+abbrev pub losing : ℕ → Step
+losing n = record { room = treeLimit * recordLimit; does = lost n }
+
+-- boxes i and j lose each other, which they know as p and q
+unfoldable pub parted : Wires → Net → ℕ → ℕ → ℕ → ℕ → Net
+parted far w i p j q =
+    let one = stepped far w i (losing p) (w .inbox) (w .refused) in
+    stepped far one j (losing q) (one .inbox) (one .refused)
+
+-- THE LINE AT NUMBER p OF BOX i IS CUT: both its boxes lose the session, all that is under way on it is gone, and it begins anew.
+unfoldable pub severed : Wires → Net → ℕ → ℕ → Far → Net
+severed far w i p nobody = w
+severed far w i p (box j q) =
+    let both = parted far w i p j q in
+    record { past = both .past; inbox = anew i p [] (anew j q [] (both .inbox)); refused = anew i p false (anew j q false (both .refused)) }
+
+-- box i hears from its number p, with so much room; does a step that is no message of another box, nor the loss of its line; or the line at its number p is cut
 pub data Turn : Type 0 where
   hears : ℕ → ℕ → ℕ → Turn
   does : ℕ → Step → Turn
+  cuts : ℕ → ℕ → Turn
 
 unfoldable pub turn : Wires → Net → Turn → Net
 turn far w (hears i p room) = heard far w i p room (w .inbox i p)
 turn far w (does i s) = pick (overLine far i (s .does)) w (stepped far w i s (w .inbox) (w .refused))
+turn far w (cuts i p) = severed far w i p (far i p)
 
 unfoldable pub turns : Wires → Net → List Turn → Net
 turns far w [] = w

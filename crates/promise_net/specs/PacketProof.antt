@@ -20,7 +20,7 @@ use Rattle.promise.specs.CardLaws.{tree-sized}
 use Rattle.promise.specs.PromiseProof.{Upheld, then-upheld, started}
 use Rattle.promise_line.specs.Line.{lists, hearing, refuses}
 use Rattle.promise_line.specs.LineProof.{are-mapped}
-use Rattle.promise_net.specs.Net.{Far, nobody, box, Wires, Wired, Net, boxAt, laid, stepped, anew, heard, overLine, Turn, hears, does, turn, turns, Quiet, onward, along, reaches, fed, via, joined, Way, here, up, Climbs, WholeTree}
+use Rattle.promise_net.specs.Net.{Far, nobody, box, Wires, Wired, Net, boxAt, laid, stepped, anew, heard, overLine, losing, parted, severed, Turn, hears, does, cuts, turn, turns, Quiet, onward, along, reaches, fed, via, joined, Way, here, up, Climbs, WholeTree}
 use Rattle.promise_net.specs.NetProof.{AllBound, turns-bound, laid-bound}
 use Rattle.promise_net.specs.Cards.{mapped-route, mapped-lookup, leads-mapped, name-lookup}
 use Rattle.promise_net.specs.Ways.{rank-up, one-door}
@@ -31,6 +31,11 @@ pub stepped-upheld : (far : Wires) (w : Net) (k : ℕ) (s : Step) (inbox : ℕ �
 unfolding stepped
 stepped-upheld far w k s inbox refused U i = picked Upheld (eqb i k) (λ _. then-upheld (w .past k) s (U k)) (λ _. U i)
 
+severed-upheld : (far : Wires) (w : Net) (k p : ℕ) (f : Far) → ((i : ℕ) → Upheld (w .past i)) → (i : ℕ) → Upheld (severed far w k p f .past i)
+unfolding severed parted
+severed-upheld far w k p nobody U i = U i
+severed-upheld far w k p (box j q) U i = stepped-upheld far _ j (losing q) _ _ (stepped-upheld far w k (losing p) (w .inbox) (w .refused) U) i
+
 turn-upheld : (far : Wires) (w : Net) (t : Turn) → ((i : ℕ) → Upheld (w .past i)) → (i : ℕ) → Upheld (turn far w t .past i)
 unfolding turn
 turn-upheld far w (hears k n room) U i = go (w .inbox k n)
@@ -38,6 +43,7 @@ turn-upheld far w (hears k n room) U i = go (w .inbox k n)
     go : (under : List (List ℕ)) → Upheld (heard far w k n room under .past i)
     go [] = unfold heard in U i
     go (s ∷ rest) = unfold heard in stepped-upheld far w k (hearing room n s) (anew k n rest (w .inbox)) (anew k n (w .refused k n || refuses (boxAt w k n) (hearing room n s)) (w .refused)) U i
+turn-upheld far w (cuts k p) U i = severed-upheld far w k p (far k p) U i
 turn-upheld far w (does k s) U i = picked (λ (x : Net). Upheld (x .past i)) (overLine far k (s .does)) (λ _. U i) (λ _. stepped-upheld far w k s _ _ U i)
 
 turns-upheld : (far : Wires) (w : Net) (ts : List Turn) → ((i : ℕ) → Upheld (w .past i)) → (i : ℕ) → Upheld (turns far w ts .past i)

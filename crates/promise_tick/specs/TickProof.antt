@@ -18,7 +18,7 @@ use Rattle.promise.specs.Promise.{leafBy, routeBy, Step, Past, isTaken, accepte
 use Rattle.promise.specs.PromiseProof.{Upheld, then-upheld, started}
 use Rattle.promise_line.specs.Line.{refuses}
 use Rattle.promise_line.specs.Line
-use Rattle.promise_net.specs.Net.{Far, nobody, box, Wires, Wired, Net, boxAt, laid, arriving, stepped, anew, heard, overLine, Turn, hears, does, turn, turns, Quiet, fed, via, joined, Way, here, up, Climbs}
+use Rattle.promise_net.specs.Net.{Far, nobody, box, Wires, Wired, Net, boxAt, laid, arriving, stepped, anew, heard, overLine, losing, parted, severed, Turn, hears, does, cuts, turn, turns, Quiet, fed, via, joined, Way, here, up, Climbs}
 use Rattle.promise_net.specs.PacketProof.{whole-tree}
 use Rattle.promise_tick.specs.Tick.{Ear, hearing, hearings, Silent, some, delivered, Served, Rank, weight, weights, ahead, Within, EachName, Slopes, Unrefused, Reaches, DiesDown, SoftTick, ThenWhole, Under, OrderAdds}
 use Rattle.promise_tick.specs.Sums.{sums, sums-add, sums-eq, sums-has, sums-less}
@@ -59,9 +59,21 @@ heard-fit far w F i p room (s ∷ rest) u =
     stepped-fit far w i (Line.hearing room p s) (anew i p rest (w .inbox)) _ F
     (λ k n. anew-at (λ (x y : ℕ) (xs : List (List ℕ)). far x y ≡ nobody → xs ≡ []) i p rest (w .inbox) k n (λ e. absurd (filled s rest (sym u ∙ F .ended i p e))) (F .ended k n))
 
+severed-fit : (far : Wires) (w : Net) → Fit far w → (i p : ℕ) (f : Far) → Fit far (severed far w i p f)
+unfolding severed parted
+severed-fit far w F i p nobody = F
+severed-fit far w F i p (box j q) =
+    let one : Fit far (stepped far w i (losing p) (w .inbox) (w .refused)) = stepped-fit far w i (losing p) (w .inbox) (w .refused) F (F .ended) in
+    let both-lost = stepped-fit far _ j (losing q) _ (stepped far w i (losing p) (w .inbox) (w .refused) .refused) one (one .ended) in
+    record {
+      upheld = both-lost .upheld;
+      ended = λ k n e. anew-at (λ (x y : ℕ) (xs : List (List ℕ)). xs ≡ []) i p [] (anew j q [] _) k n refl (anew-at (λ (x y : ℕ) (xs : List (List ℕ)). xs ≡ []) j q [] _ k n refl (both-lost .ended k n e));
+    }
+
 turn-fit : (far : Wires) (w : Net) → Fit far w → (t : Turn) → Fit far (turn far w t)
 unfolding turn
 turn-fit far w F (hears i p room) = heard-fit far w F i p room (w .inbox i p) refl
+turn-fit far w F (cuts i p) = severed-fit far w F i p (far i p)
 turn-fit far w F (does i s) = picked (Fit far) (overLine far i (s .does)) (λ _. F) (λ _. stepped-fit far w i s (w .inbox) (w .refused) F (F .ended))
 
 turns-fit : (far : Wires) (w : Net) → Fit far w → (ts : List Turn) → Fit far (turns far w ts)
