@@ -1,19 +1,18 @@
 -- What a card's lookups say of a tree: by its name, and by a label that is live for it.
 -- Assumes nothing.
-use Prim.Native.Nat.{ℕ, zero, suc, _+_, _≤_, _<_}
+use Prim.Native.Nat.{ℕ, suc, _+_}
 use native.Mathlib.Omega.{arith}
-use mathlib.Core.Path.{_≡_, refl, sym, ap, ap₂, _∙_, subst}
+use mathlib.Core.Path.{_≡_, refl, sym, ap, ap₂, _∙_}
 use mathlib.Core.Bool.{true, false, _&&_}
 use mathlib.Core.List.{List, [], _∷_}
-use lib.ListN.{getD, length, set}
-use lib.Seq.{getD-set-other}
-use lib.Dec.{eqb, ltb}
-use borrow.Author.Tests.{eqb-true, eqb-false, ltb-true, ltb-false}
-use Rattle.meaning.specs.Octets.{place, count, same}
-use Rattle.meaning.specs.Lists.{by-test, picked, same-eq, same-refl, place-finds, getD-out}
+use lib.ListN.{getD, set}
+use lib.Dec.{eqb}
+use borrow.Author.Tests.{eqb-true}
+use Rattle.meaning.specs.Octets.{count, same}
+use Rattle.meaning.specs.Lists.{by-test, picked, same-eq}
 use Rattle.meaning.specs.RoundTrip.{both}
 use Rattle.meaning.specs.Wire.{elementRefusal, mapping}
-use Rattle.meaning.specs.Card.{Tree, Use, free, mapped, awaiting, Card, bare, treeOf, treeAt, useOf, isBranch, notHeld, Branch, Feed, nothing, branchesFrom, feedOf, feedOfUse, carries, carrier, lookupLabel, lookupName}
+use Rattle.meaning.specs.Card.{Tree, Use, free, mapped, awaiting, Card, treeOf, useOf, isBranch, notHeld, Branch, Feed, nothing, branchesFrom, feedOf, feedOfUse, carrier, lookupLabel, lookupName}
 use Rattle.meaning.specs.Events.{branch}
 use Rattle.promise.specs.Promise.{Given, ofLabel, isAbout, Past}
 use Rattle.promise.specs.LiveLaws.{Books, only, givens}

@@ -8,16 +8,16 @@ use mathlib.Core.List.{List, [], _∷_, _++_}
 use lib.ListN.{getD}
 use lib.Seq.{getD-set-same, getD-set-other}
 use lib.Dec.{eqb}
-use borrow.Author.Tests.{eqb-true, eqb-false, eq-eqb, ne-eqb}
-use Rattle.meaning.specs.Octets.{pick, same}
+use borrow.Author.Tests.{eqb-true, eqb-false, eq-eqb}
+use Rattle.meaning.specs.Octets.{same}
 use Rattle.meaning.specs.Lists.{by-test, picked, append-nil}
 use Rattle.meaning.specs.Wire.{mapping, withdraw, release, Message, messageIn, Sent, records}
 use Rattle.meaning.specs.Card.{Tree, Card, withNext, withBranch, withLeaf, withLabel, treeOf, treePlace}
 use Rattle.meaning.specs.Events.{Outcome, refused, taken, refuse, accept, roomShort, finish, branch, otherLabel, Event, receive, join, leave, route, lost, outcome, event}
 use Rattle.promise.specs.Promise.{Given, noteAll, noteTaken, Step, Past, answerTo, sends, isTaken, liveAt, thenStep}
 use Rattle.promise.specs.CardLaws.{shape, tree-sized}
-use Rattle.promise.specs.EventLaws.{byMessage, became, Apart, Keeps, event-keeps, Admits, Meets, event-meets}
-use Rattle.promise.specs.PromiseProof.{newBranch, message-branches, messagesOf, Upheld, sends-is, refused-silent, kept}
+use Rattle.promise.specs.EventLaws.{became, Apart, Keeps, event-keeps, Admits, Meets, event-meets}
+use Rattle.promise.specs.PromiseProof.{message-branches, messagesOf, Upheld, sends-is, refused-silent, kept}
 use Rattle.promise_line.specs.Line.{isFrom, hearing}
 use Rattle.promise_line.specs.Life.{Life, life-eq, life-freed, life-lost, said, replyTo, life-heard, life-missed, life-other, life-deaf}
 use Rattle.promise_line.specs.Sends.{isUp, isDown, kin, kinTo, mine, mine-remove, mine-remove-other, mine-without-other, life-sends}

@@ -7,7 +7,7 @@ use mathlib.Core.Bool.{true}
 use mathlib.Core.List.{List}
 use borrow.Author.Tests.{eq-eqb, lt-ltb}
 use Rattle.meaning.specs.Wire.{rootIn, elementRefusal}
-use Rattle.meaning.specs.Card.{Tree, Use, mapped, Card, nobody, treeOf, routeOf, leadsOn, mappedTo, useOf, heldFor, feedOf, feedOfUse, lookupLabel, lookupName}
+use Rattle.meaning.specs.Card.{Tree, mapped, Card, nobody, treeOf, routeOf, leadsOn, mappedTo, useOf, heldFor, feedOf, feedOfUse, lookupLabel, lookupName}
 use Rattle.meaning.specs.Events.{upstream, holder, holderOf}
 use Rattle.promise.specs.Promise.{Past}
 use Rattle.promise.specs.LiveLaws.{mapped-eq, Linked}

@@ -4,16 +4,16 @@ use Prim.Native.Nat.{ℕ, zero, suc, _<_}
 use native.Mathlib.Nat.{le-refl}
 use native.Mathlib.Omega.{arith}
 use mathlib.Core.Path.{_≡_, refl, sym, ap, _∙_}
-use mathlib.Core.Bool.{true, false, _&&_}
+use mathlib.Core.Bool.{true, false}
 use mathlib.Core.List.{List, [], _∷_}
 use lib.ListN.{getD, set}
 use lib.Dec.{eqb, ltb}
-use borrow.Author.Tests.{eqb-true, eq-eqb, ltb-true}
+use borrow.Author.Tests.{eq-eqb, ltb-true}
 use Rattle.meaning.specs.Lists.{by-test}
 use Rattle.meaning.specs.Wire.{records}
 use Rattle.meaning.specs.Card.{Use, free, mapped, awaiting, Card, withNext, withBranch, treeOf, useOf}
-use Rattle.meaning.specs.Events.{Outcome, taken, refuse, accept, roomShort, finish, branch, isOf, part, noNeighbour, lost, outcome, event}
-use Rattle.promise.specs.Promise.{Given, Past, answerTo, isTaken, thenStep}
+use Rattle.meaning.specs.Events.{Outcome, refuse, accept, roomShort, finish, branch, isOf, noNeighbour, lost, outcome, event}
+use Rattle.promise.specs.Promise.{Past, answerTo, isTaken, thenStep}
 use Rattle.promise.specs.LiveLaws.{givens, Books}
 use Rattle.promise.specs.EventLaws.{became}
 use Rattle.promise.specs.LossKept.{lost-taken, NoneOf, Gone, lost-gone}
