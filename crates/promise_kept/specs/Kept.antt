@@ -14,7 +14,7 @@ use Rattle.meaning.specs.Events.{Event, receive, refuse, roomShort, event}
 use Rattle.meaning.specs.Save.{saved, save, restore, fitsSave}
 use Rattle.meaning.specs.Calls.{Hands}
 use Rattle.meaning.specs.Lists.{by-test}
-use Rattle.promise.specs.Promise.{Given, ofLabel, noteAll, noteTaken, branchesSaid, feedBy, Step, Past, answerTo, sends, isTaken, liveAt, acceptedAt, thenStep, begun, Each, NoneLive, Leads, isWithdrawn, Untouched, Promise}
+use Rattle.promise.specs.Promise.{Given, ofLabel, noteAll, noteTaken, branchesSaid, feedBy, Step, Past, answerTo, sends, isTaken, liveAt, acceptedAt, thenStep, begun, Each, NoneLive, AllMapped, Leads, isWithdrawn, Untouched, Promise}
 use Rattle.promise.specs.SaveKept as Swap
 use Rattle.promise.specs.Deeds.{Deed, does, tells, saves, swaps, restores, thenDeed, thenDeeds, IsClaimed, Claimed, deeds-kept}
 use Rattle.memory.specs.Memory.{cardOf}
@@ -76,6 +76,8 @@ pub record KeptByCode (ks : List Done) (ns os : List ℕ) : Type 0 where
   pub one : (l : ℕ) → count (ofLabel l) (liveBy ks) ≤ 1
   -- No live label is given out again.
   pub anew : {k : Call} {ns′ os′ : List ℕ} → Called ns os k ns′ os′ → NoneLive (recordsIn (k .part)) (liveFor k (liveBy ks))
+  -- A Withdraw is sent only of a label that is mapped, to that neighbour, for that tree.
+  pub withdraws : {k : Call} {ns′ os′ : List ℕ} → Called ns os k ns′ os′ → AllMapped (recordsIn (k .part)) (liveFor k (liveBy ks))
   -- What a lookup of a live label gives back: while mapped exactly the leaf, if joined, and the branches, those held left out, whose accepted Mapping no accepted Withdraw has since ended under its label; once withdrawn, nobody.
   pub leads : Each (λ g. (branches : List ℕ) (leaf : Bool) → LookedUp ns (g .label) branches leaf → feedIn branches leaf ≡ pick (g .withdrawn) nothing (feedBy (g .tree) (acceptedBy ks))) (liveBy ks)
   -- (of any other number, nobody)
@@ -142,11 +144,11 @@ saved-fits room c d o m =
 
 -- each thing that was done is its deed
 module _ (ks : List Done) (ns os : List ℕ) where
-  called-deed : (k : Call) (ns′ os′ : List ℕ) → Called ns os k ns′ os′ → pastOf (call k ∷ ks) ns′ os′ ≡ thenDeed (pastOf ks ns os) (does (stepOf k))
+  pub called-deed : (k : Call) (ns′ os′ : List ℕ) → Called ns os k ns′ os′ → pastOf (call k ∷ ks) ns′ os′ ≡ thenDeed (pastOf ks ns os) (does (stepOf k))
   unfolding pastOf liveBy acceptedBy thenDeed thenStep liveAt acceptedAt isTaken sends answerTo
   called-deed k ns′ os′ m = rw (← made m .answers, ← made m .hands, ← made m .leaves) refl
 
-  told-deed : (t : Telling) (ns′ : List ℕ) → Told ns t ns′ → pastOf (tell t ∷ ks) ns′ os ≡ thenDeed (pastOf ks ns os) (deedOf (tell t))
+  pub told-deed : (t : Telling) (ns′ : List ℕ) → Told ns t ns′ → pastOf (tell t ∷ ks) ns′ os ≡ thenDeed (pastOf ks ns os) (deedOf (tell t))
   unfolding pastOf liveBy acceptedBy thenDeed
   told-deed t ns′ m = rw (← told m os .hands, ← told m os .leaves) refl
 
@@ -210,6 +212,7 @@ kept-by-code base ks ns os r =
       answers = λ {k} m n s e z. p .answers (k .room) n s (ap (λ (x : Event). event (k .room) (cardOf ns os) x .answer) (sym e) ∙ sym (made m .answers) ∙ z);
       one = p .one;
       anew = λ {k} m. rw (made m .answers, made m .hands) (p .anew (stepOf k));
+      withdraws = λ {k} m. rw (made m .answers, made m .hands) (p .withdraws (stepOf k));
       single = p .single;
       leads = each-map _ _ (liveBy ks) (λ g h branches leaf m. looked-up m os ∙ h) (p .leads);
       others = λ l e branches leaf m. looked-up m os ∙ p .others l e;
