@@ -181,6 +181,7 @@ readings =
     refuses (join (1 ∷ [])) 6 ∷
     refuses (join (wide 0)) 7 ∷
     refuses (leave (wide 129)) 7 ∷
+    refuses (join (element 1 (rootIn A) (replicate 129 7))) 7 ∷
     refuses (join (element 1 (rootIn A) (1 ∷ []))) 18 ∷
     refuses (leave (element 1 (rootIn A) (1 ∷ 0 ∷ 2 ∷ 9 ∷ []))) 18 ∷
     -- a route order: 1 before 6; 6; no route for an unknown root is the route that it has (reading 6)
