@@ -158,12 +158,13 @@ pub data Way (far : Wires) (w : Net) (a : List ℕ) (k : ℕ) : ℕ → Type 0 w
 abbrev pub Climbs : Wires → Net → List ℕ → (ℕ → ℕ) → Type 0
 Climbs far w a rank = (j q i p : ℕ) → far j q ≡ box i p → via w a j ≡ q → rank i < rank j
 
--- THE WHOLE TREE, proved in `PacketProof`: boxes that were started, with any bases, and any turns. While nothing is under way and no box has refused a message of another,
--- a packet put in at box i for the tree named a is handed to the leaf of each box that has joined and whose routes lead to i, once; and to no other.
+-- While nothing is under way and no box has refused a message of another, a packet put in at box i for the tree named a is handed to the leaf of each box that has joined and whose routes lead to i, once; and to no other.
 -- (The root's box is such an i. The count n of boxes that a way may have is enough where it is over the difference of the ranks.)
+abbrev pub Whole : Wires → Net → Type 0
+Whole far w = Quiet far w → (a : List ℕ) → elementRefusal a ≡ 0 → (rank : ℕ → ℕ) → Climbs far w a rank → (n i k : ℕ) → rank k < n + rank i
+    → (joined w a k ≡ true → Way far w a k i → count (eqb k) (fed far w n i a) ≡ 1)
+    × ((joined w a k ≡ true → Way far w a k i → ⊥) → count (eqb k) (fed far w n i a) ≡ 0)
+
+-- THE WHOLE TREE, proved in `PacketProof`: boxes that were started, with any bases, and any turns
 abbrev pub WholeTree : Type 0
-WholeTree = (far : Wires) → Wired far → (base : ℕ → ℕ) (ts : List Turn) → Quiet far (turns far (laid base) ts)
-    → (a : List ℕ) → elementRefusal a ≡ 0 → (rank : ℕ → ℕ) → Climbs far (turns far (laid base) ts) a rank
-    → (n i k : ℕ) → rank k < n + rank i
-    → (joined (turns far (laid base) ts) a k ≡ true → Way far (turns far (laid base) ts) a k i → count (eqb k) (fed far (turns far (laid base) ts) n i a) ≡ 1)
-    × ((joined (turns far (laid base) ts) a k ≡ true → Way far (turns far (laid base) ts) a k i → ⊥) → count (eqb k) (fed far (turns far (laid base) ts) n i a) ≡ 0)
+WholeTree = (far : Wires) → Wired far → (base : ℕ → ℕ) (ts : List Turn) → Whole far (turns far (laid base) ts)

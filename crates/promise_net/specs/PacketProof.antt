@@ -20,7 +20,7 @@ use Rattle.promise.specs.CardLaws.{tree-sized}
 use Rattle.promise.specs.PromiseProof.{Upheld, then-upheld, started}
 use Rattle.promise_line.specs.Line.{lists, hearing, refuses}
 use Rattle.promise_line.specs.LineProof.{are-mapped}
-use Rattle.promise_net.specs.Net.{Far, nobody, box, Wires, Wired, Net, boxAt, laid, stepped, anew, heard, overLine, losing, parted, severed, Turn, hears, does, cuts, turn, turns, Quiet, onward, along, reaches, fed, via, joined, Way, here, up, Climbs, WholeTree}
+use Rattle.promise_net.specs.Net.{Far, nobody, box, Wires, Wired, Net, boxAt, laid, stepped, anew, heard, overLine, losing, parted, severed, Turn, hears, does, cuts, turn, turns, Quiet, onward, along, reaches, fed, via, joined, Way, here, up, Climbs, Whole, WholeTree}
 use Rattle.promise_net.specs.NetProof.{AllBound, turns-bound, laid-bound}
 use Rattle.promise_net.specs.Cards.{mapped-route, mapped-lookup, leads-mapped, name-lookup}
 use Rattle.promise_net.specs.Ways.{rank-up, one-door}
@@ -255,12 +255,13 @@ module _ (far : Wires) (W : Wired far) (w : Net) (A : AllBound far w) (Q : Quiet
   unfolding fed via
   whole good n i = ap (reaches far w n i) (name-lookup (w .past i) (U i) a good)
 
+-- of any net whose lines and boxes are so
+pub whole-net : (far : Wires) → Wired far → (w : Net) → AllBound far w → ((i : ℕ) → Upheld (w .past i)) → Whole far w
+whole-net far W w A U Q a good rank C n i k lt = (
+  (λ l g. rw (whole far W w A Q U a good n i) (one far W w A Q U a rank C n k i l g lt)),
+  (λ h. rw (whole far W w A Q U a good n i) (none far W w A Q U a n k i h)),
+)
+
 -- THE WHOLE TREE
 pub whole-tree : WholeTree
-whole-tree far W base ts Q a good rank C n i k lt =
-    let w : Net = turns far (laid base) ts in
-    let A : AllBound far w = turns-bound far W (laid base) (laid-bound far W base) ts in
-    let U : (i : ℕ) → Upheld (w .past i) = turns-upheld far (laid base) ts (λ i. unfold laid in started (base i)) in (
-      (λ l g. rw (whole far W w A Q U a good n i) (one far W w A Q U a rank C n k i l g lt)),
-      (λ h. rw (whole far W w A Q U a good n i) (none far W w A Q U a n k i h)),
-    )
+whole-tree far W base ts = whole-net far W (turns far (laid base) ts) (turns-bound far W (laid base) (laid-bound far W base) ts) (turns-upheld far (laid base) ts (λ i. unfold laid in started (base i)))
