@@ -35,7 +35,7 @@ lines i p =
 abbrev order : ℕ → Event → Turn
 order i e = does i (record { room = sentLimit; does = e })
 
-abbrev takesFrom : ℕ → ℕ → Turn
+abbrev pub takesFrom : ℕ → ℕ → Turn
 takesFrom i p = takes i p sentLimit
 
 -- The camera's feed A comes to the leaf of box 2 by way of box 0. Two packets are put in; the first arrives. Then the feed is moved to the line of box 1: box 2 withdraws its label from box 0.
@@ -96,7 +96,7 @@ unfoldable pub moved : Traffic
 moved = later (turns lines dawn morning)
 
 -- a name for all the definitions that the examples compute
-unfoldable shown : ℕ
+unfoldable pub shown : ℕ
 unfolding computing A B isAt lines morning noon number written listened dawn round later moved slipped atOnce allAtOnce early parcelsF parcels addressed sentBy refuses boxAt arriving anew isBox overLine answerTo isTaken liveAt acceptedAt thenStep isDown letters messages talk laid stepped copies copiesTo sent taken mayPass passed turn turns handed handedOf hands
 shown = 0
 
