@@ -2,7 +2,7 @@
 -- Assumes nothing.
 use Prim.Native.Nat.{ℕ, _<_}
 use native.Mathlib.Omega.{arith}
-use mathlib.Core.Path.{_≡_, refl, sym, ap, _∙_, subst}
+use mathlib.Core.Path.{_≡_, refl, sym, ap, ap₂, _∙_, subst}
 use mathlib.Core.Bool.{Bool, true, false, _&&_, _||_}
 use mathlib.Core.List.{List, [], _∷_, _++_}
 use lib.Dec.{eqb}
@@ -45,14 +45,14 @@ pub record Sure (far : Wires) (w : Traffic) : Type 0 where
 
 -- ---- a value anew
 
-anew-at {ℓ κ} : {X : Type ℓ} (P : ℕ → ℕ → X → Type κ) (k n : ℕ) (x : X) (f : ℕ → ℕ → X) (j q : ℕ) → P k n x → ((eqb j k && eqb q n) ≡ false → P j q (f j q)) → P j q (anew k n x f j q)
+pub anew-at {ℓ κ} : {X : Type ℓ} (P : ℕ → ℕ → X → Type κ) (k n : ℕ) (x : X) (f : ℕ → ℕ → X) (j q : ℕ) → P k n x → ((eqb j k && eqb q n) ≡ false → P j q (f j q)) → P j q (anew k n x f j q)
 unfolding anew
 anew-at P k n x f j q here there =
     picked (P j q) (eqb j k && eqb q n)
     (λ e. let at = both (eqb j k) (eqb q n) e in subst (λ (y : ℕ). P y q x) (sym (eqb-true j k (at .0))) (subst (λ (y : ℕ). P k y x) (sym (eqb-true q n (at .1))) here))
     there
 
-messages-anew : (k n : ℕ) (rest : List Item) (f : ℕ → ℕ → List Item) (i p : ℕ) → messages (anew k n rest f i p) ≡ anew k n (messages rest) (λ j q. messages (f j q)) i p
+pub messages-anew : (k n : ℕ) (rest : List Item) (f : ℕ → ℕ → List Item) (i p : ℕ) → messages (anew k n rest f i p) ≡ anew k n (messages rest) (λ j q. messages (f j q)) i p
 unfolding anew
 messages-anew k n rest f i p = by-test (eqb i k && eqb p n) (λ e. rw e refl) (λ e. rw e refl)
 
@@ -80,7 +80,7 @@ unfolding messages copies
 messages-copies a p [] = refl
 messages-copies a p (b ∷ bs) = by-test (eqb (b .neighbour) p) (λ e. rw e (messages-copies a p bs)) (λ e. rw e (messages-copies a p bs))
 
-messages-copies-to : (k : ℕ) (a : List ℕ) (bs : List Branch) (f : Far) → messages (copiesTo k a bs f) ≡ []
+pub messages-copies-to : (k : ℕ) (a : List ℕ) (bs : List Branch) (f : Far) → messages (copiesTo k a bs f) ≡ []
 unfolding messages copiesTo
 messages-copies-to k a bs nobody = refl
 messages-copies-to k a bs (box j q) = by-test (eqb j k) (λ e. rw e (messages-copies a q bs)) (λ e. rw e refl)
@@ -384,13 +384,18 @@ passes-sure far W w S i p n =
 
 -- ---- a line that is cut
 
-talk-stepped : (far : Wires) (w : Traffic) (k : ℕ) (s : Step) → talk (stepped far w k s (w .line) (w .refused)) ≡ Net.stepped far (talk w) k s (talk w .inbox) (talk w .refused)
+pub talk-steps : (far : Wires) (w : Traffic) (k : ℕ) (s : Step) (under : ℕ → ℕ → List Item) (inbox : ℕ → ℕ → List (List ℕ)) (refused : ℕ → ℕ → Bool) → ((i p : ℕ) → messages (under i p) ≡ inbox i p)
+    → talk (stepped far w k s under refused) ≡ Net.stepped far (talk w) k s inbox refused
 unfolding talk stepped Net.stepped
-talk-stepped far w k s = λ t. record {
+talk-steps far w k s under inbox refused e = λ t. record {
   past = λ x. pick (eqb x k) (thenStep (w .past k) s) (w .past x);
-  inbox = λ x p. (messages-append (w .line x p) (letters (arriving (talk w) k s (far x p))) ∙ ap (λ (ms : List (List ℕ)). messages (w .line x p) ++ ms) (messages-letters (arriving (talk w) k s (far x p)))) t;
-  refused = w .refused;
+  inbox = λ x p. (messages-append (under x p) (letters (arriving (talk w) k s (far x p))) ∙ ap₂ _++_ (e x p) (messages-letters (arriving (talk w) k s (far x p)))) t;
+  refused = refused;
 }
+
+talk-stepped : (far : Wires) (w : Traffic) (k : ℕ) (s : Step) → talk (stepped far w k s (w .line) (w .refused)) ≡ Net.stepped far (talk w) k s (talk w .inbox) (talk w .refused)
+unfolding talk
+talk-stepped far w k s = talk-steps far w k s (w .line) (talk w .inbox) (w .refused) (λ i p. unfold talk in refl)
 
 talk-parted : (far : Wires) (w : Traffic) (i p j q : ℕ) → talk (parted far w i p j q) ≡ Net.parted far (talk w) i p j q
 unfolding parted Net.parted

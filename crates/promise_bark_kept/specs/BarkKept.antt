@@ -7,7 +7,7 @@ use mathlib.Core.List.{List, [], _∷_, _++_}
 use lib.Dec.{eqb}
 use Rattle.meaning.specs.Octets.{pick}
 use Rattle.meaning.specs.Card.{Feed, lookupLabel}
-use Rattle.meaning.specs.Events.{receive, lost}
+use Rattle.meaning.specs.Events.{receive}
 use Rattle.card_lookups.specs.Feed.{feedIn}
 use Rattle.promise.specs.Promise.{leafBy, Step, Past, answerTo, isTaken, thenStep}
 use Rattle.promise.specs.Deeds.{thenDeed}
@@ -170,14 +170,12 @@ abbrev ByTurn : Wires → Plant → Plant → Type 0
 ByTurn far w v = (t : Bark.Turn) × (trafficOf v ≡ turn far (trafficOf w) t)
 
 module _ (far : Wires) (w : Plant) where
-  heard-turn : (i p : ℕ) (s : List ℕ) (rest : List Item) (k : Call) (ns os : List ℕ) → w .line i p ≡ letter s ∷ rest → stepOf k ≡ hearing (k .room) p s → (m : Called (w .at i .numbers) (w .at i .names) k ns os)
-      → ByTurn far w (called far w i (after (w .at i) k ns os) (k .part) (anew i p rest (w .line)) (anew i p (w .refused i p || not (eqb (k .answer) 0)) (w .refused)))
-  heard-turn i p s rest k ns os e h m = (
-    Bark.takes i p (k .room),
-    call-steps far w i k ns os m (anew i p rest (w .line)) _ _ (ap (λ (z : Bool). anew i p (w .refused i p || z) (w .refused)) (call-refuses far w i k ns os m p))
-        ∙ ap (λ (st : Step). Bark.stepped far (trafficOf w) i st (anew i p rest (w .line)) (anew i p (w .refused i p || refuses (boxAt (talk (trafficOf w)) i p) st) (w .refused))) h
-        ∙ unfold turn taken trafficOf in rw e refl,
-  )
+  pub heard-path : (i p : ℕ) (s : List ℕ) (rest : List Item) (k : Call) (ns os : List ℕ) → w .line i p ≡ letter s ∷ rest → stepOf k ≡ hearing (k .room) p s → (m : Called (w .at i .numbers) (w .at i .names) k ns os)
+      → trafficOf (called far w i (after (w .at i) k ns os) (k .part) (anew i p rest (w .line)) (anew i p (w .refused i p || not (eqb (k .answer) 0)) (w .refused))) ≡ turn far (trafficOf w) (Bark.takes i p (k .room))
+  heard-path i p s rest k ns os e h m =
+      call-steps far w i k ns os m (anew i p rest (w .line)) _ _ (ap (λ (z : Bool). anew i p (w .refused i p || z) (w .refused)) (call-refuses far w i k ns os m p))
+      ∙ ap (λ (st : Step). Bark.stepped far (trafficOf w) i st (anew i p rest (w .line)) (anew i p (w .refused i p || refuses (boxAt (talk (trafficOf w)) i p) st) (w .refused))) h
+      ∙ unfold turn taken trafficOf in rw e refl
 
   sent-turn : (i p : ℕ) (a : List ℕ) (l : ℕ) (rest : List Item) (branches : List ℕ) (leaf : Bool) → w .line i p ≡ packet a l ∷ rest → LookedUp (w .at i .numbers) l branches leaf → ByTurn far w (copied far w i a (feedIn branches leaf) (anew i p rest (w .line)))
   sent-turn i p a l rest branches leaf e m = (
@@ -232,7 +230,7 @@ module _ (far : Wires) (w : Plant) where
       anew-begun = unfold trafficOf cleared in ap begins second
 
   goes-turn : {v : Plant} → Goes far w v → ByTurn far w v
-  goes-turn (hears {k = k} {ns = ns} {os = os} i p s rest e h m) = heard-turn i p s rest k ns os e (λ z. record { room = k .room; does = h z }) m
+  goes-turn (hears {k = k} {ns = ns} {os = os} i p s rest e h m) = (Bark.takes i p (k .room), heard-path i p s rest k ns os e (λ z. record { room = k .room; does = h z }) m)
   goes-turn (sends {branches = branches} {leaf = leaf} i p a l rest e m) = sent-turn i p a l rest branches leaf e m
   goes-turn (does {k = k} {ns = ns} {os = os} i d m) = does-turn i k ns os d m
   goes-turn (tells {t = t} {ns = ns} i m) = (Bark.tells i (t .room) (t .neighbour) (t .number) (t .octets), told-steps far w i t ns m ∙ unfold turn in refl)
@@ -254,7 +252,7 @@ module _ (far : Wires) (W : Wired far) where
       path : trafficOf (record { at = λ i. record { done = []; numbers = ns i; names = os i }; line = λ i p. []; refused = λ i p. false }) ≡ Bark.laid base
       path = unfold trafficOf pastAt pastOf liveBy acceptedBy Bark.laid in λ t. record { past = λ i. record { card = began (h i) (os i) t; live = []; accepted = [] }; line = λ i p. []; refused = λ i p. false }
 
-  reached-sure : (base : ℕ → ℕ) {w : Plant} → Reached far base w → Sure far (trafficOf w)
+  pub reached-sure : (base : ℕ → ℕ) {w : Plant} → Reached far base w → Sure far (trafficOf w)
   reached-sure base (starts ns os h) = begun-sure base ns os h
   reached-sure base (turned {w = w} {v = v} r g) = then-sure w v (goes-turn far w g) (reached-sure base r)
 

@@ -4,12 +4,12 @@ use Prim.Native.Nat.{ℕ, suc, _+_, _*_, _≤_, _<_, zero-le}
 use native.Mathlib.Nat.{suc-mul}
 use native.Mathlib.Omega.{arith}
 use mathlib.Core.Path.{_≡_, refl, sym, ap, _∙_, subst}
-use mathlib.Core.Bool.{Bool, true, _||_}
+use mathlib.Core.Bool.{Bool, _||_}
 use mathlib.Core.List.{List, [], _∷_, _++_}
 use lib.ListN.{length}
 use lib.Dec.{eqb}
-use borrow.Author.Tests.{eqb-true, eq-eqb, ne-eqb}
-use Rattle.meaning.specs.Octets.{pick, count}
+use borrow.Author.Tests.{eqb-true}
+use Rattle.meaning.specs.Octets.{pick}
 use Rattle.meaning.specs.Lists.{by-test, picked}
 use Rattle.meaning.specs.Wire.{rootIn, elementRefusal, mapping, withdraw, Message, messageIn, Sent}
 use Rattle.meaning.specs.Card.{treeOf, routeOf}
@@ -18,7 +18,8 @@ use Rattle.promise.specs.Promise.{leafBy, routeBy, Step, Past, isTaken, accepte
 use Rattle.promise.specs.PromiseProof.{Upheld, then-upheld, started}
 use Rattle.promise_line.specs.Line.{refuses}
 use Rattle.promise_line.specs.Line
-use Rattle.promise_net.specs.Net.{Far, nobody, box, Wires, Wired, Net, boxAt, laid, arriving, stepped, anew, heard, overLine, losing, parted, severed, Turn, hears, does, cuts, turn, turns, Quiet, fed, via, joined, Way, here, up, Climbs}
+use Rattle.promise_net.specs.Net.{Far, nobody, box, Wires, Wired, Net, boxAt, laid, arriving, stepped, anew, heard, overLine, losing, parted, severed, Turn, hears, does, cuts, turn, turns, via, joined, Way, here, up, Climbs, Whole}
+use Rattle.promise_net.specs.NetProof.{anew-here, anew-box, anew-number}
 use Rattle.promise_net.specs.PacketProof.{whole-tree}
 use Rattle.promise_tick.specs.Tick.{Ear, hearing, hearings, Silent, some, delivered, Served, Rank, weight, weights, ahead, Within, EachName, Slopes, Unrefused, Reaches, DiesDown, SoftTick, ThenWhole, Under, OrderAdds}
 use Rattle.promise_tick.specs.Sums.{sums, sums-add, sums-eq, sums-has, sums-less}
@@ -143,18 +144,6 @@ step-adds far W rank n w i s inbox refused =
     let c : sums n (λ k p. weights rank k (arriving w i s (far k p))) ≤ cost far rank i (sends (w .past i .card) s) = arrives far W rank n i w s in
     omega arith
 
-anew-here {ℓ} : {X : Type ℓ} (i p : ℕ) (x : X) (f : ℕ → ℕ → X) → anew i p x f i p ≡ x
-unfolding anew
-anew-here i p x f = rw (eq-eqb i i refl, eq-eqb p p refl) refl
-
-anew-box {ℓ} : {X : Type ℓ} (i p : ℕ) (x : X) (f : ℕ → ℕ → X) (k n : ℕ) → (k ≡ i → ⊥) → anew i p x f k n ≡ f k n
-unfolding anew
-anew-box i p x f k n d = rw (ne-eqb k i d) refl
-
-anew-number {ℓ} : {X : Type ℓ} (i p : ℕ) (x : X) (f : ℕ → ℕ → X) (n : ℕ) → (n ≡ p → ⊥) → anew i p x f i n ≡ f i n
-unfolding anew
-anew-number i p x f n d = rw (eq-eqb i i refl, ne-eqb n p d) refl
-
 -- what is left on the lines when one message has been taken off
 taken-off : (rank : Rank) (n : ℕ) (w : Net) (i p : ℕ) (s : List ℕ) (rest : List (List ℕ)) → i < n → p < 16 → w .inbox i p ≡ s ∷ rest
     → sums n (λ k q. weights rank k (anew i p rest (w .inbox) k q)) + weight rank i (messageIn s) ≡ ahead rank n w
@@ -163,7 +152,7 @@ taken-off rank n w i p s rest h l u =
     sums-less n (λ k q. weights rank k (anew i p rest (w .inbox) k q)) (λ k q. weights rank k (w .inbox k q)) i p (weight rank i (messageIn s)) h l
     at-it
     (λ k q d. ap (weights rank k) (anew-box i p rest (w .inbox) k q d))
-    (λ q d. ap (weights rank i) (anew-number i p rest (w .inbox) q d))
+    (λ q d. ap (weights rank i) (anew-number i p rest (w .inbox) i q d))
   where
     at-it : weights rank i (anew i p rest (w .inbox) i p) + weight rank i (messageIn s) ≡ weights rank i (w .inbox i p)
     at-it = rw (anew-here i p rest (w .inbox), u) (unfold weights in omega arith)
@@ -301,7 +290,7 @@ module _ (far : Wires) (W : Wired far) (n : ℕ) (I : Within far n) (rank : Rank
           let a : some (s ∷ rest) + ahead rank n (turn far w (hearing e)) ≤ ahead rank n w = next-falls w R (e .at) (e .from) (e .room) (s ∷ rest) u in
           on (unfold some in omega arith)
 
-  ready-dies : (w : Net) → Ready far rank P w → DiesDown far n rank w
+  pub ready-dies : (w : Net) → Ready far rank P w → DiesDown far n rank w
   ready-dies w R = record { falls = λ es e d. fall (later w es) (later-ready w R es) e d (later w es .inbox (e .at) (e .from)) refl; most = later-most w R; ends = later-ends w R }
     where
       fall : (v : Net) → Ready far rank P v → (e : Ear) → (v .inbox (e .at) (e .from) ≡ [] → ⊥) → (xs : List (List ℕ)) → v .inbox (e .at) (e .from) ≡ xs → ahead rank n (turn far v (hearing e)) < ahead rank n v
@@ -335,11 +324,6 @@ way-alike {a = a} A (up {j = j} q p y e f) = up q p (way-alike A y) e (sym (A .r
 
 alike-flip : (v w : Net) → Alike v w → Alike w v
 alike-flip v w A = record { routes = λ a i. sym (A .routes a i); leaves = λ a i. sym (A .leaves a i) }
-
--- what `WholeTree` says of one net
-abbrev Whole : Wires → Net → Type 0
-Whole far v = Quiet far v → (a : List ℕ) → elementRefusal a ≡ 0 → (rank : ℕ → ℕ) → Climbs far v a rank → (n i k : ℕ) → rank k < n + rank i
-    → (joined v a k ≡ true → Way far v a k i → count (eqb k) (fed far v n i a) ≡ 1) × ((joined v a k ≡ true → Way far v a k i → ⊥) → count (eqb k) (fed far v n i a) ≡ 0)
 
 module _ (far : Wires) (W : Wired far) (n : ℕ) (I : Within far n) (base : ℕ → ℕ) (ts : List Turn) (rank : Rank) (S : Slopes far (turns far (laid base) ts) rank) where
   abbrev w₀ : Net
