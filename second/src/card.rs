@@ -362,7 +362,6 @@ impl Card {
         }
     }
 
-    #[cfg(test)]
     pub fn last_given(&self) -> Option<u32> {
         self.last_given
     }

@@ -159,7 +159,7 @@ const ROUND: &Recipe = &[
     (1, ended_route),
 ];
 
-const LOSSES: &Recipe = &[
+pub const LOSSES: &Recipe = &[
     (2, any_loss),
     (1, stranger_loss),
     (2, loss_of_nobody),

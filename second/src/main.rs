@@ -21,6 +21,7 @@ mod odd_lines;
 mod refusal;
 mod rng;
 mod round_cases;
+mod row_cards;
 mod rows;
 mod save;
 mod save_cases;

@@ -1,11 +1,13 @@
-//! A made day as rows of a table in a proof language.
+//! A made day as rows of a table in a proof language, each with the whole card
+//! that the event leaves.
 
 use crate::bench::{self, Order, WHOLE_BUFFER};
 use crate::card::{Card, Found};
-use crate::days::{room_near, spoil, HELD, MOVES, ORDINARY};
+use crate::days::{room_near, spoil, HELD, LOSSES, MOVES, ORDINARY};
 use crate::events::{any_neighbour, block_label, choose, Scene};
 use crate::refusal::Refusal;
 use crate::rng::Rng;
+use crate::row_cards::{card_text, Words};
 use crate::world::{World, FEW_LONG};
 
 /// None where the base is refused. With a number of free labels, the day is
@@ -18,6 +20,7 @@ pub fn make(base: u32, seed: u64, count: usize, free: Option<usize>) -> Option<V
     }
     let mut rng = Rng::new(seed);
     let world = World::new(&mut rng, 6, (8, 4), FEW_LONG);
+    let mut words = Words::new();
     let mut rows = Vec::new();
     while rows.len() < count {
         let event = next_event(&mut rng, &card, &world, rows.len());
@@ -25,15 +28,21 @@ pub fn make(base: u32, seed: u64, count: usize, free: Option<usize>) -> Option<V
             continue;
         }
         let room = next_room(&mut rng, &card, &event, rows.len());
-        rows.push(row(&mut rng, &mut card, &world, &event, room, rows.len()));
+        let row = row(&mut rng, &mut card, &world, &event, room);
+        let left = card_text(&card, &mut words);
+        rows.push(format!("    leaves ({row}) ({left}) ∷"));
     }
-    Some(rows)
+    let mut lines = words.lines();
+    lines.extend(["unfoldable pub day : List Whole", "day ="].map(String::from));
+    lines.append(&mut rows);
+    lines.push("    []".to_string());
+    Some(lines)
 }
 
 pub fn is_event(order: &Order) -> bool {
     matches!(
         order,
-        Order::Take(..) | Order::Join(_) | Order::Leave(_) | Order::Route(..)
+        Order::Take(..) | Order::Join(_) | Order::Leave(_) | Order::Route(..) | Order::Lost(_)
     )
 }
 
@@ -45,6 +54,7 @@ fn next_event(rng: &mut Rng, card: &Card, world: &World, place: usize) -> Order 
     let recipe = match rng.below(10) {
         0..=2 => MOVES,
         3..=5 => HELD,
+        6 if rng.percent(40) => LOSSES,
         _ => ORDINARY,
     };
     let event = choose(recipe, &mut Scene { rng, card, world });
@@ -64,27 +74,19 @@ fn next_room(rng: &mut Rng, card: &Card, event: &Order, place: usize) -> usize {
     (room_near(rng, needed) as usize).min(WHOLE_BUFFER)
 }
 
-fn row(
-    rng: &mut Rng,
-    card: &mut Card,
-    world: &World,
-    event: &Order,
-    room: usize,
-    place: usize,
-) -> String {
+fn row(rng: &mut Rng, card: &mut Card, world: &World, event: &Order, room: usize) -> String {
     let answer = bench::event_answer(card, event, room);
     let asked = block_label(&mut Scene { rng, card, world });
-    let begin = if place == 0 { "anew" } else { "then" };
     let facts = format!(
-        "{begin} ({}) {} {asked} ({})",
+        "then ({}) {} {asked} ({})",
         event_text(event),
         outcome_text(&answer, card.free_labels()),
         list(&gives(card.find_label(asked))),
     );
     if room == WHOLE_BUFFER {
-        format!("    {facts} ∷")
+        facts
     } else {
-        format!("    inRoom {room} ({facts}) ∷")
+        format!("inRoom {room} ({facts})")
     }
 }
 
@@ -94,6 +96,7 @@ pub fn event_text(event: &Order) -> String {
         Order::Join(octets) => format!("join ({})", list(octets)),
         Order::Leave(octets) => format!("leave ({})", list(octets)),
         Order::Route(root, route) => format!("route ({}) {route}", list(root)),
+        Order::Lost(neighbour) => format!("lost {neighbour}"),
         other => unreachable!("{other:?} is no event"),
     }
 }
@@ -126,25 +129,33 @@ pub fn list<T: ToString>(numbers: &[T]) -> String {
 mod tests {
     use super::*;
 
+    /// The rows, without what the words stand for.
+    fn rows(base: u32, seed: u64, count: usize, free: Option<usize>) -> Vec<String> {
+        let lines = make(base, seed, count, free).expect("it is a base");
+        let rows = lines.iter().filter(|line| line.starts_with("    leaves ("));
+        rows.cloned().collect()
+    }
+
     #[test]
     fn rows_have_their_form() {
-        let rows = make(16, 1, 300, None).expect("16 is a base");
+        let rows = rows(16, 1, 300, None);
         assert_eq!(rows.len(), 300);
-        assert!(rows[0].starts_with("    anew (route ("));
-        assert!(rows[1..]
+        assert!(rows[0].starts_with("    leaves (then (route ("));
+        assert!(rows
             .iter()
-            .all(|row| row.starts_with("    then (") || row.starts_with("    inRoom ")));
-        assert!(rows.iter().all(|row| row.ends_with(") ∷")));
+            .all(|row| row.contains("(then (") || row.contains("(inRoom ")));
+        assert!(rows.iter().all(|row| row.ends_with(")) ∷")));
         assert!(rows.iter().any(|row| row.contains("inRoom 0 (then (")));
+        assert!(rows.iter().any(|row| row.contains("(then (lost ")));
     }
 
     #[test]
     fn first_row_in_full() {
-        let rows = make(16, 7, 1, None).expect("16 is a base");
-        let words: Vec<&str> = rows[0].split_whitespace().collect();
-        assert_eq!(words[..2], ["anew", "(route"]);
+        let rows = rows(16, 7, 1, None);
+        assert!(rows[0].starts_with("    leaves (then (route"));
         assert!(rows[0].contains(") 0 ([]) 256 "));
-        assert!(rows[0].ends_with(" ([]) ∷"));
+        assert!(rows[0].contains(" ([])) (card 16 1 0 (by t0 "));
+        assert!(rows[0].ends_with(" ∷ []) ([]) (replicate 256 (free))) ∷"));
     }
 
     #[test]
@@ -155,7 +166,7 @@ mod tests {
 
     #[test]
     fn few_labels_run_short() {
-        let rows = make(16, 5, 80, Some(6)).expect("16 is a base");
+        let rows = rows(16, 9, 80, Some(6));
         assert!(rows[0].contains(") 0 ([]) 6 "));
         assert!(rows.iter().any(|row| row.contains(") 12 ([]) ")));
     }

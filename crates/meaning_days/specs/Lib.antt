@@ -1,3 +1,4 @@
+pub mod Cards
 pub mod Ebb
 pub mod Flood
 pub mod Neap
