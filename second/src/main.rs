@@ -17,6 +17,7 @@ mod lost_cases;
 mod lost_events;
 mod notice;
 mod notice_records;
+mod notice_rows;
 mod odd_lines;
 mod refusal;
 mod rng;
@@ -41,6 +42,7 @@ const USAGE: &str = "usage: second run [FILE]
        second stdin
        second rows BASE SEED LINES [FREE]
        second save-rows BASE SEED SAVES
+       second notice-rows SEED RECORDS
        second refusals FILE
        second notices FILE
        second notice-records SEED COUNT
@@ -101,6 +103,10 @@ fn obey(words: &[&str], output: &mut impl Write) -> io::Result<Option<ExitCode>>
         ["read-notices", file] => notice_records::in_lines(open(file)?)?,
         ["notice-records", seed, count] => match (seed.parse(), count.parse()) {
             (Ok(seed), Ok(count)) => notice_records::make(seed, count),
+            _ => return Ok(None),
+        },
+        ["notice-rows", seed, count] => match (seed.parse(), count.parse()) {
+            (Ok(seed), Ok(count)) => notice_rows::make(seed, count),
             _ => return Ok(None),
         },
         ["day", kind, seed, count] => return write_day(kind, seed, count, output),

@@ -11,11 +11,17 @@ use std::io::{self, BufRead};
 const NUMBERS: usize = 24;
 const LONGEST_REFUSED: usize = 12;
 
-/// Made records, of which two in three are damaged.
+/// Made records in hex, a line each.
 pub fn make(seed: u64, count: usize) -> Vec<String> {
+    let hex = |octets: &Vec<u8>| bench::hex_word(octets);
+    records(seed, count).iter().map(hex).collect()
+}
+
+/// Made records, of which two in three are damaged.
+pub fn records(seed: u64, count: usize) -> Vec<Vec<u8>> {
     let mut rng = Rng::new(seed);
-    let mut lines = Vec::new();
-    while lines.len() < count {
+    let mut records = Vec::new();
+    while records.len() < count {
         let Some(notice) = any_notice(&mut rng) else {
             continue;
         };
@@ -23,9 +29,9 @@ pub fn make(seed: u64, count: usize) -> Vec<String> {
         if !rng.percent(33) {
             damage(&mut rng, &mut octets);
         }
-        lines.push(bench::hex_word(&octets));
+        records.push(octets);
     }
-    lines
+    records
 }
 
 fn any_notice(rng: &mut Rng) -> Option<Notice> {

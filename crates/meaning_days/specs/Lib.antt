@@ -6,3 +6,4 @@ pub mod Spring
 pub mod Drought
 pub mod Trickle
 pub mod Swap
+pub mod Notices
