@@ -189,6 +189,15 @@ class Library(unittest.TestCase):
             self.assertEqual(ran.returncode, 0, ran.stdout + ran.stderr)
             self.assertEqual(ran.stdout.split("\n")[-2], "as the paper has it")
 
+    def test_net(self):
+        with tempfile.TemporaryDirectory() as folder:
+            ran = self.make("net", f"build={folder}")
+            self.assertEqual(ran.returncode, 0, ran.stdout + ran.stderr)
+            card, slip = (re.fullmatch(r"1000000 turns, (\d+) packets handed to leaves, (\d+) barks", line).groups() for line in ran.stdout.splitlines())
+            self.assertGreater(int(card[0]), 10000)
+            self.assertEqual(int(card[1]), 0)
+            self.assertGreater(int(slip[1]), 0, "the planted slip is not heard")
+
     @made.needs("g++", "card.h is not read as C++")
     def test_header_as_c_plus_plus(self):
         words = ["g++", "-x", "c++", "-std=c++17", "-Wall", "-Wextra", "-Werror", "-fsyntax-only", made.ROOT / "include/card.h"]
