@@ -137,12 +137,12 @@ module _ (c : Card) (gs : List Given) (S : Sound c gs) (R : Ruled c) (a : List �
       (λ e. rw (e, rest-need) (rw (le-ltb (freeLabels c) 0 zero-le) refl))
       (λ e. rw (e, rest-need, named-so, not-empty-stands c a (rest-was e)) (rw (le-ltb (freeLabels c) 0 zero-le) refl))
 
+pub less-fits : (c : Card) (gs : List Given) → Sound c gs → Ruled c → (n : ℕ) (a : List ℕ) (l : ℕ) → treeRefusal c (lessBranch n l (treeOf a c)) ≡ 0
+less-fits c gs S R n a l = rest-fits c gs S R a (lessBranch n l (treeOf a c)) (less-name n l (treeOf a c) ∙ tree-name a c) (less-label n l (treeOf a c)) (less-empty n l (treeOf a c)) (λ u. less-leads n l u (treeOf a c))
+
 -- After any history neither 11 nor 12 applies to a Withdraw.
 pub withdraw-fits : (base : ℕ) (steps : List Step) (n : ℕ) (a : List ℕ) (l : ℕ) → treeRefusal (history base steps .card) (lessBranch n l (treeOf a (history base steps .card))) ≡ 0
-withdraw-fits base steps n a l =
-    let c = history base steps .card in
-    let u = history-upheld base steps in
-    rest-fits c _ (u .sound) (u .ruled) a (lessBranch n l (treeOf a c)) (less-name n l (treeOf a c) ∙ tree-name a c) (less-label n l (treeOf a c)) (less-empty n l (treeOf a c)) (λ u. less-leads n l u (treeOf a c))
+withdraw-fits base steps n a l = let u = history-upheld base steps in less-fits (history base steps .card) _ (u .sound) (u .ruled) n a l
 
 -- Nor to a leave.
 pub leave-fits : (base : ℕ) (steps : List Step) (e : List ℕ) → treeRefusal (history base steps .card) (withLeaf false (treeOf e (history base steps .card))) ≡ 0

@@ -6,3 +6,4 @@ pub mod Steps
 pub mod Notices
 pub mod LineProof
 pub mod LineExample
+pub mod LineRefusals
