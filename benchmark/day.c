@@ -1,5 +1,7 @@
 #include "day.h"
 
+#include "card.h"
+
 #include <stdbool.h>
 #include <stdio.h>
 #include <stdlib.h>
@@ -15,12 +17,13 @@ struct word {
 struct form {
     const char *word;
     enum order_kind kind;
-    const char *takes;      /* n: a number, h: hex */
+    const char *takes;      /* n: a number, h: hex, s: hex of a save */
 };
 
 static const struct form forms[] = {
     {"start", START, "n"}, {"room", ROOM, "n"},    {"take", TAKE, "nh"}, {"join", JOIN, "h"}, {"leave", LEAVE, "h"},
     {"route", ROUTE, "hn"}, {"lost", LOST, "n"},   {"label", LABEL, "n"}, {"tree", TREE, "h"},  {"free", FREE, ""},
+    {"save", SAVE, ""},     {"restore", RESTORE, "s"},
 };
 
 enum { FORMS = sizeof forms / sizeof forms[0] };
@@ -84,13 +87,13 @@ static int hex_digit(uint8_t c)
 }
 
 /* The octets take the place of their digits. */
-static bool read_hex(struct word w, struct order *o)
+static bool read_hex(struct word w, size_t longest, struct order *o)
 {
     o->octets = w.at;
     o->length = w.length / 2;
     if (w.length == 1 && w.at[0] == '-')
         return true;
-    if (w.length % 2 != 0 || o->length > LONGEST_HEX)
+    if (w.length % 2 != 0 || o->length > longest)
         return false;
     for (size_t i = 0; i < o->length; i++) {
         int high = hex_digit(w.at[2 * i]), low = hex_digit(w.at[2 * i + 1]);
@@ -118,6 +121,13 @@ static size_t split(uint8_t *line, size_t length, struct word *words)
     return count;
 }
 
+static bool read_word(struct word w, char form, struct order *o)
+{
+    if (form == 'n')
+        return read_number(w, &o->number);
+    return read_hex(w, form == 's' ? CARD_SAVE_MOST : LONGEST_HEX, o);
+}
+
 static bool read_order(const struct word *words, size_t count, struct order *o)
 {
     for (size_t i = 0; i < FORMS; i++) {
@@ -127,7 +137,7 @@ static bool read_order(const struct word *words, size_t count, struct order *o)
         if (count != 1 + strlen(f->takes))
             return false;
         for (size_t k = 0; k + 1 < count; k++)
-            if (!(f->takes[k] == 'n' ? read_number(words[k + 1], &o->number) : read_hex(words[k + 1], o)))
+            if (!read_word(words[k + 1], f->takes[k], o))
                 return false;
         o->kind = f->kind;
         return true;

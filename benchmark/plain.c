@@ -734,3 +734,311 @@ uint32_t plain_free_labels(const uint64_t *numbers)
 {
     return (uint32_t)count_free((const struct table *)numbers);
 }
+
+/* ---- the save and the way back */
+
+enum { HEAD_KIND = 1, ROUTE_KIND, TREE_KIND, LABEL_KIND };
+
+enum {
+    SAVE_HEAD = 15,
+    SAVE_ROUTE = 21,
+    SAVE_TREE = 118,
+    SAVE_LABEL = 59,
+    ROOT_SPACE = 16,
+    VALUE_SPACE = 32,
+    NAME_SPACE = 1 + ROOT_SPACE + 1 + VALUE_SPACE,
+    SHORT_NAME = 6 + ROOT_SPACE + VALUE_SPACE
+};
+
+/* In a label's record. */
+enum { STATE_MAPPED = 1, STATE_AWAITING = 2 };
+
+static uint8_t *put_kind(uint8_t *s, uint8_t kind)
+{
+    s[0] = 0x4C;
+    s[1] = 0x53;
+    s[2] = kind;
+    return s + 3;
+}
+
+static bool has_kind(const uint8_t *s, uint8_t kind)
+{
+    return s[0] == 0x4C && s[1] == 0x53 && s[2] == kind;
+}
+
+static struct text value_of(struct text name)
+{
+    size_t head = 6 + (size_t)name.octets[3];
+    return (struct text){name.octets + head, name.length - head};
+}
+
+static void put_root(uint8_t *s, struct text root)
+{
+    s[0] = (uint8_t)root.length;
+    memset(s + 1, 0, ROOT_SPACE);
+    memcpy(s + 1, root.octets, root.length);
+}
+
+static void put_name(uint8_t *s, struct text name)
+{
+    struct text value = value_of(name);
+    put_root(s, root_of(name));
+    s += 1 + ROOT_SPACE;
+    s[0] = (uint8_t)value.length;
+    memset(s + 1, 0, VALUE_SPACE);
+    memcpy(s + 1, value.octets, value.length);
+}
+
+static size_t save_size(size_t routes, size_t trees, size_t labels)
+{
+    return SAVE_HEAD + routes * SAVE_ROUTE + trees * SAVE_TREE + labels * SAVE_LABEL;
+}
+
+static bool is_short(const uint8_t *slot)
+{
+    return value_of(kept(slot)).length <= VALUE_SPACE;
+}
+
+/* Whether every name, a tree's or one that a label in use remembers, has a value that its space takes. */
+static bool fits_save(const struct table *t, const struct texts *x)
+{
+    for (uint64_t left = t->used_slots; left != 0; left &= left - 1)
+        if (!is_short(x->tree[__builtin_ctzll(left)]))
+            return false;
+    for (size_t w = 0; w < CARD_LABELS / 64; w++)
+        for (uint64_t left = ~t->free_labels[w]; left != 0; left &= left - 1)
+            if (!is_short(x->label[w * 64 + (size_t)__builtin_ctzll(left)]))
+                return false;
+    return true;
+}
+
+static uint8_t *save_route(uint8_t *s, uint64_t via, const uint8_t *root)
+{
+    uint8_t *at = put_kind(s, ROUTE_KIND);
+    at[0] = (uint8_t)via;
+    put_root(at + 1, kept(root));
+    return s + SAVE_ROUTE;
+}
+
+static uint8_t *save_tree(uint8_t *s, const struct table *t, const struct texts *x, size_t slot)
+{
+    uint8_t *at = put_kind(s, TREE_KIND);
+    put_name(at, kept(x->tree[slot]));
+    at += NAME_SPACE;
+    *at++ = is_leaf(t, slot);
+    for (size_t n = 0; n < CARD_NEIGHBOURS; n++)
+        put_four(at + 4 * n, (uint32_t)t->branches[slot][n]);
+    return s + SAVE_TREE;
+}
+
+static uint8_t *save_label(uint8_t *s, const struct table *t, const struct texts *x, size_t p)
+{
+    uint8_t *at = put_kind(s, LABEL_KIND);
+    uint32_t use = (uint32_t)(t->mark[p] & MARK);
+    bool awaits = use >= AWAITING;
+    put_four(at, (uint32_t)(t->base + p));
+    at[4] = awaits ? STATE_AWAITING : STATE_MAPPED;
+    at[5] = (uint8_t)(use - (awaits ? AWAITING : MAPPED));
+    put_name(at + 6, kept(x->label[p]));
+    return s + SAVE_LABEL;
+}
+
+static uint8_t *save_head(uint8_t *s, const struct table *t, size_t labels)
+{
+    uint8_t *at = put_kind(s, HEAD_KIND);
+    put_four(at, (uint32_t)t->base);
+    put_four(at + 4, (uint32_t)t->next_id);
+    at[8] = (uint8_t)t->route_count;
+    at[9] = (uint8_t)t->tree_count;
+    put_two(at + 10, (uint32_t)labels);
+    return s + SAVE_HEAD;
+}
+
+static void write_save(uint8_t *s, const struct table *t, const struct texts *x, size_t labels)
+{
+    const uint8_t *order = (const uint8_t *)t->order;
+    s = save_head(s, t, labels);
+    for (size_t i = 0; i < t->route_count; i++)
+        s = save_route(s, t->via[i], x->root[i]);
+    for (size_t i = 0; i < t->tree_count; i++)
+        s = save_tree(s, t, x, order[i]);
+    for (size_t w = 0; w < CARD_LABELS / 64; w++)
+        for (uint64_t left = ~t->free_labels[w]; left != 0; left &= left - 1)
+            s = save_label(s, t, x, w * 64 + (size_t)__builtin_ctzll(left));
+}
+
+size_t plain_save(const uint64_t *numbers, const uint8_t *names, uint8_t *out, size_t out_length, uint32_t *answer)
+{
+    const struct table *t = (const struct table *)numbers;
+    const struct texts *x = (const struct texts *)names;
+    size_t labels = CARD_LABELS - count_free(t);
+    size_t size = save_size(t->route_count, t->tree_count, labels);
+    if (!fits_save(t, x))
+        *answer = CARD_BAD_SAVE;
+    else if (out_length < size)
+        *answer = CARD_NO_ROOM;
+    else {
+        write_save(out, t, x, labels);
+        *answer = CARD_ACCEPTED;
+        return size;
+    }
+    return 0;
+}
+
+/* A root from its space: 4 octets with zeros behind, or 16. */
+static bool read_root(const uint8_t *s, struct text *root)
+{
+    static const uint8_t zeros[ROOT_SPACE - 4];
+    *root = (struct text){s + 1, s[0]};
+    return s[0] == ROOT_SPACE || (s[0] == 4 && memcmp(s + 5, zeros, sizeof zeros) == 0);
+}
+
+/* A name from its space, laid out as an element. */
+static bool read_name(const uint8_t *s, uint8_t *element, struct text *name)
+{
+    static const uint8_t zeros[VALUE_SPACE];
+    struct text root, value = {s + 2 + ROOT_SPACE, s[1 + ROOT_SPACE]};
+    if (!read_root(s, &root) || value.length == 0 || value.length > VALUE_SPACE)
+        return false;
+    if (memcmp(value.octets + value.length, zeros, VALUE_SPACE - value.length) != 0 || !is_filled(value))
+        return false;
+    element[0] = 6;
+    put_two(element + 1, root.length == 4 ? 1 : 2);
+    element[3] = (uint8_t)root.length;
+    memcpy(element + 4, root.octets, root.length);
+    put_two(element + 4 + root.length, (uint32_t)value.length);
+    memcpy(element + 6 + root.length, value.octets, value.length);
+    *name = (struct text){element, 6 + root.length + value.length};
+    return true;
+}
+
+static bool read_route(struct card c, const uint8_t *s)
+{
+    struct text root;
+    size_t i = c.table->route_count;
+    if (!has_kind(s, ROUTE_KIND) || s[3] > CARD_THIS_NODE || !read_root(s + 4, &root) || find_route(c, root) != i)
+        return false;
+    set_route(c, i, root, s[3]);
+    return true;
+}
+
+static bool read_branches(const uint8_t *s, uint64_t *branches)
+{
+    bool taken = true;
+    for (size_t n = 0; n < CARD_NEIGHBOURS; n++) {
+        uint32_t label = four_at(s + 4 * n);
+        taken &= label == 0 || (label >= CARD_LABEL_LEAST && label <= CARD_LABEL_MOST);
+        branches[n] = label;
+    }
+    return taken;
+}
+
+static bool read_tree(struct card c, const uint8_t *s)
+{
+    uint8_t element[SHORT_NAME];
+    struct text name;
+    const uint8_t *leaf = s + 3 + NAME_SPACE;
+    if (!has_kind(s, TREE_KIND) || *leaf > 1 || !read_name(s + 3, element, &name))
+        return false;
+    if (find_tree(c.table, c.texts, name) != CARD_TREES)
+        return false;
+    size_t slot = enter_tree(c, name, route_of(c, root_of(name)));
+    c.table->leaves |= (uint64_t)*leaf << slot;
+    return read_branches(leaf + 1, c.table->branches[slot]) && !is_bare(c.table, slot);
+}
+
+/* A label's mark: a mapped one is its tree's, which has none yet. */
+static bool read_use(struct card c, size_t p, const uint8_t *s, struct text name)
+{
+    struct table *t = c.table;
+    uint32_t neighbour = s[1];
+    if (neighbour >= CARD_NEIGHBOURS || (s[0] != STATE_MAPPED && s[0] != STATE_AWAITING))
+        return false;
+    if (s[0] == STATE_AWAITING) {
+        t->mark[p] = AWAITING + neighbour;
+        return true;
+    }
+    size_t slot = find_tree(t, c.texts, name);
+    if (slot == CARD_TREES || t->own_label[slot] != NO_LABEL || t->route[slot] != neighbour)
+        return false;
+    t->mark[p] = (MAPPED + neighbour) | slot << SLOT_SHIFT;
+    t->own_label[slot] = p;
+    return true;
+}
+
+/* Labels rise, so one at or above the turn is new. The turn is the last label's: what was given last is not saved. */
+static bool read_label(struct card c, const uint8_t *s, uint64_t *turn)
+{
+    uint8_t element[SHORT_NAME];
+    struct text name;
+    uint64_t p = four_at(s + 3) - c.table->base;
+    if (!has_kind(s, LABEL_KIND) || p < *turn || p >= CARD_LABELS || !read_name(s + 9, element, &name))
+        return false;
+    if (!read_use(c, p, s + 7, name))
+        return false;
+    c.table->free_labels[p / 64] &= ~(1ull << p % 64);
+    keep(c.texts->label[p], name);
+    *turn = p + 1;
+    return true;
+}
+
+/* Each tree that needs a label has one. Whether it is the right neighbour's was asked when it was read. */
+static bool labels_are_due(const struct table *t)
+{
+    for (uint64_t left = t->used_slots; left != 0; left &= left - 1) {
+        size_t slot = (size_t)__builtin_ctzll(left);
+        if ((t->own_label[slot] != NO_LABEL) != needs_label(t, slot, t->route[slot]))
+            return false;
+    }
+    return true;
+}
+
+struct counts {
+    size_t routes, trees, labels;
+};
+
+static bool read_head(struct card c, const uint8_t *s, size_t length, struct counts *n)
+{
+    if (length < SAVE_HEAD || !has_kind(s, HEAD_KIND))
+        return false;
+    *n = (struct counts){s[11], s[12], two_at(s + 13)};
+    if (n->routes > CARD_ROOTS || n->trees > CARD_TREES || n->labels > CARD_LABELS)
+        return false;
+    if (length != save_size(n->routes, n->trees, n->labels))
+        return false;
+    if (plain_start((uint64_t *)c.table, four_at(s + 3)) != CARD_ACCEPTED)
+        return false;
+    c.table->next_id = four_at(s + 7);
+    return true;
+}
+
+static bool read_save(struct card c, const uint8_t *s, size_t length)
+{
+    struct counts n;
+    uint64_t turn = 0;
+    if (!read_head(c, s, length, &n))
+        return false;
+    s += SAVE_HEAD;
+    for (size_t i = 0; i < n.routes; i++, s += SAVE_ROUTE)
+        if (!read_route(c, s))
+            return false;
+    for (size_t i = 0; i < n.trees; i++, s += SAVE_TREE)
+        if (!read_tree(c, s))
+            return false;
+    for (size_t i = 0; i < n.labels; i++, s += SAVE_LABEL)
+        if (!read_label(c, s, &turn))
+            return false;
+    c.table->turn = turn % CARD_LABELS;
+    return labels_are_due(c.table);
+}
+
+uint32_t plain_restore(uint64_t *numbers, uint8_t *names, const uint8_t *octets, size_t octets_length,
+                       uint64_t *spare_numbers, uint8_t *spare_names, uint8_t *spare_save)
+{
+    (void)spare_save;
+    if (!read_save(card_in(spare_numbers, spare_names), octets, octets_length))
+        return CARD_BAD_SAVE;
+    memcpy(numbers, spare_numbers, sizeof(struct table));
+    memcpy(names, spare_names, sizeof(struct texts));
+    return CARD_ACCEPTED;
+}

@@ -19,5 +19,8 @@ bool plain_lookup_label(const uint64_t *numbers, uint32_t label, uint64_t *branc
 bool plain_lookup_name(const uint64_t *numbers, const uint8_t *names, const uint8_t *element, size_t element_length,
                        uint64_t *branches);
 uint32_t plain_free_labels(const uint64_t *numbers);
+size_t plain_save(const uint64_t *numbers, const uint8_t *names, uint8_t *out, size_t out_length, uint32_t *answer);
+uint32_t plain_restore(uint64_t *numbers, uint8_t *names, const uint8_t *octets, size_t octets_length,
+                       uint64_t *spare_numbers, uint8_t *spare_names, uint8_t *spare_save);
 
 #endif

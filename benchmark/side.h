@@ -16,6 +16,8 @@ struct side {
     bool (*lookup_label)(const uint64_t *, uint32_t, uint64_t *);
     bool (*lookup_name)(const uint64_t *, const uint8_t *, const uint8_t *, size_t, uint64_t *);
     uint32_t (*free_labels)(const uint64_t *);
+    size_t (*save)(const uint64_t *, const uint8_t *, uint8_t *, size_t, uint32_t *);
+    uint32_t (*restore)(uint64_t *, uint8_t *, const uint8_t *, size_t, uint64_t *, uint8_t *, uint8_t *);
 };
 
 extern const struct side proved, plain;
@@ -25,12 +27,15 @@ struct bench {
     const struct side *side;
     uint64_t numbers[CARD_NUMBERS];
     uint8_t names[CARD_NAMES];
-    uint8_t out[CARD_OUT_MOST];
+    uint8_t out[CARD_SAVE_MOST]; /* of which an event is lent CARD_OUT_MOST */
     size_t room;
     uint32_t answer;
     size_t written;
     bool leaf;
     uint64_t branches[CARD_NEIGHBOURS];
+    uint64_t spare_numbers[CARD_NUMBERS];
+    uint8_t spare_names[CARD_NAMES];
+    uint8_t spare_save[CARD_SAVE_MOST];
 };
 
 void open_bench(struct bench *b, const struct side *side);

@@ -1,0 +1,206 @@
+#!/usr/bin/env python3
+"""Counts the instructions of both cards and prints the tables of docs/BENCHMARK.md.
+
+  count.py [--emulator QEMU] [--nm NM] PROGRAM DAY OBJECT..
+
+PROGRAM is count.c, linked. It calls `work_begins` and `work_ends` around each piece of work: what lies between is counted,
+and nothing of the start or of the preparation. Counted are the instructions of the cards' functions, which OBJECT..
+(plain.o and the archives) define, and of memcpy and its kin, which they call; not those of the program that gives the
+orders.
+
+With --emulator PROGRAM runs under that qemu-x86_64, which logs each instruction's address. Without, it runs under
+valgrind's callgrind.
+"""
+
+import argparse
+import bisect
+import collections
+import itertools
+import os
+import re
+import subprocess
+import sys
+import tempfile
+
+SIDES = ("proved", "plain")
+PROFILED = ("an event of an ordinary day", "a route order that moves 64 trees", "a loss that ends 64 branches")
+DEAREST = 10
+BEGINS, ENDS = "work_begins", "work_ends"
+# memcpy and its kin, in each of the forms from which the C library chooses when a program starts
+MEMORY = re.compile(r"_*(mem(cpy|move|set|cmp|chr)|mempcpy)(_.*)?$")
+# no `rep movsb`, of which the emulator logs each round
+CPU = "max,-erms,-fsrm"
+
+
+def run_text(*words):
+    return subprocess.run(words, check=True, capture_output=True, text=True).stdout
+
+
+class Symbols:
+    """Where the functions of a program lie."""
+
+    def __init__(self, nm, program, objects):
+        wanted = {words[-1] for words in map(str.split, run_text(nm, *objects).splitlines())
+                  if len(words) >= 3 and words[-2] in "tTwW"}
+        self.at = {}
+        sized = []
+        for line in run_text(nm, "-S", program).splitlines():
+            words = line.split(None, 3)
+            if len(words) == 4 and words[2] in "tTwWiI":
+                sized.append((int(words[0], 16), int(words[1], 16), words[3]))
+        for start, size, name in sized:
+            if name in (BEGINS, ENDS) or name in wanted or MEMORY.match(name):
+                self.at[start] = (size, name)
+        self.starts = sorted(self.at)
+
+    def ranges(self):
+        return ",".join(f"{start:#x}+{max(self.at[start][0], 1):#x}" for start in self.starts)
+
+    def trace_of(self, name):
+        """What a line of the log has where that function is entered."""
+        return b"/%016x/" % next(start for start, (_, held) in self.at.items() if held == name)
+
+    def name(self, address):
+        return self.at[self.starts[bisect.bisect_right(self.starts, address) - 1]][1]
+
+
+def address_of(line):
+    """Of a line `Trace 0: 0x.. [cs/address/flags/..] function`."""
+    return int(line.split(b"/", 2)[1], 16)
+
+
+def parts_of(log, begins, ends):
+    """How often each line stands in each piece of work."""
+    parts = []
+    for line in log:
+        if begins in line:
+            parts.append(collections.Counter(itertools.takewhile(lambda line: ends not in line, log)))
+    return parts
+
+
+def emulated(args, side):
+    """For each piece of work, the instructions of each function."""
+    symbols = Symbols(args.nm, args.program, args.objects)
+    with tempfile.TemporaryDirectory() as folder:
+        log = os.path.join(folder, "log")
+        os.mkfifo(log)
+        words = [args.emulator, "-cpu", CPU, "-one-insn-per-tb", "-d", "nochain,exec", "-dfilter", symbols.ranges(),
+                 "-D", log, args.program, side, args.day]
+        with subprocess.Popen(words, stdout=subprocess.PIPE, text=True) as running:
+            with open(log, "rb") as lines:
+                parts = parts_of(lines, symbols.trace_of(BEGINS), symbols.trace_of(ENDS))
+            said = running.stdout.read()
+    if running.returncode != 0:
+        sys.exit(said or f"{args.program} ended with {running.returncode}")
+    return said, [by_function(symbols, part) for part in parts]
+
+
+def by_function(symbols, lines):
+    functions = collections.Counter()
+    for line, times in lines.items():
+        name = symbols.name(address_of(line))
+        functions[name] += 0 if name == BEGINS else times
+    return functions
+
+
+def read_callgrind(file):
+    """The instructions of each function, where the part ends a piece of work."""
+    functions, current, skip, works = collections.Counter(), "", False, False
+    with open(file, encoding="utf-8", errors="replace") as lines:
+        for line in lines:
+            if line.startswith("desc: Trigger:"):
+                works = line.rstrip().endswith(ENDS)
+            elif line.startswith("fn="):
+                current = line[3:].strip().partition("'")[0]
+            elif line.startswith("calls="):
+                skip = True
+            elif re.match(r"[0-9]+ [0-9]+$", line):
+                functions[current] += 0 if skip else int(line.split()[1])
+                skip = False
+    return functions if works else None
+
+
+def grinded(args, side):
+    """As emulated; a part in which nothing is counted is not written, and no piece of work is such a part."""
+    with tempfile.TemporaryDirectory() as folder:
+        out = os.path.join(folder, "out")
+        words = ["valgrind", "-q", "--tool=callgrind", f"--callgrind-out-file={out}", "--compress-strings=no",
+                 "--compress-pos=no", "--toggle-collect=card_*", "--toggle-collect=plain_*",
+                 f"--dump-before={BEGINS}", f"--dump-before={ENDS}", args.program, side, args.day]
+        said = run_text(*words)
+        files = sorted((f for f in os.listdir(folder) if f.startswith("out.")), key=lambda f: int(f[4:]))
+        parts = [read_callgrind(os.path.join(folder, f)) for f in files]
+    return said, [part for part in parts if part is not None]
+
+
+class Work:
+    """A piece of work, and the instructions of each function, done once."""
+
+    def __init__(self, line, functions):
+        self.row, self.column, done = line.split("\t")
+        self.functions = {name: count / int(done) for name, count in functions.items()}
+        self.all = sum(self.functions.values())
+
+
+def count(args, side):
+    said, parts = emulated(args, side) if args.emulator else grinded(args, side)
+    lines = said.splitlines()
+    if any(line.count("\t") != 2 for line in lines) or len(parts) != len(lines):
+        sys.exit(f"{side}: {len(lines)} pieces of work and {len(parts)} counts\n{said}")
+    return [Work(line, part) for line, part in zip(lines, parts)]
+
+
+def show(number):
+    return f"{number:,.0f}" if number >= 1000 else f"{number:.1f}".removesuffix(".0")
+
+
+def print_table(head, rows):
+    print("| " + " | ".join(head) + " |")
+    print("|---" * len(head) + "|")
+    for row in rows:
+        print("| " + " | ".join(row) + " |")
+    print()
+
+
+def print_work(works):
+    rows = [(proved.row, show(proved.all), show(plain.all), f"{proved.all / plain.all:.2f}")
+            for proved, plain in zip(*works) if not proved.column]
+    print_table(("counted", "proved", "plain C", "ratio"), rows)
+
+
+def print_growth(works):
+    cells = {}
+    for proved, plain in zip(*works):
+        if proved.column:
+            cells.setdefault(proved.row, {})[proved.column] = f"{show(proved.all)} / {show(plain.all)}"
+    columns = list(next(iter(cells.values())))
+    print("Proved / plain, with names of 7 octets of opaque value, and with 8 trees:\n")
+    print_table(("one event", *columns), [(row, *(by.get(c, "") for c in columns)) for row, by in cells.items()])
+
+
+def print_dearest(work, side):
+    print(f"{work.row}, {side}:\n")
+    dearest = sorted(work.functions.items(), key=lambda item: -item[1])[:DEAREST]
+    print_table(("function", "instructions", "share"),
+                [(f"`{name}`", show(count), f"{100 * count / work.all:.0f} %") for name, count in dearest])
+
+
+def main():
+    parser = argparse.ArgumentParser(description=__doc__.splitlines()[0])
+    parser.add_argument("--emulator")
+    parser.add_argument("--nm", default="nm")
+    parser.add_argument("program")
+    parser.add_argument("day")
+    parser.add_argument("objects", nargs="+")
+    args = parser.parse_args()
+    works = [count(args, side) for side in SIDES]
+    print_work(works)
+    print_growth(works)
+    for side, side_works in zip(SIDES, works):
+        for work in side_works:
+            if work.row in PROFILED:
+                print_dearest(work, side)
+
+
+if __name__ == "__main__":
+    main()
