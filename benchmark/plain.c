@@ -1,7 +1,8 @@
 /*
  * A plain C card, written for speed. A tree stays in its slot while it stands; `order` has the slots, oldest first.
  * Free labels are bits, and a mapped label knows its tree's slot. A tree keeps its root's route, by which its branch from
- * the upstream is held: that one is left out of lookups, and alone it makes no label due.
+ * the upstream is held: that one is left out of lookups, and alone it makes no label due. Which branches stand are bits
+ * too. Names and roots have tags of one octet, compared eight at a time before any name is.
  */
 #include "plain.h"
 
@@ -21,7 +22,11 @@ struct table {
     uint64_t free_labels[CARD_LABELS / 64];
     uint64_t via[CARD_ROOTS];
     uint64_t order[CARD_TREES / 8];
+    uint64_t tree_tag[CARD_TREES / 8];
+    uint64_t tree_root_tag[CARD_TREES / 8];
+    uint64_t route_tag[CARD_ROOTS / 8];
     uint8_t route[CARD_TREES];
+    uint8_t standing[CARD_TREES][2]; /* a bit for each neighbour whose branch stands */
     uint64_t own_label[CARD_TREES];
     uint64_t branches[CARD_TREES][CARD_NEIGHBOURS];
     uint64_t mark[CARD_LABELS];
@@ -65,6 +70,11 @@ static struct card card_in(uint64_t *numbers, uint8_t *names)
 static uint8_t *order_of(struct table *t)
 {
     return (uint8_t *)t->order;
+}
+
+static uint8_t *octets_of(uint64_t *column)
+{
+    return (uint8_t *)column;
 }
 
 /* ---- octets */
@@ -211,11 +221,48 @@ static void send(struct card c, struct output *o, uint32_t to, uint32_t kind, st
 
 /* ---- the table */
 
+/* Which of the first `count` octets of a column are the tag, as bits; perhaps some behind them. */
+static uint64_t places_of(const uint64_t *column, size_t count, uint8_t tag)
+{
+    const uint64_t ones = 0x0101010101010101, low = 0x7f * ones;
+    uint64_t found = 0;
+    for (size_t w = 0; 8 * w < count; w++) {
+        uint64_t x = column[w] ^ tag * ones;
+        uint64_t same = ~(((x & low) + low) | x | low) >> 7;
+        found |= (same * 0x0102040810204080 >> 56) << 8 * w;
+    }
+    return found;
+}
+
+static struct text root_of(struct text name)
+{
+    return (struct text){name.octets + 4, name.octets[3]};
+}
+
+static uint8_t root_tag(struct text root)
+{
+    return root.octets[root.length - 1];
+}
+
+/* Of the end of the name, and the end of its root. */
+static uint8_t name_tag(struct text name)
+{
+    uint64_t behind;
+    memcpy(&behind, name.octets + name.length - 8, 8);
+    return (uint8_t)((behind * 0x9E3779B97F4A7C15 >> 56) + root_tag(root_of(name)));
+}
+
+static size_t slots_in_use(const struct table *t)
+{
+    return t->used_slots == 0 ? 0 : 64 - (size_t)__builtin_clzll(t->used_slots);
+}
+
 /* Names of one root differ behind, so the last eight octets are compared first. */
 static size_t find_tree(const struct table *t, const struct texts *x, struct text name)
 {
     const uint8_t *behind = name.octets + name.length - 8;
-    for (uint64_t left = t->used_slots; left != 0; left &= left - 1) {
+    uint64_t left = t->used_slots & places_of(t->tree_tag, slots_in_use(t), name_tag(name));
+    for (; left != 0; left &= left - 1) {
         size_t slot = (size_t)__builtin_ctzll(left);
         const uint8_t *s = x->tree[slot];
         if (s[0] == name.length && memcmp(s + 1 + name.length - 8, behind, 8) == 0 &&
@@ -233,21 +280,20 @@ static bool same_root(const uint8_t *octets, size_t length, struct text root)
 
 static size_t find_route(struct card c, struct text root)
 {
-    size_t i = 0;
-    while (i < c.table->route_count && !same_root(c.texts->root[i] + 1, c.texts->root[i][0], root))
-        i++;
-    return i;
+    const struct table *t = c.table;
+    uint64_t left = places_of(t->route_tag, t->route_count, root_tag(root)) & ((1ull << t->route_count) - 1);
+    for (; left != 0; left &= left - 1) {
+        size_t i = (size_t)__builtin_ctzll(left);
+        if (same_root(c.texts->root[i] + 1, c.texts->root[i][0], root))
+            return i;
+    }
+    return t->route_count;
 }
 
 static uint32_t route_of(struct card c, struct text root)
 {
     size_t i = find_route(c, root);
     return i < c.table->route_count ? (uint32_t)c.table->via[i] : CARD_NO_ROUTE;
-}
-
-static struct text root_of(struct text name)
-{
-    return (struct text){name.octets + 4, name.octets[3]};
 }
 
 static size_t count_free(const struct table *t)
@@ -283,33 +329,30 @@ static bool is_leaf(const struct table *t, size_t slot)
     return t->leaves >> slot & 1;
 }
 
+static uint32_t standing_in(const struct table *t, size_t slot)
+{
+    uint16_t bits;
+    memcpy(&bits, t->standing[slot], 2);
+    return bits;
+}
+
 static bool is_bare(const struct table *t, size_t slot)
 {
-    uint64_t all = 0;
-    for (int n = 0; n < CARD_NEIGHBOURS; n++)
-        all |= t->branches[slot][n];
-    return all == 0 && !is_leaf(t, slot);
+    return standing_in(t, slot) == 0 && !is_leaf(t, slot);
 }
 
-static bool has_branch_but(const uint64_t *branches, uint32_t neighbour)
+static void set_branch(struct table *t, size_t slot, uint32_t neighbour, uint32_t label)
 {
-    uint64_t any = 0;
-    for (uint32_t n = 0; n < CARD_NEIGHBOURS; n++)
-        any |= n == neighbour ? 0 : branches[n];
-    return any != 0;
+    uint32_t others = standing_in(t, slot) & ~(1u << neighbour);
+    uint16_t bits = (uint16_t)(others | (uint32_t)(label != 0) << neighbour);
+    t->branches[slot][neighbour] = label;
+    memcpy(t->standing[slot], &bits, 2);
 }
 
-/*
- * Whether the tree, which is not bare, needs a label under that route: it has a leaf, or a branch that is not held. Where
- * none is held, there is no need to look.
- */
+/* Whether the tree needs a label under that route: it has a leaf, or a branch that is not held. */
 static bool needs_label(const struct table *t, size_t slot, uint32_t route)
 {
-    if (route >= CARD_NEIGHBOURS)
-        return false;
-    if (t->branches[slot][route] == 0 || is_leaf(t, slot))
-        return true;
-    return has_branch_but(t->branches[slot], route);
+    return route < CARD_NEIGHBOURS && (is_leaf(t, slot) || (standing_in(t, slot) & ~(1u << route)) != 0);
 }
 
 /* The tree is given the next free label, and the neighbour is told. */
@@ -341,6 +384,9 @@ static size_t enter_tree(struct card c, struct text name, uint32_t route)
     order_of(t)[t->tree_count++] = (uint8_t)slot;
     t->own_label[slot] = NO_LABEL;
     t->route[slot] = (uint8_t)route;
+    octets_of(t->tree_tag)[slot] = name_tag(name);
+    octets_of(t->tree_root_tag)[slot] = root_tag(root_of(name));
+    memset(t->standing[slot], 0, 2);
     memset(t->branches[slot], 0, sizeof t->branches[slot]);
     keep(c.texts->tree[slot], name);
     return slot;
@@ -397,7 +443,7 @@ static void on_mapping(struct card c, uint32_t from, const struct message *m, st
     }
     slot = make_ready(c, slot, m->name, from, o, answer);
     if (slot != CARD_TREES)
-        t->branches[slot][from] = m->label;
+        set_branch(t, slot, from, m->label);
 }
 
 /* What goes with a branch or a leaf that has gone: a label that is not needed any more, a tree with neither. */
@@ -407,9 +453,8 @@ struct ending {
 
 static struct ending ending_of(const struct table *t, size_t slot)
 {
-    bool bare = is_bare(t, slot);
-    bool label = t->own_label[slot] != NO_LABEL && (bare || !needs_label(t, slot, t->route[slot]));
-    return (struct ending){label, bare};
+    bool label = t->own_label[slot] != NO_LABEL && !needs_label(t, slot, t->route[slot]);
+    return (struct ending){label, is_bare(t, slot)};
 }
 
 static void let_go(struct card c, size_t slot, struct ending e, struct output *o)
@@ -428,12 +473,12 @@ static void on_withdraw(struct card c, uint32_t from, const struct message *m, s
     size_t size = RECORD_HEAD + m->name.length;
     bool branch = slot != CARD_TREES && t->branches[slot][from] == m->label;
     if (branch) {
-        t->branches[slot][from] = 0;
+        set_branch(t, slot, from, 0);
         e = ending_of(t, slot);
     }
     if (o->room < (e.label ? 2 * size : size)) {
         if (branch)
-            t->branches[slot][from] = m->label;
+            set_branch(t, slot, from, m->label);
         *answer = CARD_NO_ROOM;
         return;
     }
@@ -532,10 +577,15 @@ struct move {
 
 static void plan_move(struct card c, struct text root, uint32_t route, struct move *m)
 {
+    const struct table *t = c.table;
     const uint8_t *order = order_of(c.table);
+    uint64_t tagged = t->used_slots & places_of(t->tree_root_tag, slots_in_use(t), root_tag(root));
     m->needy = m->count = m->size = 0;
-    for (size_t i = 0; i < c.table->tree_count; i++) {
+    for (size_t i = 0; tagged != 0 && i < t->tree_count; i++) {
         size_t slot = order[i];
+        if ((tagged >> slot & 1) == 0)
+            continue;
+        tagged ^= 1ull << slot;
         struct text name = kept(c.texts->tree[slot]);
         if (!same_root(name.octets + 4, name.octets[3], root))
             continue;
@@ -562,11 +612,13 @@ static void set_route(struct card c, size_t i, struct text root, uint32_t route)
     if (route == CARD_NO_ROUTE) {
         t->route_count--;
         memmove(t->via + i, t->via + i + 1, (t->route_count - i) * sizeof t->via[0]);
+        memmove(octets_of(t->route_tag) + i, octets_of(t->route_tag) + i + 1, t->route_count - i);
         memmove(c.texts->root[i], c.texts->root[i + 1], (t->route_count - i) * ROOT_SLOT);
         return;
     }
     if (i == t->route_count) {
         keep(c.texts->root[i], root);
+        octets_of(t->route_tag)[i] = root_tag(root);
         t->route_count++;
     }
     t->via[i] = route;
@@ -614,10 +666,7 @@ static bool withdraws(const struct table *t, size_t slot, uint32_t gone)
     size_t p = t->own_label[slot];
     if (p == NO_LABEL || (t->mark[p] & MARK) == MAPPED + gone || is_leaf(t, slot))
         return false;
-    uint64_t any = 0;
-    for (uint32_t n = 0; n < CARD_NEIGHBOURS; n++)
-        any |= n == gone || n == t->route[slot] ? 0 : t->branches[slot][n];
-    return any == 0;
+    return (standing_in(t, slot) & ~(1u << gone) & ~(1u << t->route[slot])) == 0;
 }
 
 static size_t loss_size(struct card c, uint32_t gone)
@@ -637,19 +686,21 @@ static void part_from(struct card c, uint32_t gone)
     const uint8_t *order = order_of(t);
     for (size_t i = 0; i < t->tree_count; i++) {
         size_t slot = order[i];
-        t->branches[slot][gone] = 0;
+        set_branch(t, slot, gone, 0);
         if (t->route[slot] == gone) {
             t->route[slot] = CARD_NO_ROUTE;
             t->own_label[slot] = NO_LABEL;
         }
     }
-    for (size_t p = 0; p < CARD_LABELS; p++) {
-        uint64_t use = t->mark[p] & MARK;
-        if (use == MAPPED + gone || use == AWAITING + gone) {
-            t->mark[p] = 0;
-            t->free_labels[p / 64] |= 1ull << p % 64;
+    for (size_t w = 0; w < CARD_LABELS / 64; w++)
+        for (uint64_t left = ~t->free_labels[w]; left != 0; left &= left - 1) {
+            size_t p = w * 64 + (size_t)__builtin_ctzll(left);
+            uint64_t use = t->mark[p] & MARK;
+            if (use == MAPPED + gone || use == AWAITING + gone) {
+                t->mark[p] = 0;
+                t->free_labels[w] |= left & -left;
+            }
         }
-    }
     for (size_t i = t->route_count; i-- > 0;)
         if (t->via[i] == gone)
             set_route(c, i, kept(c.texts->root[i]), CARD_NO_ROUTE);
@@ -922,15 +973,17 @@ static bool read_route(struct card c, const uint8_t *s)
     return true;
 }
 
-static bool read_branches(const uint8_t *s, uint64_t *branches)
+static bool read_branches(struct table *t, size_t slot, const uint8_t *s)
 {
-    bool taken = true;
-    for (size_t n = 0; n < CARD_NEIGHBOURS; n++) {
+    for (uint32_t n = 0; n < CARD_NEIGHBOURS; n++) {
         uint32_t label = four_at(s + 4 * n);
-        taken &= label == 0 || (label >= CARD_LABEL_LEAST && label <= CARD_LABEL_MOST);
-        branches[n] = label;
+        if (label == 0)
+            continue;
+        if (label < CARD_LABEL_LEAST || label > CARD_LABEL_MOST)
+            return false;
+        set_branch(t, slot, n, label);
     }
-    return taken;
+    return true;
 }
 
 static bool read_tree(struct card c, const uint8_t *s)
@@ -944,7 +997,7 @@ static bool read_tree(struct card c, const uint8_t *s)
         return false;
     size_t slot = enter_tree(c, name, route_of(c, root_of(name)));
     c.table->leaves |= (uint64_t)*leaf << slot;
-    return read_branches(leaf + 1, c.table->branches[slot]) && !is_bare(c.table, slot);
+    return read_branches(c.table, slot, leaf + 1) && !is_bare(c.table, slot);
 }
 
 /* A label's mark: a mapped one is its tree's, which has none yet. */
