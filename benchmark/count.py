@@ -1,7 +1,7 @@
 #!/usr/bin/env python3
 """Counts the instructions of both cards and prints the tables of docs/BENCHMARK.md.
 
-  count.py [--emulator QEMU] [--nm NM] PROGRAM DAY OBJECT..
+  count.py [--emulator QEMU] [--nm NM] [--remark TEXT] PROGRAM DAY OBJECT..
 
 PROGRAM is count.c, linked. It calls `work_begins` and `work_ends` around each piece of work: what lies between is counted,
 and nothing of the start or of the preparation. Counted are the instructions of the cards' functions, which OBJECT..
@@ -18,12 +18,14 @@ import collections
 import itertools
 import os
 import re
+import shutil
 import subprocess
 import sys
 import tempfile
 
 SIDES = ("proved", "plain")
-PROFILED = ("an event of an ordinary day", "a route order that moves 64 trees", "a loss that ends 64 branches")
+PROFILED = ("an event of an ordinary day", "a route order that moves 64 trees", "a loss that ends 64 branches",
+            "a restore of a full card")
 DEAREST = 10
 BEGINS, ENDS = "work_begins", "work_ends"
 # memcpy and its kin, in each of the forms from which the C library chooses when a program starts
@@ -33,7 +35,9 @@ CPU = "max,-erms,-fsrm"
 
 
 def run_text(*words):
-    return subprocess.run(words, check=True, capture_output=True, text=True).stdout
+    # functions of shared libraries are found when the program starts, and not when first called
+    environment = os.environ | {"LD_BIND_NOW": "1"}
+    return subprocess.run(words, check=True, stdout=subprocess.PIPE, text=True, env=environment).stdout
 
 
 class Symbols:
@@ -168,18 +172,18 @@ def print_work(works):
     print_table(("counted", "proved", "plain C", "ratio"), rows)
 
 
-def print_growth(works):
+def print_growth(works, unit, said):
     cells = {}
     for proved, plain in zip(*works):
-        if proved.column:
+        if unit in proved.column:
             cells.setdefault(proved.row, {})[proved.column] = f"{show(proved.all)} / {show(plain.all)}"
     columns = list(next(iter(cells.values())))
-    print("Proved / plain, with names of 7 octets of opaque value, and with 8 trees:\n")
-    print_table(("one event", *columns), [(row, *(by.get(c, "") for c in columns)) for row, by in cells.items()])
+    print(f"Proved / plain, {said}:\n")
+    print_table(("once", *columns), [(row, *(by[c] for c in columns)) for row, by in cells.items()])
 
 
-def print_dearest(work, side):
-    print(f"{work.row}, {side}:\n")
+def print_dearest(work):
+    print(f"The dearest functions of the proved card, {work.row}:\n")
     dearest = sorted(work.functions.items(), key=lambda item: -item[1])[:DEAREST]
     print_table(("function", "instructions", "share"),
                 [(f"`{name}`", show(count), f"{100 * count / work.all:.0f} %") for name, count in dearest])
@@ -189,17 +193,21 @@ def main():
     parser = argparse.ArgumentParser(description=__doc__.splitlines()[0])
     parser.add_argument("--emulator")
     parser.add_argument("--nm", default="nm")
+    parser.add_argument("--remark", default="")
     parser.add_argument("program")
     parser.add_argument("day")
     parser.add_argument("objects", nargs="+")
     args = parser.parse_args()
+    if not args.emulator and not shutil.which("valgrind"):
+        sys.exit("count: no valgrind here, which is needed where there is no emulator")
     works = [count(args, side) for side in SIDES]
+    print(f"Instructions, not times{args.remark and '; '}{args.remark}.\n")
     print_work(works)
-    print_growth(works)
-    for side, side_works in zip(SIDES, works):
-        for work in side_works:
-            if work.row in PROFILED:
-                print_dearest(work, side)
+    print_growth(works, "tree", "names with 7 octets of opaque value")
+    print_growth(works, "octets", "8 trees, whose names have so many octets of opaque value")
+    for work in works[0]:
+        if work.row in PROFILED:
+            print_dearest(work)
 
 
 if __name__ == "__main__":
