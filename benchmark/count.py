@@ -44,17 +44,13 @@ class Symbols:
     """Where the functions of a program lie."""
 
     def __init__(self, nm, program, objects):
-        wanted = {words[-1] for words in map(str.split, run_text(nm, *objects).splitlines())
-                  if len(words) >= 3 and words[-2] in "tTwW"}
+        lines = (line.split(None, 2) for line in run_text(nm, *objects).splitlines())
+        wanted = {BEGINS, ENDS, *(words[2] for words in lines if len(words) == 3 and words[1] in "tTwW")}
         self.at = {}
-        sized = []
         for line in run_text(nm, "-S", program).splitlines():
             words = line.split(None, 3)
-            if len(words) == 4 and words[2] in "tTwWiI":
-                sized.append((int(words[0], 16), int(words[1], 16), words[3]))
-        for start, size, name in sized:
-            if name in (BEGINS, ENDS) or name in wanted or MEMORY.match(name):
-                self.at[start] = (size, name)
+            if len(words) == 4 and words[2] in "tTwW" and (words[3] in wanted or MEMORY.match(words[3])):
+                self.at[int(words[0], 16)] = (int(words[1], 16), words[3])
         self.starts = sorted(self.at)
 
     def ranges(self):
