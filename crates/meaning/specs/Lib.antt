@@ -26,3 +26,5 @@ pub mod SaveFields
 pub mod SaveRules
 pub mod SaveLists
 pub mod SaveLaws
+pub mod SaveMoves
+pub mod SavePlaces

@@ -1,6 +1,7 @@
--- The save of a card's table: octets that carry it over a card swap, and the table read back from them. docs/SAVE.md draws the layout.
--- Each record begins with the two-byte mark 0x4C 0x53 and its kind: 1 the head, 2 a route, 3 a tree, 4 a label in use.
--- They stand in this order: the head, the routes and the trees in the table's order, the labels by rising number. All have a fixed size.
+-- The save of a card's table: octets that carry it over a card swap, and the table read back from them, in two forms. docs/SAVE.md draws the layout.
+-- Each record begins with the two-byte mark 0x4C 0x53 and its kind: a head, a route, a tree or a label in use.
+-- They stand in this order: the head, the routes and the trees in the table's order, the labels by rising number.
+-- In the old form all have a fixed size. The new one carries each name at its own length, and the last label given.
 -- (Nothing here asks that octets are below 256: reading back holds without it, and the code's octets are.)
 -- Assumes nothing.
 use Prim.Native.Nat.{ℕ, zero, suc, _+_, _*_, _-_, _%_}
@@ -9,42 +10,74 @@ use mathlib.Core.List.{List, [], _∷_, _++_}
 use lib.ListN.{take, drop, getD, length, set, replicate}
 use lib.Dec.{eqb, leb, ltb}
 use Rattle.meaning.specs.Octets.{pick, place, count, any, same, two, four, twoAt, fourAt, _when_else_, all}
-use Rattle.meaning.specs.Wire.{rootIn, opaqueIn, elementRefusal, element, rootLimit}
+use Rattle.meaning.specs.Wire.{rootIn, opaqueIn, elementRefusal, element, rootLimit, nameLimit}
 use Rattle.meaning.specs.Card.{Route, Tree, Use, free, mapped, awaiting, Card, withLabel, treeLimit, routeLimit, labelCount, isFor, named, isEmpty, isFree, heldFor, useOf, treeOf, freeLabels, neighbourCount, withLast}
 use Rattle.meaning.specs.Events.{Out, roomShort, refuse, baseOutside, notRoot, holderOf}
 
+-- ---- the two forms, and where they differ: the kinds of three records, a name, and the last label given
+
+pub data Form : Type 0 where
+  old : Form
+  new : Form
+
+-- by the mark that the code has for it
+unfoldable pub formOf : Bool → Form
+formOf false = old
+formOf true = new
+
+abbrev pub headKind : Form → ℕ
+headKind old = 1
+headKind new = 5
+
+-- a route's record is the same in both
+abbrev pub routeKind : ℕ
+routeKind = 2
+
+abbrev pub treeKind : Form → ℕ
+treeKind old = 3
+treeKind new = 6
+
+abbrev pub useKind : Form → ℕ
+useKind old = 4
+useKind new = 7
+
 -- ---- sizes
 
--- the space that an opaque value has in a save: one of 33 octets or more, as a name may have, is refused 19
+-- the last label given stands behind the old form's fields
+abbrev pub lastPlace : ℕ
+lastPlace = 15
+
+abbrev pub headSize : Form → ℕ
+headSize old = lastPlace
+headSize new = lastPlace + 4
+
+-- the space that an opaque value has in the old form: one of 33 octets or more, as a name may have, is refused 19
 abbrev pub savedOpaque : ℕ
 savedOpaque = 32
 
-abbrev pub headSize : ℕ
-headSize = 15
+-- a name in the old form: the root and the opaque value, each with its length before it
+abbrev pub spacedName : ℕ
+spacedName = 1 + rootLimit + (1 + savedOpaque)
 
--- a name: the root and the opaque value, each with its length before it
-abbrev pub nameSize : ℕ
-nameSize = 1 + rootLimit + (1 + savedOpaque)
+-- the most octets that a name takes
+abbrev pub nameMost : Form → ℕ
+nameMost old = spacedName
+nameMost new = 1 + nameLimit
 
 abbrev pub routeSize : ℕ
 routeSize = 4 + (1 + rootLimit)
 
--- in a tree's record the leaf mark stands behind the name, and the branches behind the mark
-abbrev pub leafPlace : ℕ
-leafPlace = 3 + nameSize
+-- a tree's record beside the name: the leaf mark stands behind the name, and the branches behind the mark
+abbrev pub treeBeside : ℕ
+treeBeside = 3 + (1 + 4 * neighbourCount)
 
-abbrev pub branchPlace : ℕ
-branchPlace = leafPlace + 1
-
-abbrev pub treeSize : ℕ
-treeSize = branchPlace + 4 * neighbourCount
-
-abbrev pub useSize : ℕ
-useSize = 9 + nameSize
+-- a label's record beside the name, which stands last
+abbrev pub useBeside : ℕ
+useBeside = 9
 
 -- the longest save of a table that keeps the rules
-abbrev pub saveLimit : ℕ
-saveLimit = headSize + routeLimit * routeSize + treeLimit * treeSize + labelCount * useSize
+abbrev pub saveLimit : Form → ℕ
+saveLimit f = headSize f + routeLimit * routeSize + treeLimit * (treeBeside + nameMost f) + labelCount * (useBeside + nameMost f)
 
 -- ---- writing
 
@@ -56,70 +89,77 @@ padded n o = o ++ replicate (n - length o) 0
 unfoldable pub spaced : ℕ → List ℕ → List ℕ
 spaced n o = length (take n o) ∷ padded n (take n o)
 
--- a tree's name, of 50 octets: the root and the opaque value, each in its space
-unfoldable pub nameSaved : List ℕ → List ℕ
-nameSaved a = spaced rootLimit (rootIn a) ++ spaced savedOpaque (opaqueIn a)
+-- A tree's name. In the old form the root and the opaque value, each in its space; in the new one how many octets it has, and these.
+unfoldable pub nameSaved : Form → List ℕ → List ℕ
+nameSaved old a = spaced rootLimit (rootIn a) ++ spaced savedOpaque (opaqueIn a)
+nameSaved new a = length (take nameLimit a) ∷ take nameLimit a
 
 unfoldable pub marked : ℕ → List ℕ → List ℕ
 marked kind fields = 0x4C ∷ 0x53 ∷ kind ∷ fields
 
--- 15 octets: base, next identifier, and how many routes, trees and labels in use follow
-unfoldable pub headSaved : Card → List ℕ
-headSaved c = marked 1 (four (c .base) ++ (four (c .next) ++ (length (c .routes) ∷ length (c .trees) ∷ two (labelCount - freeLabels c))))
+-- the last label given, 0 for none
+unfoldable pub lastSaved : Form → Card → List ℕ
+lastSaved old c = []
+lastSaved new c = four (c .last)
+
+-- base, next identifier, how many routes, trees and labels in use follow, and the last label given where the form has it
+unfoldable pub headSaved : Form → Card → List ℕ
+headSaved f c = marked (headKind f) (four (c .base) ++ (four (c .next) ++ (length (c .routes) ∷ length (c .trees) ∷ (two (labelCount - freeLabels c) ++ lastSaved f c))))
 
 -- 21 octets: the route's number, and the root in a space of 16
 unfoldable pub routeSaved : Route → List ℕ
-routeSaved r = marked 2 (r .via % 256 ∷ spaced rootLimit (r .root))
+routeSaved r = marked routeKind (r .via % 256 ∷ spaced rootLimit (r .root))
 
 unfoldable pub foursOf : List ℕ → List ℕ
 foursOf [] = []
 foursOf (n ∷ ns) = four n ++ foursOf ns
 
--- 118 octets: the name, the leaf mark, and sixteen branch labels, 0 for no branch. The tree's own label is in that label's record.
-unfoldable pub treeSaved : Tree → List ℕ
-treeSaved t = marked 3 (nameSaved (t .name) ++ (pick (t .leaf) 1 0 ∷ foursOf (t .branches)))
+-- the name, the leaf mark, and sixteen branch labels, 0 for no branch. The tree's own label is in that label's record.
+unfoldable pub treeSaved : Form → Tree → List ℕ
+treeSaved f t = marked (treeKind f) (nameSaved f (t .name) ++ (pick (t .leaf) 1 0 ∷ foursOf (t .branches)))
 
--- 59 octets: the label, 1 where it is mapped or 2 where it awaits release, the neighbour, and the name
-unfoldable pub useSaved : ℕ → Use → List ℕ
-useSaved l free = []
-useSaved l (mapped n a) = marked 4 (four l ++ (1 ∷ n ∷ nameSaved a))
-useSaved l (awaiting n a) = marked 4 (four l ++ (2 ∷ n ∷ nameSaved a))
+-- the label, 1 where it is mapped or 2 where it awaits release, the neighbour, and the name
+unfoldable pub useSaved : Form → ℕ → Use → List ℕ
+useSaved f l free = []
+useSaved f l (mapped n a) = marked (useKind f) (four l ++ (1 ∷ n ∷ nameSaved f a))
+useSaved f l (awaiting n a) = marked (useKind f) (four l ++ (2 ∷ n ∷ nameSaved f a))
 
 unfoldable pub routesSaved : List Route → List ℕ
 routesSaved [] = []
 routesSaved (r ∷ rs) = routeSaved r ++ routesSaved rs
 
-unfoldable pub treesSaved : List Tree → List ℕ
-treesSaved [] = []
-treesSaved (t ∷ ts) = treeSaved t ++ treesSaved ts
+unfoldable pub treesSaved : Form → List Tree → List ℕ
+treesSaved f [] = []
+treesSaved f (t ∷ ts) = treeSaved f t ++ treesSaved f ts
 
 -- the labels from l on
-unfoldable pub usesSaved : ℕ → List Use → List ℕ
-usesSaved l [] = []
-usesSaved l (u ∷ us) = useSaved l u ++ usesSaved (suc l) us
+unfoldable pub usesSaved : Form → ℕ → List Use → List ℕ
+usesSaved f l [] = []
+usesSaved f l (u ∷ us) = useSaved f l u ++ usesSaved f (suc l) us
 
-unfoldable pub saved : Card → List ℕ
-saved c = headSaved c ++ (routesSaved (c .routes) ++ (treesSaved (c .trees) ++ usesSaved (c .base) (c .labels)))
+unfoldable pub saved : Form → Card → List ℕ
+saved f c = headSaved f c ++ (routesSaved (c .routes) ++ (treesSaved f (c .trees) ++ usesSaved f (c .base) (c .labels)))
 
--- a name whose opaque value has its space in a save
-unfoldable pub isShort : List ℕ → Bool
-isShort a = leb (length (opaqueIn a)) savedOpaque
+-- a name that is short enough for the form: in the new one any is
+unfoldable pub isShort : Form → List ℕ → Bool
+isShort old a = leb (length (opaqueIn a)) savedOpaque
+isShort new a = true
 
-unfoldable pub isShortTree : Tree → Bool
-isShortTree t = isShort (t .name)
+unfoldable pub isShortTree : Form → Tree → Bool
+isShortTree f t = isShort f (t .name)
 
-unfoldable pub isShortUse : Use → Bool
-isShortUse free = true
-isShortUse (mapped n a) = isShort a
-isShortUse (awaiting n a) = isShort a
+unfoldable pub isShortUse : Form → Use → Bool
+isShortUse f free = true
+isShortUse f (mapped n a) = isShort f a
+isShortUse f (awaiting n a) = isShort f a
 
 -- what 19 asks of a table that is to be saved
-unfoldable pub fitsSave : Card → Bool
-fitsSave c = all isShortTree (c .trees) && all isShortUse (c .labels)
+unfoldable pub fitsSave : Form → Card → Bool
+fitsSave f c = all (isShortTree f) (c .trees) && all (isShortUse f) (c .labels)
 
 -- The call, with the room that the output has: 19 or 16, with nothing written, or the save. The table stays as it is.
-unfoldable pub save : ℕ → Card → Out
-save room c = pick (fitsSave c) (pick (roomShort room (saved c)) (refuse 16 c) (record { answer = 0; octets = saved c; card = c })) (refuse 19 c)
+unfoldable pub save : Form → ℕ → Card → Out
+save f room c = pick (fitsSave f c) (pick (roomShort room (saved f c)) (refuse 16 c) (record { answer = 0; octets = saved f c; card = c })) (refuse 19 c)
 
 -- ---- reading
 
@@ -127,10 +167,16 @@ save room c = pick (fitsSave c) (pick (roomShort room (saved c)) (refuse 16 c) (
 unfoldable pub spacedIn : ℕ → List ℕ → List ℕ
 spacedIn n o = take (getD o 0 0) (take n (drop 1 o))
 
-unfoldable pub nameIn : List ℕ → List ℕ
-nameIn o =
+unfoldable pub nameIn : Form → List ℕ → List ℕ
+nameIn old o =
     let root = spacedIn rootLimit o in
     element (pick (eqb (length root) 4) 1 2) root (spacedIn savedOpaque (drop (1 + rootLimit) o))
+nameIn new o = spacedIn nameLimit o
+
+-- how many octets the name takes that stands at the front
+abbrev pub extent : Form → List ℕ → ℕ
+extent old o = spacedName
+extent new o = suc (getD o 0 0)
 
 unfoldable pub routeRead : List ℕ → Route
 routeRead o = record { root = spacedIn rootLimit (drop 4 o); via = getD o 3 0 }
@@ -140,28 +186,43 @@ foursIn zero o = []
 foursIn (suc n) o = fourAt o 0 ∷ foursIn n (drop 4 o)
 
 -- without its own label, which the labels give it
-unfoldable pub treeRead : List ℕ → Tree
-treeRead o = record { name = nameIn (drop 3 o); branches = foursIn neighbourCount (drop branchPlace o); leaf = not (eqb (getD o leafPlace 0) 0); label = 0 }
+unfoldable pub treeRead : Form → List ℕ → Tree
+treeRead f o =
+    let n = extent f (drop 3 o) in
+    record { name = nameIn f (drop 3 o); branches = foursIn neighbourCount (drop (4 + n) o); leaf = not (eqb (getD o (3 + n) 0) 0); label = 0 }
+
+-- what stands behind the tree's record at the front
+unfoldable pub treeEnd : Form → List ℕ → List ℕ
+treeEnd f o = drop (treeBeside + extent f (drop 3 o)) o
 
 -- (a neighbour's number is read modulo 16, so that whatever is read has a place in the card's memory; what is not as it was written is refused below)
-unfoldable pub useRead : List ℕ → Use
-useRead o =
+unfoldable pub useRead : Form → List ℕ → Use
+useRead f o =
     let n = getD o 8 0 % 16 in
-    let a = nameIn (drop 9 o) in
+    let a = nameIn f (drop 9 o) in
     pick (eqb (getD o 7 0) 1) (mapped n a) (awaiting n a)
+
+-- what stands behind the label's record at the front
+unfoldable pub useEnd : Form → List ℕ → List ℕ
+useEnd f o = drop (useBeside + extent f (drop 9 o)) o
 
 unfoldable pub routesRead : ℕ → List ℕ → List Route
 routesRead zero o = []
 routesRead (suc n) o = routeRead o ∷ routesRead n (drop routeSize o)
 
-unfoldable pub treesRead : ℕ → List ℕ → List Tree
-treesRead zero o = []
-treesRead (suc n) o = treeRead o ∷ treesRead n (drop treeSize o)
+unfoldable pub treesRead : Form → ℕ → List ℕ → List Tree
+treesRead f zero o = []
+treesRead f (suc n) o = treeRead f o ∷ treesRead f n (treeEnd f o)
+
+-- what stands behind n trees' records
+unfoldable pub treesEnd : Form → ℕ → List ℕ → List ℕ
+treesEnd f zero o = o
+treesEnd f (suc n) o = treesEnd f n (treeEnd f o)
 
 -- the uses of a block from base on, where n label records follow one another
-unfoldable pub usesRead : ℕ → ℕ → List ℕ → List Use → List Use
-usesRead base zero o us = us
-usesRead base (suc n) o us = usesRead base n (drop useSize o) (set us (fourAt o 3 - base) (useRead o))
+unfoldable pub usesRead : Form → ℕ → ℕ → List ℕ → List Use → List Use
+usesRead f base zero o us = us
+usesRead f base (suc n) o us = usesRead f base n (useEnd f o) (set us (fourAt o 3 - base) (useRead f o))
 
 -- a tree carries the label that is mapped for its name
 unfoldable pub isMappedFor : List ℕ → Use → Bool
@@ -185,19 +246,29 @@ highestUsed l (u ∷ us) =
     let later = highestUsed (suc l) us in
     pick (eqb later 0) (pick (isFree u) 0 l) later
 
--- The save does not carry the last label given: the highest in use is taken for it.
+-- The old form does not carry the last label given: the highest in use is taken for it.
 unfoldable pub settled : Card → Card
 settled c = withLast (highestUsed (c .base) (c .labels)) c
 
+-- what a form carries of a table
+unfoldable pub carriedBy : Form → Card → Card
+carriedBy old c = settled c
+carriedBy new c = c
+
+-- the last label given, of octets with these labels from base on
+unfoldable pub lastIn : Form → List ℕ → ℕ → List Use → ℕ
+lastIn old o base us = highestUsed base us
+lastIn new o base us = fourAt o lastPlace
+
 -- the table in the octets, whatever they are
-unfoldable pub tableIn : List ℕ → Card
-tableIn o =
+unfoldable pub tableIn : Form → List ℕ → Card
+tableIn f o =
     let base = fourAt o 3 in
     let routes = getD o 11 0 in
     let trees = getD o 12 0 in
-    let afterRoutes = drop (headSize + routes * routeSize) o in
-    let us = usesRead base (twoAt o 13) (drop (trees * treeSize) afterRoutes) (replicate labelCount free) in
-    record { base = base; next = fourAt o 7; routes = routesRead routes (drop headSize o); trees = allLabelled base us (treesRead trees afterRoutes); labels = us; last = highestUsed base us }
+    let afterRoutes = drop (headSize f + routes * routeSize) o in
+    let us = usesRead f base (twoAt o 13) (treesEnd f trees afterRoutes) (replicate labelCount free) in
+    record { base = base; next = fourAt o 7; routes = routesRead routes (drop (headSize f) o); trees = allLabelled base us (treesRead f trees afterRoutes); labels = us; last = lastIn f o base us }
 
 -- ---- the rules in force
 
@@ -262,15 +333,42 @@ keepsRules c =
     -- trees and labels agree
     && allCarried c (c .base) (c .labels) && all (carriesOwn c) (c .trees) && all (holdsRight c) (c .trees)
 
--- The last label given is of the block, and none only while no label is in use. (The form of this save does not carry it, so its reading asks nothing of it.)
+-- The last label given is of the block, and none only while no label is in use.
 unfoldable pub lastRight : Card → Bool
 lastRight c = pick (eqb (c .last) 0) (eqb (freeLabels c) labelCount) (leb (c .base) (c .last) && ltb (c .last) (c .base + labelCount))
 
+-- the rules that a form asks for: the new one carries the last label given, and so asks that it is right
+unfoldable pub ruled : Form → Card → Bool
+ruled old c = keepsRules c
+ruled new c = keepsRules c && lastRight c
+
 -- ---- taking a save
 
--- 19: octets that no table keeping the rules in force would write. (One with a longer value writes none, and what is read has none: `read-fits`.)
-unfoldable pub isSave : List ℕ → Bool
-isSave o = keepsRules (tableIn o) && same (saved (tableIn o)) o
+-- 19: octets that no table keeping the rules in force would write. (One with a longer value writes none in the old form, and what is read has none: `read-fits`.)
+unfoldable pub isSave : Form → List ℕ → Bool
+isSave f o = ruled f (tableIn f o) && same (saved f (tableIn f o)) o
 
-unfoldable pub restore : List ℕ → Card → Out
-restore o c = pick (isSave o) (record { answer = 0; octets = []; card = tableIn o }) (refuse 19 c)
+unfoldable pub restore : Form → List ℕ → Card → Out
+restore f o c = pick (isSave f o) (record { answer = 0; octets = []; card = tableIn f o }) (refuse 19 c)
+
+-- ---- moving a save to the other form: octets to octets, with no card
+
+pub record Moved : Type 0 where
+  pub answer : ℕ
+  pub octets : List ℕ
+
+unfoldable pub notMoved : ℕ → Moved
+notMoved n = record { answer = n; octets = [] }
+
+-- 19: octets that are no save of the form, or a value that is too long for the other one; then 16
+unfoldable pub move : Form → Form → ℕ → List ℕ → Moved
+move f g room o =
+    let written = saved g (tableIn f o) in
+    let moved = pick (roomShort room written) (notMoved 16) (record { answer = 0; octets = written }) in
+    pick (isSave f o && fitsSave g (tableIn f o)) moved (notMoved 19)
+
+unfoldable pub newer : ℕ → List ℕ → Moved
+newer room o = move old new room o
+
+unfoldable pub older : ℕ → List ℕ → Moved
+older room o = move new old room o

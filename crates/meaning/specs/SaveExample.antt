@@ -12,11 +12,11 @@ use Rattle.meaning.specs.Card.{Card, free, mapped, fresh, withLabels, wi
 use Rattle.meaning.specs.Events.{Out, Event, join, leave, route, event, start}
 use Rattle.meaning.specs.Computing.{computing}
 use Rattle.meaning.specs.Examples.{enough, A, wide, heard}
-use Rattle.meaning.specs.Save.{padded, spaced, nameSaved, marked, headSaved, routeSaved, foursOf, treeSaved, useSaved, routesSaved, treesSaved, usesSaved, saved, isShort, isShortTree, isShortUse, fitsSave, save, spacedIn, nameIn, routeRead, foursIn, treeRead, useRead, routesRead, treesRead, usesRead, isMappedFor, labelled, allLabelled, tableIn, isName, onceEach, isRoute, sameRoot, isBranchLabel, isTree, sameName, isUse, isCarried, allCarried, carriesOwn, holdsRight, keepsRules, isSave, restore, highestUsed, settled}
+use Rattle.meaning.specs.Save.{old, padded, spaced, nameSaved, marked, lastSaved, headSaved, routeSaved, foursOf, treeSaved, useSaved, routesSaved, treesSaved, usesSaved, saved, isShort, isShortTree, isShortUse, fitsSave, save, spacedIn, nameIn, routeRead, foursIn, treeRead, useRead, routesRead, treesRead, usesRead, isMappedFor, labelled, allLabelled, tableIn, isName, onceEach, isRoute, sameRoot, isBranchLabel, isTree, sameName, isUse, isCarried, allCarried, carriesOwn, holdsRight, keepsRules, isSave, restore, highestUsed, settled, carriedBy, lastIn, treeEnd, treesEnd, useEnd, lastRight, ruled, Moved, notMoved, move, newer, older}
 
 -- as `computing`, for the definitions of saves
 unfoldable pub computingSaves : ℕ
-unfolding computing padded spaced nameSaved marked headSaved routeSaved foursOf treeSaved useSaved routesSaved treesSaved usesSaved saved isShort isShortTree isShortUse fitsSave save spacedIn nameIn routeRead foursIn treeRead useRead routesRead treesRead usesRead isMappedFor labelled allLabelled tableIn all isName onceEach isRoute sameRoot isBranchLabel isTree sameName isUse isCarried allCarried carriesOwn holdsRight keepsRules isSave restore highestUsed settled
+unfolding computing padded spaced nameSaved marked lastSaved headSaved routeSaved foursOf treeSaved useSaved routesSaved treesSaved usesSaved saved isShort isShortTree isShortUse fitsSave save spacedIn nameIn routeRead foursIn treeRead useRead routesRead treesRead usesRead isMappedFor labelled allLabelled tableIn all isName onceEach isRoute sameRoot isBranchLabel isTree sameName isUse isCarried allCarried carriesOwn holdsRight keepsRules isSave restore highestUsed settled carriedBy lastIn treeEnd treesEnd useEnd lastRight ruled notMoved move newer older
 computingSaves = 0
 
 -- ---- one whole example
@@ -136,27 +136,27 @@ unfoldable pub example : List ℕ
 example = headOf ++ (routeA ++ (treeA ++ (treeB ++ (label16 ++ label17))))
 
 -- the save of that card is exactly these octets
-pub example-saved : saved swapped ≡ example
+pub example-saved : saved old swapped ≡ example
 unfolding computingSaves computing B after swapped headOf routeA treeA treeB label16 label17 example A heard
 example-saved = refl
 
 -- and they are taken, whatever table stands, and give the same card back
-pub example-restored : restore example (fresh 99) ≡ record { answer = 0; octets = []; card = swapped }
+pub example-restored : restore old example (fresh 99) ≡ record { answer = 0; octets = []; card = swapped }
 unfolding computingSaves computing B after swapped headOf routeA treeA treeB label16 label17 example A heard
 example-restored = refl
 
 -- ---- too little room
 
 unfoldable pub agrees : Out → ℕ → List ℕ → List ℕ → Bool
-agrees o answer octets table = eqb (o .answer) answer && same (o .octets) octets && same (saved (o .card)) table
+agrees o answer octets table = eqb (o .answer) answer && same (o .octets) octets && same (saved old (o .card)) table
 
 unfoldable pub savesRight : Bool
 savesRight =
-    agrees (save 389 swapped) 16 [] example && agrees (save 390 swapped) 0 example example
+    agrees (save old 389 swapped) 16 [] example && agrees (save old 390 swapped) 0 example example
     -- the last label given is not carried: reading takes the highest in use for it, or none where none is
-    && same (saved (withLast 200 swapped)) example && eqb (restore example (fresh 99) .card .last) 17
-    && eqb (restore (saved (withLast 200 (fresh 16))) (fresh 99) .card .last) 0
-    && agrees (save 14 (fresh 16)) 16 [] (saved (fresh 16)) && agrees (save 15 (fresh 16)) 0 (saved (fresh 16)) (saved (fresh 16))
+    && same (saved old (withLast 200 swapped)) example && eqb (restore old example (fresh 99) .card .last) 17
+    && eqb (restore old (saved old (withLast 200 (fresh 16))) (fresh 99) .card .last) 0
+    && agrees (save old 14 (fresh 16)) 16 [] (saved old (fresh 16)) && agrees (save old 15 (fresh 16)) 0 (saved old (fresh 16)) (saved old (fresh 16))
 
 pub room-shown : savesRight ≡ true
 unfolding computingSaves computing agrees savesRight B after swapped headOf routeA treeA treeB label16 label17 example A heard
@@ -187,7 +187,7 @@ inMapped n = withLabels (mapped 0 (wideB n) ∷ replicate 255 free) (fresh 16)
 -- the answers in so much room
 unfoldable pub answersIn : List ℕ → Card → List ℕ
 answersIn [] c = []
-answersIn (room ∷ rooms) c = save room c .answer ∷ answersIn rooms c
+answersIn (room ∷ rooms) c = save old room c .answer ∷ answersIn rooms c
 
 -- 16 and 0 by the room where the value has 32 octets; 19 in any room, none and more than any save takes, where it has 33
 unfoldable pub longRight : Bool
@@ -204,6 +204,6 @@ unfolding computingSaves computing longRight answersIn wide wideB inTree inBoth 
 long-shown = refl
 
 -- nothing is written, and the table stays
-pub long-stays : save 23343 (inBoth 33) ≡ record { answer = 19; octets = []; card = inBoth 33 }
+pub long-stays : save old 23343 (inBoth 33) ≡ record { answer = 19; octets = []; card = inBoth 33 }
 unfolding computingSaves computing wide inBoth after A
 long-stays = refl

@@ -1,27 +1,25 @@
 -- The save: what is written is read back as it was, octets that are taken are the save of the table that they give, and how long a save is.
 -- Assumes nothing.
-use Prim.Native.Nat.{ℕ, zero, suc, _+_, _*_, _-_, _/_, _%_, _≤_, _<_, suc-le-suc, zero-le}
+use Prim.Native.Nat.{ℕ, zero, suc, _+_, _*_, _-_, _≤_, _<_, suc-le-suc, zero-le}
+use native.Mathlib.Nat.{le-of-suc-le-suc, not-suc-le-zero}
 use native.Mathlib.Omega.{arith}
 use mathlib.Core.Logic.{_↔_}
-use mathlib.Core.Path.{_≡_, refl, sym, ap, _∙_, subst, ap₂}
-use mathlib.Core.Bool.{true, false, Bool}
+use mathlib.Core.Path.{_≡_, refl, sym, ap, ap₂, _∙_, subst}
+use mathlib.Core.Bool.{Bool, true, false, _&&_}
 use mathlib.Core.List.{List, [], _∷_, _++_}
-use lib.ListN.{take, drop, getD, length, set, replicate, length-append, length-take, length-drop}
+use lib.ListN.{drop, getD, length, replicate, length-append}
 use lib.Seq.{drop-at, drop-drop}
 use lib.Dec.{eqb, leb, ltb}
-use borrow.Author.Tests.{eqb-true, ltb-true, ltb-false, lt-ltb, le-ltb, le-leb, eqb-false, eq-eqb, ne-eqb}
-use Rattle.meaning.specs.Octets.{place, count, same, two, four, twoAt, fourAt, all, pick}
-use Rattle.meaning.specs.Lists.{by-test, picked, getD-same, getD-out, place-finds, place-count, place-only, count-some, same-eq, same-refl}
-use Rattle.meaning.specs.Card.{Tree, Use, free, mapped, awaiting, Card, labelCount, withLabel, named, bare, treePlace, treeOf, treeAt, useOf, freeLabels, isFree, withLast, heldFor, routeOf, routePlace}
-use Rattle.meaning.specs.Wire.{addressLength, familyIn, rootLength, opaqueIn, element, rootLimit}
+use borrow.Author.Tests.{eqb-true, eqb-false, eq-eqb, ne-eqb, le-leb, leb-true, ltb-true, ltb-false, lt-ltb, le-ltb}
+use Rattle.meaning.specs.Octets.{pick, place, count, all, same, two, four, twoAt, fourAt}
+use Rattle.meaning.specs.Lists.{by-test, getD-same, getD-out, place-finds, place-count, place-only, count-some, same-eq, same-refl}
+use Rattle.meaning.specs.Card.{Tree, Use, free, mapped, awaiting, Card, treeLimit, routeLimit, labelCount, named, bare, treePlace, treeOf, treeAt, useOf, isFree, freeLabels, withLast, heldFor, routeOf, routePlace}
 use Rattle.meaning.specs.Events.{refuse, roomShort, holderOf}
 use Rattle.meaning.specs.RoundTrip.{both, two-back}
 use Rattle.meaning.specs.NoticeLaws.{four-back}
-use Rattle.meaning.specs.Save.{marked, headSaved, routesSaved, treesSaved, usesSaved, saved, save, routesRead, treesRead, usesRead, isMappedFor, allLabelled, tableIn, isCarried, isTree, carriesOwn, keepsRules, isSave, restore, isShort, isShortTree, isShortUse, fitsSave, spacedIn, nameIn, treeRead, useRead, labelled, savedOpaque, headSize, routeSize, treeSize, useSize, saveLimit, highestUsed, settled, lastRight, allCarried, holdsRight}
-use Rattle.meaning.specs.SaveFields.{all-cons}
-use native.Mathlib.Nat.{le-of-suc-le-suc, not-suc-le-zero}
+use Rattle.meaning.specs.Save.{Form, old, new, headSize, routeSize, treeBeside, useBeside, spacedName, saveLimit, lastPlace, isShortTree, isShortUse, fitsSave, marked, lastSaved, headSaved, routesSaved, treesSaved, usesSaved, saved, save, routesRead, treesRead, treesEnd, usesRead, isMappedFor, allLabelled, highestUsed, settled, carriedBy, lastIn, lastRight, tableIn, isCarried, allCarried, isTree, carriesOwn, holdsRight, keepsRules, ruled, isSave, restore}
 use Rattle.meaning.specs.SaveRules.{all-at, Rules, rules}
-use Rattle.meaning.specs.SaveLists.{either, tree-ok, routes-length, routes-back, trees-length, trees-back, labelFor, labels-back, inUse, used-free, uses-length, uses-back}
+use Rattle.meaning.specs.SaveLists.{either, tree-ok, routes-length, routes-back, treesSize, trees-length, trees-old, trees-new, trees-fit, trees-back, trees-after, labelFor, labels-back, inUse, used-free, usesSize, uses-length, uses-old, uses-new, uses-fit, free-fit, trees-any, uses-any, uses-back}
 
 -- ---- a tree's label is that which is mapped for it
 
@@ -35,23 +33,46 @@ free-for-none : (a : List ℕ) → isMappedFor a free ≡ true → ⊥
 unfolding isMappedFor
 free-for-none a e = let z : _≡_ {A = ℕ} 0 1 = cc in omega arith
 
+-- ---- values that fit
+
+values-fit : (f : Form) (c : Card) → fitsSave f c ≡ true → (all (isShortTree f) (c .trees) ≡ true) × (all (isShortUse f) (c .labels) ≡ true)
+unfolding fitsSave
+values-fit f c room = both (all (isShortTree f) (c .trees)) (all (isShortUse f) (c .labels)) room
+
+-- The values of a table that is read find room in the form, whatever the octets.
+pub read-fits : (f : Form) (o : List ℕ) → fitsSave f (tableIn f o) ≡ true
+unfolding fitsSave tableIn
+read-fits f o =
+    let afterRoutes : List ℕ = drop (headSize f + getD o 11 0 * routeSize) o in
+    let afterTrees : List ℕ = treesEnd f (getD o 12 0) afterRoutes in
+    let us : List Use = usesRead f (fourAt o 3) (twoAt o 13) afterTrees (replicate labelCount free) in
+    rw (trees-fit f (fourAt o 3) us (getD o 12 0) afterRoutes) (uses-fit f (fourAt o 3) (twoAt o 13) afterTrees (replicate labelCount free) (free-fit f labelCount))
+
+-- In the new form any value does.
+pub fits-any : (c : Card) → fitsSave new c ≡ true
+unfolding fitsSave
+fits-any c = rw (trees-any (c .trees)) (uses-any (c .labels))
+
 -- ---- how long it is
+
+head-length : (f : Form) (c : Card) → length (headSaved f c) ≡ headSize f
+unfolding headSaved marked four two lastSaved
+head-length old c = refl
+head-length new c = refl
+
+-- for any table whose trees have sixteen branches
+pub length-is : (f : Form) (c : Card) → ((i : ℕ) → i < length (c .trees) → length (treeAt i c .branches) ≡ 16) → length (saved f c) ≡ headSize f + routeSize * length (c .routes) + treesSize f (c .trees) + usesSize f (c .labels)
+unfolding saved treeAt
+length-is f c sixteen = simp length-append (omega (arith, head-length f c, routes-length (c .routes), trees-length f (c .trees) sixteen, uses-length f (c .base) (c .labels)))
 
 module _ (c : Card) (many : length (c .labels) ≡ labelCount) where
   used-count : labelCount - freeLabels c ≡ count inUse (c .labels)
   unfolding freeLabels
   used-count = let n = used-free (c .labels) in omega arith
 
-  -- for any table of 256 labels, whose trees have sixteen branches
-  pub length-is : ((i : ℕ) → i < length (c .trees) → length (treeAt i c .branches) ≡ 16) → length (saved c) ≡ headSize + routeSize * length (c .routes) + treeSize * length (c .trees) + useSize * (labelCount - freeLabels c)
-  unfolding saved headSaved marked four two treeAt
-  length-is sixteen = simp length-append (omega (arith, routes-length (c .routes), trees-length (c .trees) sixteen, uses-length (c .base) (c .labels), used-count))
-
--- ---- a table that its form has the space for
-
-short-parts : (c : Card) → fitsSave c ≡ true → (all isShortTree (c .trees) ≡ true) × (all isShortUse (c .labels) ≡ true)
-unfolding fitsSave
-short-parts c s = both (all isShortTree (c .trees)) (all isShortUse (c .labels)) s
+  -- of the old form
+  pub length-old : ((i : ℕ) → i < length (c .trees) → length (treeAt i c .branches) ≡ 16) → length (saved old c) ≡ headSize old + routeSize * length (c .routes) + (treeBeside + spacedName) * length (c .trees) + (useBeside + spacedName) * (labelCount - freeLabels c)
+  length-old sixteen = omega (arith, length-is old c sixteen, trees-old (c .trees), uses-old (c .labels), used-count)
 
 -- ---- a table that keeps the rules
 
@@ -88,61 +109,92 @@ module _ (c : Card) (R : Rules c) where
       (λ z. sym (eqb-true _ _ z))
       (λ u. let in-place = placed a (treeAt i c .label) u in let out = ltb-false p (length (c .labels)) e in absurd (omega arith))))
 
-  -- ---- the head
+-- ---- the head
 
-  head-base : fourAt (saved c) 3 ≡ c .base
+after-head : (f : Form) (c : Card) → drop (headSize f) (saved f c) ≡ routesSaved (c .routes) ++ (treesSaved f (c .trees) ++ usesSaved f (c .base) (c .labels))
+unfolding saved headSaved marked four two lastSaved
+after-head old c = refl
+after-head new c = refl
+
+pub ruled-keeps : (f : Form) (c : Card) → ruled f c ≡ true → keepsRules c ≡ true
+unfolding ruled
+ruled-keeps old c h = h
+ruled-keeps new c h = both (keepsRules c) (lastRight c) h .0
+
+-- the last label given, where there is one, is of the block
+last-block : (c : Card) → lastRight c ≡ true → (c .last ≡ 0 → ⊥) → (c .base ≤ c .last) × (c .last < c .base + labelCount)
+unfolding lastRight
+last-block c right some =
+    let p : (leb (c .base) (c .last) && ltb (c .last) (c .base + 256)) ≡ true = rw (ne-eqb (c .last) 0 some) at right in
+    let q = both (leb (c .base) (c .last)) (ltb (c .last) (c .base + 256)) p in
+    (leb-true _ _ (q .0), ltb-true _ _ (q .1))
+
+-- and so of 32 bits
+last-small : (c : Card) → c .base ≤ 1048320 → lastRight c ≡ true → c .last < 4294967296
+last-small c low right = by-test (eqb (c .last) 0) (λ e. omega (arith, eqb-true (c .last) 0 e)) (λ e. omega (arith, last-block c right (eqb-false _ _ e) .1))
+
+last-back : (f : Form) (c : Card) → ruled f c ≡ true → lastIn f (saved f c) (c .base) (c .labels) ≡ carriedBy f c .last
+unfolding lastIn carriedBy ruled
+last-back old c h = unfold settled withLast in refl
+last-back new c h =
+    let p = both (keepsRules c) (lastRight c) h in
+    unfold saved headSaved marked four two lastSaved fourAt twoAt in four-back (c .last) (last-small c (rules c (p .0) .high) (p .1))
+
+-- all but the last label given is carried
+carried-is : (f : Form) (c : Card) → record { base = c .base; next = c .next; routes = c .routes; trees = c .trees; labels = c .labels; last = carriedBy f c .last } ≡ carriedBy f c
+unfolding carriedBy settled withLast
+carried-is old c = refl
+carried-is new c = refl
+
+module _ (f : Form) (c : Card) (R : Rules c) where
+  head-base : fourAt (saved f c) 3 ≡ c .base
   unfolding saved headSaved marked four two fourAt twoAt
   head-base = four-back (c .base) (omega (arith, R .high))
 
-  head-next : fourAt (saved c) 7 ≡ c .next
+  head-next : fourAt (saved f c) 7 ≡ c .next
   unfolding saved headSaved marked four two fourAt twoAt
   head-next = four-back (c .next) (R .next)
 
-  head-routes : getD (saved c) 11 0 ≡ length (c .routes)
+  head-routes : getD (saved f c) 11 0 ≡ length (c .routes)
   unfolding saved headSaved marked four two
   head-routes = refl
 
-  head-trees : getD (saved c) 12 0 ≡ length (c .trees)
+  head-trees : getD (saved f c) 12 0 ≡ length (c .trees)
   unfolding saved headSaved marked four two
   head-trees = refl
 
-  head-labels : twoAt (saved c) 13 ≡ count inUse (c .labels)
+  head-labels : twoAt (saved f c) 13 ≡ count inUse (c .labels)
   unfolding saved headSaved marked four two twoAt
   head-labels = two-back (labelCount - freeLabels c) (omega arith) ∙ used-count c (R .many)
 
-  after-head : drop headSize (saved c) ≡ routesSaved (c .routes) ++ (treesSaved (c .trees) ++ usesSaved (c .base) (c .labels))
-  unfolding saved headSaved marked four two
-  after-head = refl
-
-  after-routes : drop (headSize + length (c .routes) * routeSize) (saved c) ≡ treesSaved (c .trees) ++ usesSaved (c .base) (c .labels)
+  after-routes : drop (headSize f + length (c .routes) * routeSize) (saved f c) ≡ treesSaved f (c .trees) ++ usesSaved f (c .base) (c .labels)
   after-routes =
-      sym (drop-drop (length (c .routes) * routeSize) headSize (saved c))
-      ∙ ap (drop (length (c .routes) * routeSize)) after-head
-      ∙ drop-at (routesSaved (c .routes)) (treesSaved (c .trees) ++ usesSaved (c .base) (c .labels)) (length (c .routes) * routeSize) (routes-length (c .routes))
-
-  after-trees : drop (length (c .trees) * treeSize) (treesSaved (c .trees) ++ usesSaved (c .base) (c .labels)) ≡ usesSaved (c .base) (c .labels)
-  after-trees = drop-at (treesSaved (c .trees)) (usesSaved (c .base) (c .labels)) (length (c .trees) * treeSize) (trees-length (c .trees) (unfold treeAt in sixteen-each))
+      sym (drop-drop (length (c .routes) * routeSize) (headSize f) (saved f c))
+      ∙ ap (drop (length (c .routes) * routeSize)) (after-head f c)
+      ∙ drop-at (routesSaved (c .routes)) (treesSaved f (c .trees) ++ usesSaved f (c .base) (c .labels)) (length (c .routes) * routeSize) (routes-length (c .routes))
 
   -- ---- the three lists
 
-  its-routes : routesRead (length (c .routes)) (drop headSize (saved c)) ≡ c .routes
-  its-routes = rw after-head (routes-back (c .routes) (treesSaved (c .trees) ++ usesSaved (c .base) (c .labels)) (R .routes))
+  its-routes : routesRead (length (c .routes)) (drop (headSize f) (saved f c)) ≡ c .routes
+  its-routes = ap (routesRead (length (c .routes))) (after-head f c) ∙ routes-back (c .routes) (treesSaved f (c .trees) ++ usesSaved f (c .base) (c .labels)) (R .routes)
 
-  its-labels : all isShortUse (c .labels) ≡ true → usesRead (c .base) (count inUse (c .labels)) (usesSaved (c .base) (c .labels)) (replicate labelCount free) ≡ c .labels
-  its-labels s =
+  its-labels : fitsSave f c ≡ true → usesRead f (c .base) (count inUse (c .labels)) (usesSaved f (c .base) (c .labels)) (replicate labelCount free) ≡ c .labels
+  its-labels room =
       let at : c .base + 0 ≡ c .base = omega arith in
-      subst (λ (n : ℕ). usesRead (c .base) (count inUse (c .labels)) (usesSaved (c .base) (c .labels)) (replicate n free) ≡ c .labels) (R .many)
-      (subst (λ (b : ℕ). usesRead (c .base) (count inUse (c .labels)) (usesSaved b (c .labels)) (replicate (length (c .labels)) free) ≡ c .labels) at
-      (uses-back (c .base) [] (c .labels) (R .uses) s (omega (arith, R .high, R .many))))
+      subst (λ (n : ℕ). usesRead f (c .base) (count inUse (c .labels)) (usesSaved f (c .base) (c .labels)) (replicate n free) ≡ c .labels) (R .many)
+      (subst (λ (b : ℕ). usesRead f (c .base) (count inUse (c .labels)) (usesSaved f b (c .labels)) (replicate (length (c .labels)) free) ≡ c .labels) at
+      (uses-back f (c .base) [] (c .labels) (R .uses) (values-fit f c room .1) (omega (arith, R .high, R .many))))
 
-  its-trees : all isShortTree (c .trees) ≡ true → allLabelled (c .base) (c .labels) (treesRead (length (c .trees)) (treesSaved (c .trees) ++ usesSaved (c .base) (c .labels))) ≡ c .trees
-  its-trees s = ap (allLabelled (c .base) (c .labels)) (trees-back (c .trees) (usesSaved (c .base) (c .labels)) (R .trees) s) ∙ labels-back (c .base) (c .labels) (c .trees) (unfold treeAt in label-given)
+  its-trees : fitsSave f c ≡ true → allLabelled (c .base) (c .labels) (treesRead f (length (c .trees)) (treesSaved f (c .trees) ++ usesSaved f (c .base) (c .labels))) ≡ c .trees
+  its-trees room =
+      ap (allLabelled (c .base) (c .labels)) (trees-back f (c .trees) (usesSaved f (c .base) (c .labels)) (R .trees) (values-fit f c room .0))
+      ∙ labels-back (c .base) (c .labels) (c .trees) (unfold treeAt in label-given c R)
 
-  table-back : fitsSave c ≡ true → tableIn (saved c) ≡ settled c
-  unfolding tableIn settled withLast
-  table-back s =
-      let p = short-parts c s in
-      rw (head-base, head-next, head-routes, head-trees, head-labels, after-routes, after-trees, its-labels (p .1), its-routes, its-trees (p .0)) refl
+  table-back : ruled f c ≡ true → fitsSave f c ≡ true → tableIn f (saved f c) ≡ carriedBy f c
+  unfolding tableIn
+  table-back h room =
+      rw (head-base, head-next, head-routes, head-trees, head-labels, after-routes, trees-after f (c .trees) (usesSaved f (c .base) (c .labels)) (R .trees), its-labels room, its-routes, its-trees room, last-back f c h)
+      (carried-is f c)
 
 -- ---- the highest label in use
 
@@ -192,9 +244,9 @@ settled-right c some many =
 
 -- ---- the laws
 
--- The last label given is neither in what is written nor in the rules that a save asks for.
-pub settled-saved : (c : Card) → saved (settled c) ≡ saved c
-unfolding saved headSaved settled withLast freeLabels
+-- The last label given is neither in what the old form writes nor in the rules that it asks for.
+pub settled-saved : (c : Card) → saved old (settled c) ≡ saved old c
+unfolding saved headSaved lastSaved settled withLast freeLabels
 settled-saved c = refl
 
 carried-settled : (c : Card) (l : ℕ) (us : List Use) → allCarried (settled c) l us ≡ allCarried c l us
@@ -216,121 +268,113 @@ pub settled-twice : (c : Card) → settled (settled c) ≡ settled c
 unfolding settled withLast
 settled-twice c = refl
 
--- Reading back what was written gives the same table, but for the last label given: that is the highest in use.
-pub read-back : (c : Card) → keepsRules c ≡ true → fitsSave c ≡ true → tableIn (saved c) ≡ settled c
-read-back c h s = table-back c (rules c h) s
+pub settled-fits : (f : Form) (c : Card) → fitsSave f (settled c) ≡ fitsSave f c
+unfolding fitsSave settled withLast
+settled-fits f c = refl
 
-pub saved-length : (c : Card) → keepsRules c ≡ true → length (saved c) ≡ headSize + routeSize * length (c .routes) + treeSize * length (c .trees) + useSize * (labelCount - freeLabels c)
-saved-length c h = let R = rules c h in length-is c (R .many) (sixteen-each c R)
+-- What a form carries is written as the table is, and keeps the rules that it asks for.
+carried-saved : (f : Form) (c : Card) → saved f (carriedBy f c) ≡ saved f c
+unfolding carriedBy
+carried-saved old c = settled-saved c
+carried-saved new c = refl
 
-pub saved-short : (c : Card) → keepsRules c ≡ true → length (saved c) ≤ saveLimit
-saved-short c h = let R = rules c h in omega (arith, saved-length c h, R .few-routes, R .few-trees)
+carried-ruled : (f : Form) (c : Card) → ruled f c ≡ true → ruled f (carriedBy f c) ≡ true
+unfolding carriedBy ruled
+carried-ruled old c h = settled-rules c ∙ h
+carried-ruled new c h = h
 
--- A save with a value that is too long for its space is refused 19, whatever the room.
-pub save-long : (room : ℕ) (c : Card) → fitsSave c ≡ false → save room c ≡ refuse 19 c
-unfolding save
-save-long room c s = rw s refl
+-- Reading back what was written gives what the form carries: the same table, but in the old form for the last label given, which is the highest in use.
+pub read-back : (f : Form) (c : Card) → ruled f c ≡ true → fitsSave f c ≡ true → tableIn f (saved f c) ≡ carriedBy f c
+read-back f c h room = table-back f c (rules c (ruled-keeps f c h)) h room
 
--- Of the others one with too little room is refused 16; otherwise it is written whole.
-module _ (room : ℕ) (c : Card) (s : fitsSave c ≡ true) where
-  pub save-short : room < length (saved c) → save room c ≡ refuse 16 c
+pub saved-length : (f : Form) (c : Card) → keepsRules c ≡ true → length (saved f c) ≡ headSize f + routeSize * length (c .routes) + treesSize f (c .trees) + usesSize f (c .labels)
+saved-length f c h = length-is f c (sixteen-each c (rules c h))
+
+pub saved-short : (f : Form) (c : Card) → keepsRules c ≡ true → length (saved f c) ≤ saveLimit f
+saved-short old c h = let R = rules c h in omega (arith, length-old c (R .many) (sixteen-each c R), R .few-routes, R .few-trees)
+saved-short new c h = let R = rules c h in omega (arith, saved-length new c h, R .few-routes, R .few-trees, R .many, trees-new (c .trees), uses-new (c .labels))
+
+-- A value that is too long is refused 19, whatever the room; then too little room 16; otherwise the save is written whole.
+module _ (f : Form) (room : ℕ) (c : Card) where
+  pub save-long : fitsSave f c ≡ false → save f room c ≡ refuse 19 c
+  unfolding save
+  save-long h = rw h refl
+
+  pub save-short : fitsSave f c ≡ true → room < length (saved f c) → save f room c ≡ refuse 16 c
   unfolding save roomShort
-  save-short h = rw (s, lt-ltb room (length (saved c)) h) refl
+  save-short h k = rw (h, lt-ltb room (length (saved f c)) k) refl
 
-  pub save-whole : length (saved c) ≤ room → save room c ≡ record { answer = 0; octets = saved c; card = c }
+  pub save-whole : fitsSave f c ≡ true → length (saved f c) ≤ room → save f room c ≡ record { answer = 0; octets = saved f c; card = c }
   unfolding save roomShort
-  save-whole h = rw (s, le-ltb room (length (saved c)) h) refl
+  save-whole h k = rw (h, le-ltb room (length (saved f c)) k) refl
 
--- What a table writes that keeps the rules, and whose values have their space, is taken, and nothing else is.
-pub save-taken : (c : Card) → keepsRules c ≡ true → fitsSave c ≡ true → isSave (saved c) ≡ true
+-- What a table that keeps the rules, and whose values fit, writes is taken, and nothing else is.
+pub save-taken : (f : Form) (c : Card) → ruled f c ≡ true → fitsSave f c ≡ true → isSave f (saved f c) ≡ true
 unfolding isSave
-save-taken c h s = rw (read-back c h s, settled-rules c, settled-saved c, h, same-refl (saved c)) refl
+save-taken f c h room = rw (read-back f c h room, carried-ruled f c h, carried-saved f c, same-refl (saved f c)) refl
 
-pub taken-is-save : (o : List ℕ) → isSave o ≡ true → (keepsRules (tableIn o) ≡ true) × (saved (tableIn o) ≡ o)
+pub taken-is-save : (f : Form) (o : List ℕ) → isSave f o ≡ true → (ruled f (tableIn f o) ≡ true) × (saved f (tableIn f o) ≡ o)
 unfolding isSave
-taken-is-save o h = let p = both (keepsRules (tableIn o)) (same (saved (tableIn o)) o) h in (p .0, same-eq _ _ (p .1))
+taken-is-save f o h = let p = both (ruled f (tableIn f o)) (same (saved f (tableIn f o)) o) h in (p .0, same-eq _ _ (p .1))
+
+-- What the head of a save says: a reader that first tests this refuses no save, and afterwards all that it counts is small.
+pub record Head (o : List ℕ) : Type 0 where
+  pub low : 16 ≤ fourAt o 3
+  pub high : fourAt o 3 ≤ 1048320
+  pub routes : getD o 11 0 ≤ routeLimit
+  pub trees : getD o 12 0 ≤ treeLimit
+  pub labels : twoAt o 13 ≤ labelCount
+
+head-is : (f : Form) (c : Card) → Rules c → Head (saved f c)
+head-is f c R = record {
+  low = rw (head-base f c R) (R .low);
+  high = rw (head-base f c R) (R .high);
+  routes = rw (head-routes f c R) (R .few-routes);
+  trees = rw (head-trees f c R) (R .few-trees);
+  labels = rw (head-labels f c R) (omega (arith, used-free (c .labels), R .many));
+}
+
+pub head-of-save : (f : Form) (o : List ℕ) → isSave f o ≡ true → Head o
+head-of-save f o h = let p = taken-is-save f o h in subst Head (p .1) (head-is f (tableIn f o) (rules (tableIn f o) (ruled-keeps f (tableIn f o) (p .0))))
+
+-- And of the new form: its last label given is none, or one of the block.
+pub last-of-save : (o : List ℕ) → isSave new o ≡ true → (fourAt o lastPlace ≡ 0 → ⊥) → (fourAt o 3 ≤ fourAt o lastPlace) × (fourAt o lastPlace < fourAt o 3 + labelCount)
+unfolding tableIn lastIn ruled
+last-of-save o h some = last-block (tableIn new o) (both (keepsRules (tableIn new o)) (lastRight (tableIn new o)) (taken-is-save new o h .0) .1) some
 
 -- A table has one form.
-pub one-form : (o s : List ℕ) → isSave o ≡ true → isSave s ≡ true → tableIn o ≡ tableIn s → o ≡ s
-one-form o s h k e = sym (taken-is-save o h .1) ∙ ap saved e ∙ taken-is-save s k .1
+pub one-form : (f : Form) (o s : List ℕ) → isSave f o ≡ true → isSave f s ≡ true → tableIn f o ≡ tableIn f s → o ≡ s
+one-form f o s h k e = sym (taken-is-save f o h .1) ∙ ap (saved f) e ∙ taken-is-save f s k .1
 
--- And a form has one table, but for the last label given.
-pub one-table : (c d : Card) → keepsRules c ≡ true → keepsRules d ≡ true → fitsSave c ≡ true → fitsSave d ≡ true → saved c ≡ saved d → settled c ≡ settled d
-one-table c d h k s z e = sym (read-back c h s) ∙ ap tableIn e ∙ read-back d k z
+-- And a form has one table: in the old form but for the last label given.
+pub one-table : (f : Form) (c d : Card) → ruled f c ≡ true → fitsSave f c ≡ true → ruled f d ≡ true → fitsSave f d ≡ true → saved f c ≡ saved f d → carriedBy f c ≡ carriedBy f d
+one-table f c d h r k s e = sym (read-back f c h r) ∙ ap (tableIn f) e ∙ read-back f d k s
 
--- Over a card swap the table is the same but for the last label given, whatever stood.
-pub restored : (c : Card) → keepsRules c ≡ true → fitsSave c ≡ true → (d : Card) → restore (saved c) d ≡ record { answer = 0; octets = []; card = settled c }
+-- Over a card swap the table is the same, in the old form but for the last label given, whatever stood.
+pub restored : (f : Form) (c : Card) → ruled f c ≡ true → fitsSave f c ≡ true → (d : Card) → restore f (saved f c) d ≡ record { answer = 0; octets = []; card = carriedBy f c }
 unfolding restore
-restored c h s d = rw (save-taken c h s, read-back c h s) refl
+restored f c h room d = rw (save-taken f c h room, read-back f c h room) refl
+
+pub restore-taken : (f : Form) (o : List ℕ) (d : Card) → isSave f o ≡ true → restore f o d ≡ record { answer = 0; octets = []; card = tableIn f o }
+unfolding restore
+restore-taken f o d h = rw h refl
+
+-- In the new form: the same table, the last label given included, for every table that keeps the rules and has its last label right; and then a form has one table.
+pub read-back-new : (c : Card) → keepsRules c ≡ true → lastRight c ≡ true → tableIn new (saved new c) ≡ c
+unfolding carriedBy
+read-back-new c h k = read-back new c (unfold ruled in rw (h, k) refl) (fits-any c)
+
+pub one-table-new : (c d : Card) → keepsRules c ≡ true → lastRight c ≡ true → keepsRules d ≡ true → lastRight d ≡ true → saved new c ≡ saved new d → c ≡ d
+one-table-new c d h r k s e = sym (read-back-new c h r) ∙ ap (tableIn new) e ∙ read-back-new d k s
 
 -- Other octets are refused by 19, and the standing table stays.
-pub not-restored : (o : List ℕ) (d : Card) → isSave o ≡ false → restore o d ≡ refuse 19 d
+pub not-restored : (f : Form) (o : List ℕ) (d : Card) → isSave f o ≡ false → restore f o d ≡ refuse 19 d
 unfolding restore
-not-restored o d h = rw h refl
+not-restored f o d h = rw h refl
 
--- ---- what is read has its space in a save, whatever the octets are
-
-spaced-in : (n : ℕ) (o : List ℕ) → length (spacedIn n o) ≤ n
-unfolding spacedIn
-spaced-in n o = omega (arith, length-take (getD o 0 0) (take n (drop 1 o)), length-take n (drop 1 o))
-
-first-length : (root q : List ℕ) → length root ≡ 4 → length q ≤ savedOpaque → length (opaqueIn (element 1 root q)) ≤ savedOpaque
-unfolding opaqueIn rootLength familyIn addressLength twoAt element two
-first-length root q e h = rw length-drop (omega (arith, length-append root (length q / 256 % 256 ∷ length q % 256 ∷ q)))
-
-second-length : (root q : List ℕ) → length root ≤ rootLimit → length q ≤ savedOpaque → length (opaqueIn (element 2 root q)) ≤ savedOpaque
-unfolding opaqueIn rootLength familyIn addressLength twoAt element two
-second-length root q e h = rw length-drop (omega (arith, length-append root (length q / 256 % 256 ∷ length q % 256 ∷ q)))
-
-short-by : (a : List ℕ) → length (opaqueIn a) ≤ savedOpaque → isShort a ≡ true
-unfolding isShort
-short-by a h = le-leb _ _ h
-
-name-read : (o : List ℕ) → isShort (nameIn o) ≡ true
-unfolding nameIn
-name-read o =
-    by-test (eqb (length (spacedIn rootLimit o)) 4)
-    (λ e. rw e (short-by _ (first-length (spacedIn rootLimit o) (spacedIn savedOpaque (drop (1 + rootLimit) o)) (eqb-true _ _ e) (spaced-in savedOpaque (drop (1 + rootLimit) o)))))
-    (λ e. rw e (short-by _ (second-length (spacedIn rootLimit o) (spacedIn savedOpaque (drop (1 + rootLimit) o)) (spaced-in rootLimit o) (spaced-in savedOpaque (drop (1 + rootLimit) o)))))
-
-tree-short : (o : List ℕ) (base : ℕ) (us : List Use) → isShortTree (labelled base us (treeRead o)) ≡ true
-unfolding isShortTree labelled withLabel treeRead
-tree-short o base us = name-read (drop 3 o)
-
-trees-short : (n : ℕ) (o : List ℕ) (base : ℕ) (us : List Use) → all isShortTree (allLabelled base us (treesRead n o)) ≡ true
-unfolding treesRead allLabelled all
-trees-short zero o base us = refl
-trees-short (suc n) o base us = rw (tree-short o base us) (trees-short n (drop treeSize o) base us)
-
-use-short : (o : List ℕ) → isShortUse (useRead o) ≡ true
-unfolding useRead
-use-short o = picked (λ (u : Use). isShortUse u ≡ true) (eqb (getD o 7 0) 1) (λ _. unfold isShortUse in name-read (drop 9 o)) (λ _. unfold isShortUse in name-read (drop 9 o))
-
-set-short : (us : List Use) (i : ℕ) (u : Use) → all isShortUse us ≡ true → isShortUse u ≡ true → all isShortUse (set us i u) ≡ true
-unfolding all
-set-short [] i u h k = refl
-set-short (x ∷ us) zero u h k = rw k (all-cons isShortUse x us h .1)
-set-short (x ∷ us) (suc i) u h k = let p = all-cons isShortUse x us h in rw (p .0) (set-short us i u (p .1) k)
-
-uses-short : (base n : ℕ) (o : List ℕ) (us : List Use) → all isShortUse us ≡ true → all isShortUse (usesRead base n o us) ≡ true
-unfolding usesRead
-uses-short base zero o us h = h
-uses-short base (suc n) o us h = uses-short base n (drop useSize o) _ (set-short us (fourAt o 3 - base) (useRead o) h (use-short o))
-
-free-short : (n : ℕ) → all isShortUse (replicate n free) ≡ true
-unfolding all isShortUse
-free-short zero = refl
-free-short (suc n) = free-short n
-
-pub read-fits : (o : List ℕ) → fitsSave (tableIn o) ≡ true
-unfolding fitsSave tableIn
-read-fits o =
-    let us : List Use = usesRead (fourAt o 3) (twoAt o 13) (drop (getD o 12 0 * treeSize) (drop (headSize + getD o 11 0 * routeSize) o)) (replicate labelCount free) in
-    rw (trees-short (getD o 12 0) (drop (headSize + getD o 11 0 * routeSize) o) (fourAt o 3) us, uses-short (fourAt o 3) (twoAt o 13) (drop (getD o 12 0 * treeSize) (drop (headSize + getD o 11 0 * routeSize) o)) (replicate labelCount free) (free-short labelCount)) refl
-
--- 19 is given to octets that no table writes which keeps the rules and whose values have their space, and to no others.
-pub refused-exactly : (o : List ℕ) → isSave o ≡ false ↔ ((c : Card) → keepsRules c ≡ true → fitsSave c ≡ true → saved c ≡ o → ⊥)
-refused-exactly o = (
-  (λ h c k s e. let z : true ≡ false = sym (save-taken c k s) ∙ ap isSave e ∙ h in let z′ : _≡_ {A = ℕ} 0 1 = cc in omega arith),
-  (λ none. by-test (isSave o) (λ k. let p = taken-is-save o k in absurd (none (tableIn o) (p .0) (read-fits o) (p .1))) (λ k. k)),
+-- 19 is given to octets that no table keeping the rules, with values that fit, writes, and to no others.
+pub refused-exactly : (f : Form) (o : List ℕ) → isSave f o ≡ false ↔ ((c : Card) → ruled f c ≡ true → fitsSave f c ≡ true → saved f c ≡ o → ⊥)
+refused-exactly f o = (
+  (λ h c k r e. let z : true ≡ false = sym (save-taken f c k r) ∙ ap (isSave f) e ∙ h in let z′ : _≡_ {A = ℕ} 0 1 = cc in omega arith),
+  (λ none. by-test (isSave f o) (λ k. let p = taken-is-save f o k in absurd (none (tableIn f o) (p .0) (read-fits f o) (p .1))) (λ k. k)),
 )

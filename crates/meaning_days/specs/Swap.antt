@@ -7,7 +7,7 @@ use Rattle.meaning.specs.Computing.{computing}
 use Rattle.meaning.specs.Card.{Card}
 use Rattle.meaning.specs.Events.{Event, receive, join, leave, route, start}
 use Rattle.meaning.specs.Examples.{NoneWrong}
-use Rattle.meaning.specs.Save.{saved}
+use Rattle.meaning.specs.Save.{old, saved}
 use Rattle.meaning.specs.SaveExample.{computingSaves, after}
 use Rattle.meaning.specs.SaveRows.{Row, takes, refuses, right}
 
@@ -27,7 +27,7 @@ differ n c (s ∷ ss) =
     let d = after c (s .events) in
     let later = differ (suc n) d ss in
     let here = n ∷ later in
-    pick (same (saved d) (s .save) && right (takes (s .save)) && right (s .spoiled)) later here
+    pick (same (saved old d) (s .save) && right old (takes (s .save)) && right old (s .spoiled)) later here
 
 unfoldable pub day : List Step
 day =

@@ -1,1 +1,3 @@
 pub mod Tables
+pub mod NewExample
+pub mod TablesNew

@@ -1,4 +1,4 @@
--- Which octets are taken as a save, and which are refused by 19: both sides of each rule, in small tables that one statement computes.
+-- Which octets are taken as a save of the old form, and which are refused by 19: both sides of each rule, in small tables that one statement computes.
 -- Assumes nothing.
 use Prim.Native.Nat.{ℕ, zero, suc, _+_}
 use mathlib.Core.List.{List, [], _∷_, _++_}
@@ -6,6 +6,7 @@ use lib.ListN.{take, drop, replicate, length}
 use Rattle.meaning.specs.Octets.{four}
 use Rattle.meaning.specs.Computing.{computing}
 use Rattle.meaning.specs.Examples.{NoneWrong}
+use Rattle.meaning.specs.Save.{old}
 use Rattle.meaning.specs.SaveExample.{computingSaves, headOf, routeA, treeA, treeB, label16, label17, example}
 use Rattle.meaning.specs.SaveRows.{Row, takes, refuses, right, wrong}
 
@@ -287,21 +288,21 @@ sizes =
     []
 
 -- A table with a wrong row is named by the refusal of its `tt`; where the rows are few, with the row's number.
-pub rows-shown : NoneWrong (wrong 1 lengths)
-    × NoneWrong (wrong 1 marks)
-    × NoneWrong (wrong 1 counts)
-    × NoneWrong (wrong 1 heads)
-    × NoneWrong (wrong 1 orders)
-    × NoneWrong (wrong 1 routes)
-    × NoneWrong (wrong 1 treeNames)
-    × NoneWrong (wrong 1 branches)
-    × NoneWrong (wrong 1 twoTrees)
-    × NoneWrong (wrong 1 labelOrder)
-    × NoneWrong (wrong 1 block)
-    × NoneWrong (wrong 1 labelFields)
-    × NoneWrong (wrong 1 awaited)
-    × NoneWrong (wrong 1 carried)
-    × NoneWrong (wrong 1 unlabelled)
-    × NoneWrong (wrong 1 sizes)
+pub rows-shown : NoneWrong (wrong old 1 lengths)
+    × NoneWrong (wrong old 1 marks)
+    × NoneWrong (wrong old 1 counts)
+    × NoneWrong (wrong old 1 heads)
+    × NoneWrong (wrong old 1 orders)
+    × NoneWrong (wrong old 1 routes)
+    × NoneWrong (wrong old 1 treeNames)
+    × NoneWrong (wrong old 1 branches)
+    × NoneWrong (wrong old 1 twoTrees)
+    × NoneWrong (wrong old 1 labelOrder)
+    × NoneWrong (wrong old 1 block)
+    × NoneWrong (wrong old 1 labelFields)
+    × NoneWrong (wrong old 1 awaited)
+    × NoneWrong (wrong old 1 carried)
+    × NoneWrong (wrong old 1 unlabelled)
+    × NoneWrong (wrong old 1 sizes)
 unfolding computingSaves computing right wrong over counted none inHead inRoute inA in16 in17 otherRoute bAlone forA forB withLabels heldA someRoutes someTrees someLabels lengths marks counts heads orders routes treeNames branches twoTrees labelOrder block labelFields awaited carried unlabelled sizes headOf routeA treeA treeB label16 label17 example
 rows-shown = (tt, tt, tt, tt, tt, tt, tt, tt, tt, tt, tt, tt, tt, tt, tt, tt)

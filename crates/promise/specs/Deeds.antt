@@ -1,4 +1,4 @@
--- DEMAND 3 WITH ALL THAT IS DONE WITH A CARD: events, notices to neighbours, saves, card swaps, refused restores and new starts, in any order and number.
+-- DEMAND 3 WITH ALL THAT IS DONE WITH A CARD: events, notices to neighbours, saves, card swaps by either form, refused restores and new starts, in any order and number.
 -- Assumes nothing.
 use Prim.Native.Nat.{ℕ, _<_}
 use native.Mathlib.Omega.{arith}
@@ -9,7 +9,7 @@ use Rattle.meaning.specs.Octets.{two, four, twoAt}
 use Rattle.meaning.specs.Wire.{nextId, messageIn, recordsF, recordsIn}
 use Rattle.meaning.specs.Card.{Card, withNext, treeOf, treePlace, treeAt, useOf, heldFor, freeLabels, routeOf, routePlace}
 use Rattle.meaning.specs.Events.{Out, refuse, accept, roomShort, noNeighbour, holderOf, start}
-use Rattle.meaning.specs.Save.{saved, save, keepsRules, isSave, restore, fitsSave}
+use Rattle.meaning.specs.Save.{Form, saved, save, ruled, isSave, restore, fitsSave}
 use Rattle.meaning.specs.Notice.{noticeDue, noticeRecord, notice}
 use Rattle.meaning.specs.Lists.{picked}
 use Rattle.meaning.specs.NoticeLaws.{spread, record-spread}
@@ -17,20 +17,22 @@ use Rattle.promise.specs.Promise.{Given, noteSent, noteAll, Step, Past, 
 use Rattle.promise.specs.LabelLaws.{spent-eq}
 use Rattle.promise.specs.PromiseProof.{Upheld, then-upheld, started, kept}
 use Rattle.promise.specs.SaveSteps.{Writable, then-writable}
-use Rattle.promise.specs.SaveKept.{start-writable, past-keeps-rules, swapped, swapped-same, resettled, resettled-upheld, resettled-writable}
+use Rattle.promise.specs.SaveKept.{start-writable, past-ruled, swapped, swapped-same, carriedOn, movedOver, carried, carried-upheld, carried-writable, either-way, moved-way}
 
 -- does: an event.
 -- tells: a notice: the room that it has, the neighbour, the number of a refusal, the refused octets.
--- saves: a save, with the room that it has.
--- swaps: a swap for a card on which any table stands: the save of this card is restored there, with no event between. A notice takes an identifier: between a save and its restore it counts as an event, and nothing is claimed.
+-- saves: a save in one of the forms, with the room that it has.
+-- swaps: a swap for a card on which any table stands: the save of this card, in one of the forms, is restored there, with no event between. A notice takes an identifier: between a save and its restore it counts as an event, and nothing is claimed.
+-- moves: a swap where the save is moved from one form to the other on the way, with the room that this has.
 -- restores: a restore of those octets on this card, by which nothing is swapped: only of a refused one is anything claimed (`Claimed`).
 -- starts: a start with that base, by which a new history begins.
 pub data Deed : Type 0 where
   does : Step → Deed
   tells : ℕ → ℕ → ℕ → List ℕ → Deed
-  saves : ℕ → Deed
-  swaps : Card → Deed
-  restores : List ℕ → Deed
+  saves : Form → ℕ → Deed
+  swaps : Form → Card → Deed
+  moves : Form → Form → ℕ → Card → Deed
+  restores : Form → List ℕ → Deed
   starts : ℕ → Deed
 
 -- of a notice the messages count as of any output, by what a reader finds in its octets
@@ -39,9 +41,10 @@ thenDeed p (does s) = thenStep p s
 thenDeed p (tells room n number s) =
     let o = notice room (p .card) n number s in
     record { card = o .card; live = noteAll (recordsIn (o .octets)) (p .live); accepted = p .accepted }
-thenDeed p (saves room) = record { card = save room (p .card) .card; live = p .live; accepted = p .accepted }
-thenDeed p (swaps d) = swapped p d
-thenDeed p (restores o) = record { card = restore o (p .card) .card; live = p .live; accepted = p .accepted }
+thenDeed p (saves f room) = record { card = save f room (p .card) .card; live = p .live; accepted = p .accepted }
+thenDeed p (swaps f d) = swapped f p d
+thenDeed p (moves f g room d) = movedOver f g room p d
+thenDeed p (restores f o) = record { card = restore f o (p .card) .card; live = p .live; accepted = p .accepted }
 thenDeed p (starts base) = begun base
 
 unfoldable pub thenDeeds : Past → List Deed → Past
@@ -52,9 +55,10 @@ thenDeeds p (d ∷ ds) = thenDeeds (thenDeed p d) ds
 unfoldable pub IsClaimed : Past → Deed → Type 0
 IsClaimed p (does s) = Unit {0}
 IsClaimed p (tells room n number s) = Unit {0}
-IsClaimed p (saves room) = Unit {0}
-IsClaimed p (swaps d) = Unit {0}
-IsClaimed p (restores o) = restore o (p .card) .answer ≡ 0 → ⊥
+IsClaimed p (saves f room) = Unit {0}
+IsClaimed p (swaps f d) = Unit {0}
+IsClaimed p (moves f g room d) = Unit {0}
+IsClaimed p (restores f o) = restore f o (p .card) .answer ≡ 0 → ⊥
 IsClaimed p (starts base) = Unit {0}
 
 unfoldable pub Claimed : Past → List Deed → Type 0
@@ -110,33 +114,34 @@ module _ (P : Past → Type 0) (p : Past) (small : p .card .next < 4294967296) (
 
 -- ---- a save, and a refused restore
 
-save-same : (room : ℕ) (c : Card) → save room c .card ≡ c
+save-same : (f : Form) (room : ℕ) (c : Card) → save f room c .card ≡ c
 unfolding save refuse
-save-same room c =
-    picked (λ (o : Out). o .card ≡ c) (fitsSave c) (λ _. picked (λ (o : Out). o .card ≡ c) (roomShort room (saved c)) (λ _. refl) (λ _. refl)) (λ _. refl)
+save-same f room c =
+    picked (λ (o : Out). o .card ≡ c) (fitsSave f c) (λ _. picked (λ (o : Out). o .card ≡ c) (roomShort room (saved f c)) (λ _. refl) (λ _. refl)) (λ _. refl)
 
-restore-same : (o : List ℕ) (c : Card) → (restore o c .answer ≡ 0 → ⊥) → restore o c .card ≡ c
+restore-same : (f : Form) (o : List ℕ) (c : Card) → (restore f o c .answer ≡ 0 → ⊥) → restore f o c .card ≡ c
 unfolding restore refuse
-restore-same o c = picked (λ (x : Out). (x .answer ≡ 0 → ⊥) → x .card ≡ c) (isSave o) (λ _ n. absurd (n refl)) (λ _ _. refl)
+restore-same f o c = picked (λ (x : Out). (x .answer ≡ 0 → ⊥) → x .card ≡ c) (isSave f o) (λ _ n. absurd (n refl)) (λ _ _. refl)
 
 -- ---- any deed, and any number of them
 
-module _ (P : Past → Type 0) (p : Past) (h : P p) (small : p .card .next < 4294967296) (u : keepsRules (p .card) ≡ true)
-    (step : (s : Step) → P (thenStep p s)) (new : (base : ℕ) → P (begun base)) (settles : P (resettled p)) (goes : (id : ℕ) → id < 4294967296 → P (renumbered id p)) where
+module _ (P : Past → Type 0) (p : Past) (h : P p) (small : p .card .next < 4294967296) (u : (f : Form) → ruled f (p .card) ≡ true)
+    (step : (s : Step) → P (thenStep p s)) (new : (base : ℕ) → P (begun base)) (carries : (f : Form) → P (carried f p)) (twice : (f g : Form) → P (carried g (carried f p))) (goes : (id : ℕ) → id < 4294967296 → P (renumbered id p)) where
   deed-keeps : (d : Deed) → IsClaimed p d → P (thenDeed p d)
   unfolding thenDeed IsClaimed
   deed-keeps (does s) k = step s
   deed-keeps (tells room n number s) k = unfold thenDeed in told P p small h goes room n number s
-  deed-keeps (saves room) k = rw (save-same room (p .card)) h
-  deed-keeps (swaps d) k = rw (swapped-same p u d) settles
-  deed-keeps (restores o) k = rw (restore-same o (p .card) k) h
+  deed-keeps (saves f room) k = rw (save-same f room (p .card)) h
+  deed-keeps (swaps f d) k = rw (swapped-same f p (u f) d) (either-way P f p h (carries f))
+  deed-keeps (moves f g room d) k = moved-way P f g room p (u f) h (twice f g) d
+  deed-keeps (restores f o) k = rw (restore-same f o (p .card) k) h
   deed-keeps (starts base) k = new base
 
 pub deed-upheld : (p : Past) (d : Deed) → Upheld p → Writable p → IsClaimed p d → Upheld (thenDeed p d)
-deed-upheld p d u w = deed-keeps Upheld p u (w .next) (past-keeps-rules p u w) (λ s. then-upheld p s u) started (resettled-upheld p u) (λ id _. renumbered-upheld id p u) d
+deed-upheld p d u w = deed-keeps Upheld p u (w .next) (past-ruled p u w) (λ s. then-upheld p s u) started (λ f. carried-upheld f p u) (λ f g. carried-upheld g (carried f p) (carried-upheld f p u)) (λ id _. renumbered-upheld id p u) d
 
 pub deed-writable : (p : Past) (d : Deed) → Upheld p → Writable p → IsClaimed p d → Writable (thenDeed p d)
-deed-writable p d u w = deed-keeps Writable p w (w .next) (past-keeps-rules p u w) (λ s. then-writable p s u w) start-writable (resettled-writable p w) (λ id h. renumbered-writable id p h w) d
+deed-writable p d u w = deed-keeps Writable p w (w .next) (past-ruled p u w) (λ s. then-writable p s u w) start-writable (λ f. carried-writable f p w) (λ f g. carried-writable g (carried f p) (carried-writable f p w)) (λ id h. renumbered-writable id p h w) d
 
 deeds-upheld : (p : Past) (ds : List Deed) → Upheld p → Writable p → Claimed p ds → Upheld (thenDeeds p ds)
 unfolding thenDeeds Claimed

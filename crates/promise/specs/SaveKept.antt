@@ -12,12 +12,14 @@ use borrow.Author.Tests.{eqb-false, eq-eqb, le-leb, lt-ltb, ltb-false, eqb-true}
 use Rattle.meaning.specs.Octets.{same, all, pick}
 use Rattle.meaning.specs.Wire.{mapping, withdraw, messageIn, elementRefusal}
 use Rattle.meaning.specs.Card.{Tree, Use, free, mapped, awaiting, Card, fresh, withNext, bare, treeOf, treeAt, isBranch, isEmpty, useOf, withLast, treePlace, heldFor, freeLabels, routeOf, routePlace}
-use Rattle.meaning.specs.Events.{refuse, accept, Event, receive, join, leave, route, baseOutside, start, holderOf, lost}
+use Rattle.meaning.specs.Events.{Out, refuse, accept, Event, receive, join, leave, route, baseOutside, start, holderOf, lost}
 use Rattle.meaning.specs.Lists.{by-test, picked, same-refl}
-use Rattle.meaning.specs.Save.{isName, isBranchLabel, isTree, isUse, isCarried, isMappedFor, carriesOwn, keepsRules, saved, restore, fitsSave, settled, lastRight}
+use Rattle.meaning.specs.Save.{Form, old, new, isName, isBranchLabel, isTree, isUse, isCarried, isMappedFor, carriesOwn, keepsRules, saved, restore, fitsSave, settled, carriedBy, lastRight, ruled, tableIn, isSave, Moved, move}
 use Rattle.meaning.specs.SaveFields.{all-cons}
+use Rattle.meaning.specs.RoundTrip.{both}
 use Rattle.meaning.specs.SaveRules.{all-of, Rules, rules-kept}
-use Rattle.meaning.specs.SaveLaws.{restored, highest-none, highest-block}
+use Rattle.meaning.specs.SaveLaws.{fits-any, read-back, save-taken, restored, highest-none, highest-block}
+use Rattle.meaning.specs.SaveMoves.{Taken, move-taken, moved-restored}
 use Rattle.promise.specs.Promise.{Given, ofLabel, withoutLabel, saidBy, branchesSaid, Step, Past, thenSteps, begun, history, Each, Promise, branchesBy}
 use Rattle.promise.specs.LiveLaws.{isMapped, only, givens, Books}
 use Rattle.promise.specs.CardLaws.{Proper, at-proper, at-named}
@@ -165,23 +167,54 @@ history-writable base steps = steps-writable _ steps (started base) (start-writa
 pub history-keeps-rules : (base : ℕ) (steps : List Step) → keepsRules (history base steps .card) ≡ true
 history-keeps-rules base steps = past-keeps-rules (history base steps) (history-upheld base steps) (history-writable base steps)
 
+-- After any history the last label given is of the block, and none only while no label is in use.
+spent-right : (c : Card) → Spent c → lastRight c ≡ true
+unfolding lastRight
+spent-right c s =
+    by-test (eqb (c .last) 0)
+    (λ e. rw e (eq-eqb _ _ (s .none (eqb-true _ _ e))))
+    (λ e. let p = s .block (eqb-false _ _ e) in rw (e, le-leb (c .base) (c .last) (p .0), lt-ltb (c .last) (c .base + 256) (p .1)) refl)
+
+pub history-last : (base : ℕ) (steps : List Step) → lastRight (history base steps .card) ≡ true
+history-last base steps = spent-right (history base steps .card) (history-upheld base steps .sound .last)
+
+-- So it keeps the rules that either form asks for.
+pub past-ruled : (p : Past) → Upheld p → Writable p → (f : Form) → ruled f (p .card) ≡ true
+unfolding ruled
+past-ruled p u w old = past-keeps-rules p u w
+past-ruled p u w new = rw (past-keeps-rules p u w, spent-right (p .card) (u .sound .last)) refl
+
+pub history-ruled : (base : ℕ) (steps : List Step) (f : Form) → ruled f (history base steps .card) ≡ true
+history-ruled base steps = past-ruled (history base steps) (history-upheld base steps) (history-writable base steps)
+
 -- ---- over a card swap
 
--- what goes on after the save of the last card is restored, with no event between, on a card where any table stands; where 19 refuses the
--- save there is no swap
-unfoldable pub swapped : Past → Card → Past
-swapped p d = record { card = pick (fitsSave (p .card)) (restore (saved (p .card)) d .card) (p .card); live = p .live; accepted = p .accepted }
+-- what goes on after the save of the last card, in one of the forms, is restored, with no event between, on a card where any table stands;
+-- where 19 refuses the save there is no swap
+unfoldable pub swapped : Form → Past → Card → Past
+swapped f p d = record { card = pick (fitsSave f (p .card)) (restore f (saved f (p .card)) d .card) (p .card); live = p .live; accepted = p .accepted }
 
--- The table is the same but for the last label given: that is the highest in use.
-unfoldable pub resettled : Past → Past
-resettled p = record { card = pick (fitsSave (p .card)) (settled (p .card)) (p .card); live = p .live; accepted = p .accepted }
+-- The table is what the form carries: in the new form the same, in the old one but for the last label given, which is the highest in use.
+unfoldable pub carriedOn : Form → Past → Past
+carriedOn f p = record { card = pick (fitsSave f (p .card)) (carriedBy f (p .card)) (p .card); live = p .live; accepted = p .accepted }
 
-pub swapped-same : (p : Past) → keepsRules (p .card) ≡ true → (d : Card) → swapped p d ≡ resettled p
-unfolding swapped resettled
-swapped-same p h d =
-    by-test (fitsSave (p .card))
-    (λ e. rw (e, restored (p .card) h e d) refl)
+pub swapped-same : (f : Form) (p : Past) → ruled f (p .card) ≡ true → (d : Card) → swapped f p d ≡ carriedOn f p
+unfolding swapped carriedOn
+swapped-same f p h d =
+    by-test (fitsSave f (p .card))
+    (λ e. rw (e, restored f (p .card) h e d) refl)
     (λ e. rw e refl)
+
+-- By the new form nothing is lost.
+pub carried-on-new : (p : Past) → carriedOn new p ≡ p
+unfolding carriedOn carriedBy
+carried-on-new p = rw (fits-any (p .card)) refl
+
+-- where the save is moved from one form to the other on the way, in so much room; where 19 or 16 refuses the save or the move there is no swap
+unfoldable pub movedOver : Form → Form → ℕ → Past → Card → Past
+movedOver f g room p d =
+    let m = move f g room (saved f (p .card)) in
+    record { card = pick (fitsSave f (p .card) && eqb (m .answer) 0) (restore g (m .octets) d .card) (p .card); live = p .live; accepted = p .accepted }
 
 settled-spent : (c : Card) → 16 ≤ c .base → length (c .labels) ≡ 256 → Spent (settled c)
 unfolding settled withLast freeLabels
@@ -190,58 +223,66 @@ settled-spent c low many = record {
   block = λ z. let p = highest-block (c .base) (c .labels) z in (p .0, omega (arith, p .1));
 }
 
--- the past of a card whose last label given is the highest in use
-unfoldable highest : Past → Past
-highest p = record { card = settled (p .card); live = p .live; accepted = p .accepted }
+-- the past of a card with what the form carries
+unfoldable pub carried : Form → Past → Past
+carried f p = record { card = carriedBy f (p .card); live = p .live; accepted = p .accepted }
 
-highest-upheld : (p : Past) → Upheld p → Upheld (highest p)
-unfolding highest settled withLast treeOf treePlace useOf freeLabels
-highest-upheld p u = record {
+pub carried-upheld : (f : Form) (p : Past) → Upheld p → Upheld (carried f p)
+unfolding carried carriedBy settled withLast treeOf treePlace useOf freeLabels
+carried-upheld old p u = record {
   sound = record { tidy = u .sound .tidy; low = u .sound .low; high = u .sound .high; many = u .sound .many; linked = u .sound .linked; books = u .sound .books; sum = u .sound .sum; last = unfold settled withLast in settled-spent (p .card) (u .sound .low) (u .sound .many) };
   reads = u .reads;
   ruled = unfold treeAt heldFor holderOf routeOf routePlace in record { roots = u .ruled .roots; full = u .ruled .full; held = u .ruled .held; trees = u .ruled .trees; routes = u .ruled .routes };
   routed = λ q. unfold routeOf routePlace in u .routed q;
 }
+carried-upheld new p u = u
 
-highest-writable : (p : Past) → Writable p → Writable (highest p)
-unfolding highest settled withLast
-highest-writable p w = record { next = w .next; routes = w .routes; passed = w .passed; told = w .told }
+pub carried-writable : (f : Form) (p : Past) → Writable p → Writable (carried f p)
+unfolding carried carriedBy settled withLast
+carried-writable old p w = record { next = w .next; routes = w .routes; passed = w .passed; told = w .told }
+carried-writable new p w = w
 
-either-way : (P : Past → Type 0) (p : Past) → P p → P (highest p) → P (resettled p)
-unfolding resettled highest
-either-way P p stays goes = by-test (fitsSave (p .card)) (λ e. rw e goes) (λ e. rw e stays)
+-- Whatever holds of a past, and of it with what the form carries, holds after a swap,
+pub either-way : (P : Past → Type 0) (f : Form) (p : Past) → P p → P (carried f p) → P (carriedOn f p)
+unfolding carriedOn carried
+either-way P f p stays goes = by-test (fitsSave f (p .card)) (λ e. rw e goes) (λ e. rw e stays)
 
-pub resettled-upheld : (p : Past) → Upheld p → Upheld (resettled p)
-resettled-upheld p u = either-way Upheld p u (highest-upheld p u)
+-- and with what both carry, after a swap with a move on the way.
+moved-card : (f g : Form) (room : ℕ) (c d : Card) → ruled f c ≡ true → fitsSave f c ≡ true → move f g room (saved f c) .answer ≡ 0 → restore g (move f g room (saved f c) .octets) d .card ≡ carriedBy g (carriedBy f c)
+moved-card f g room c d h s e =
+    let o : List ℕ = saved f c in
+    let t : Taken f g room o = move-taken f g room o e in
+    ap (λ (r : Out). r .card) (moved-restored f g o (t .save) (t .fits) room (t .short) d) ∙ ap (λ (r : Out). carriedBy g (r .card)) (restored f c h s d)
 
-pub resettled-writable : (p : Past) → Writable p → Writable (resettled p)
-resettled-writable p w = either-way Writable p w (highest-writable p w)
+pub moved-way : (P : Past → Type 0) (f g : Form) (room : ℕ) (p : Past) → ruled f (p .card) ≡ true → P p → P (carried g (carried f p)) → (d : Card) → P (movedOver f g room p d)
+unfolding movedOver carried
+moved-way P f g room p h stays goes d =
+    let c : Card = p .card in
+    let m : Moved = move f g room (saved f c) in
+    picked (λ (k : Card). P (record { card = k; live = p .live; accepted = p .accepted })) (fitsSave f c && eqb (m .answer) 0)
+    (λ e. let q = both (fitsSave f c) (eqb (m .answer) 0) e in
+    subst (λ (k : Card). P (record { card = k; live = p .live; accepted = p .accepted })) (sym (moved-card f g room c d h (q .0) (eqb-true _ _ (q .1)))) goes)
+    (λ _. stays)
 
-pub swap-upheld : (p : Past) → Upheld p → keepsRules (p .card) ≡ true → (d : Card) → Upheld (swapped p d)
-swap-upheld p u h d = rw (swapped-same p h d) (resettled-upheld p u)
+pub swap-upheld : (f : Form) (p : Past) → Upheld p → ruled f (p .card) ≡ true → (d : Card) → Upheld (swapped f p d)
+swap-upheld f p u h d = rw (swapped-same f p h d) (either-way Upheld f p u (carried-upheld f p u))
 
 -- the promise, over a swap and all further steps
-pub swap-kept : (p : Past) → Upheld p → keepsRules (p .card) ≡ true → (d : Card) (more : List Step) → Promise (thenSteps (swapped p d) more)
-swap-kept p u h d more = kept (thenSteps (swapped p d) more) (steps-upheld (swapped p d) more (swap-upheld p u h d))
+pub swap-kept : (f : Form) (p : Past) → Upheld p → ruled f (p .card) ≡ true → (d : Card) (more : List Step) → Promise (thenSteps (swapped f p d) more)
+swap-kept f p u h d more = kept (thenSteps (swapped f p d) more) (steps-upheld (swapped f p d) more (swap-upheld f p u h d))
 
 -- DEMAND 3 CONTINUES: after any history, a save, its restore on another card, and any further steps.
-pub promise-continues : (base : ℕ) (steps : List Step) (d : Card) (more : List Step) → Promise (thenSteps (swapped (history base steps) d) more)
-promise-continues base steps d more = swap-kept (history base steps) (history-upheld base steps) (history-keeps-rules base steps) d more
+pub promise-continues : (f : Form) (base : ℕ) (steps : List Step) (d : Card) (more : List Step) → Promise (thenSteps (swapped f (history base steps) d) more)
+promise-continues f base steps d more = swap-kept f (history base steps) (history-upheld base steps) (history-ruled base steps f) d more
 
--- The save of a table after any history, where its values have their space, is read back as that table, but for the last label given.
-pub history-restored : (base : ℕ) (steps : List Step) (d : Card) → fitsSave (history base steps .card) ≡ true → restore (saved (history base steps .card)) d ≡ record { answer = 0; octets = []; card = settled (history base steps .card) }
-history-restored base steps d s = restored (history base steps .card) (history-keeps-rules base steps) s d
+-- The save of a table after any history, where its values have their space, is read back as that table, in the old form but for the last label given.
+pub history-restored : (f : Form) (base : ℕ) (steps : List Step) (d : Card) → fitsSave f (history base steps .card) ≡ true → restore f (saved f (history base steps .card)) d ≡ record { answer = 0; octets = []; card = carriedBy f (history base steps .card) }
+history-restored f base steps d s = restored f (history base steps .card) (history-ruled base steps f) s d
 
--- And what follows is what would have followed, without the swap, from a card whose last label given is the highest in use; so that swaps may be many.
-pub swap-goes-on : (base : ℕ) (steps : List Step) (d : Card) (more : List Step) → thenSteps (swapped (history base steps) d) more ≡ thenSteps (resettled (history base steps)) more
-swap-goes-on base steps d more = ap (λ (p : Past). thenSteps p more) (swapped-same (history base steps) (history-keeps-rules base steps) d)
+-- And what follows is what would have followed, without the swap, from a card with what the form carries; so that swaps may be many.
+pub swap-goes-on : (f : Form) (base : ℕ) (steps : List Step) (d : Card) (more : List Step) → thenSteps (swapped f (history base steps) d) more ≡ thenSteps (carriedOn f (history base steps)) more
+swap-goes-on f base steps d more = ap (λ (p : Past). thenSteps p more) (swapped-same f (history base steps) (history-ruled base steps f) d)
 
--- After any history the last label given is of the block, and none only while no label is in use.
-pub history-last : (base : ℕ) (steps : List Step) → lastRight (history base steps .card) ≡ true
-history-last base steps = right (history base steps .card) (history-upheld base steps .sound .last)
-  where
-    right : (c : Card) → Spent c → lastRight c ≡ true
-    right c s =
-        unfold lastRight in by-test (eqb (c .last) 0)
-        (λ e. rw e (eq-eqb _ _ (s .none (eqb-true _ _ e))))
-        (λ e. let p = s .block (eqb-false _ _ e) in rw (e, le-leb (c .base) (c .last) (p .0), lt-ltb (c .last) (c .base + 256) (p .1)) refl)
+-- By the new form all that follows is what would have followed without a swap.
+pub swap-new-goes-on : (base : ℕ) (steps : List Step) (d : Card) (more : List Step) → thenSteps (swapped new (history base steps) d) more ≡ thenSteps (history base steps) more
+swap-new-goes-on base steps d more = swap-goes-on new base steps d more ∙ ap (λ (p : Past). thenSteps p more) (carried-on-new (history base steps))
