@@ -22,23 +22,25 @@ pub const SAVED_OPAQUE: usize = 32;
 
 pub const SAVED_ROOT_SPACE: usize = 1 + ROOT_LIMIT;
 
-pub const HEAD_SIZE: usize = 15;
+// the head of the old form ends where the new one has the last label given
+pub const LAST_PLACE: usize = 15;
 
-pub const NAME_SIZE: usize = SAVED_ROOT_SPACE + (1 + SAVED_OPAQUE);
+pub const LAST_END: usize = LAST_PLACE + 4;
+
+// a name in the old form
+pub const SPACED_NAME: usize = SAVED_ROOT_SPACE + (1 + SAVED_OPAQUE);
 
 pub const ROUTE_SIZE: usize = 4 + SAVED_ROOT_SPACE;
 
-pub const LEAF_PLACE: usize = 3 + NAME_SIZE;
+// of the records of trees and labels, beside the name
+pub const TREE_BESIDE: usize = 3 + (1 + 4 * NEIGHBOUR_COUNT);
 
-pub const BRANCH_PLACE: usize = LEAF_PLACE + 1;
+pub const USE_BESIDE: usize = 9;
 
-pub const TREE_SIZE: usize = BRANCH_PLACE + 4 * NEIGHBOUR_COUNT;
-
-pub const USE_SIZE: usize = 9 + NAME_SIZE;
-
-pub const SAVE_LIMIT: usize = HEAD_SIZE
+// the longest save: of the new form, which is the longer
+pub const SAVE_LIMIT: usize = LAST_END
     + ROUTE_LIMIT * ROUTE_SIZE
-    + TREE_LIMIT * TREE_SIZE
-    + LABEL_COUNT * USE_SIZE;
+    + TREE_LIMIT * (TREE_BESIDE + (1 + NAME_LIMIT))
+    + LABEL_COUNT * (USE_BESIDE + (1 + NAME_LIMIT));
 // its digits in hex
 pub const SAVE_DIGITS: usize = 2 * SAVE_LIMIT;

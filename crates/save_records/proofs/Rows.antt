@@ -20,7 +20,7 @@ unfoldable pub joined : ℕ → (ℕ → List ℕ) → List ℕ
 joined zero g = []
 joined (suc n) g = joined n g ++ g n
 
-joined-more : (n : ℕ) (g : ℕ → List ℕ) → joined (n + 1) g ≡ joined n g ++ g n
+pub joined-more : (n : ℕ) (g : ℕ → List ℕ) → joined (n + 1) g ≡ joined n g ++ g n
 unfolding joined
 joined-more n g = rw (add-one n) refl
 

@@ -6,30 +6,43 @@ ghost use Prim.Native.Nat.{ℕ, _+_, _*_, _<_};
 ghost use lib.ListN.{length};
 ghost use Rattle.meaning.specs.Octets.{pick, four};
 ghost use Rattle.meaning.specs.Card.{treeAt, labelCount, neighbourCount, routeLimit, treeLimit};
-ghost use Rattle.meaning.specs.Save.{nameSaved, marked, headSaved, routeSaved, foursOf, treeSaved, useSaved, headSize, routeSize, treeSize, useSize};
+ghost use Rattle.meaning.specs.Save.{formOf, nameSaved, marked, treeKind, useKind, headSaved, routeSaved, foursOf, treeSaved, useSaved, headSize, routeSize, treeBeside, useBeside};
+ghost use Rattle.meaning.specs.SaveFields.{nameSize};
 ghost use Rattle.memory.specs.Sizes.{Numbers, Names};
-ghost use Rattle.memory.specs.Memory.{cardOf, baseIn, treeCount, routeIn, isFreeAt, labelIn};
-use meaning::BRANCH_PLACE;
+ghost use Rattle.memory.specs.Memory.{cardOf, baseIn, treeCount, routeIn, isFreeAt, labelIn, labelName};
 use meaning::LABEL_COUNT;
-use meaning::LEAF_PLACE;
+use meaning::NEIGHBOUR_COUNT;
 use meaning::ROOT_LIMIT;
 use meaning::ROUTE_SIZE;
-use meaning::TREE_SIZE;
-use meaning::USE_SIZE;
+use meaning::USE_BESIDE;
 
 // ---- the head
 
-pub fn put_save_head(numbers: &[u64], out: &mut [u8])
-    requires { ⌜ Numbers (now numbers) × (length (now out) ≡ headSize) ⌝ }
-    ensures { λ _. ⌜ ((os : List ℕ) → now (out .exit) ≡ headSaved (cardOf (now (numbers .entry)) os)) ⌝ }
+// The last label given; 0 for none.
+fn last_given(numbers: &[u64]) -> u64
+    requires { ⌜ Numbers (now numbers) ⌝ }
+    ensures { λ r. ⌜ ((os : List ℕ) → r ≡ cardOf (now (numbers .entry)) os .last) ⌝ }
+{
+    let v = memory::turn(numbers);
+    if v == 0 {
+        return 0;
+    }
+    memory::base(numbers) + v as u64 - 1
+}
+
+// The head of the old form is what the new one has before the last label given.
+pub fn put_save_head(numbers: &[u64], second: bool, out: &mut [u8])
+    requires { ⌜ Numbers (now numbers) × (length (now out) ≡ headSize (formOf second)) ⌝ }
+    ensures { λ _. ⌜ ((os : List ℕ) → now (out .exit) ≡ headSaved (formOf second) (cardOf (now (numbers .entry)) os)) ⌝ }
 {
     let base = memory::base(numbers);
     let next = memory::next_id(numbers);
+    let last = last_given(numbers);
     let uses = LABEL_COUNT - memory_labels::free_labels(numbers);
     let head = [
         0x4c,
         0x53,
-        1,
+        save_forms::head_kind(second),
         (base / 16777216 % 256) as u8,
         (base / 65536 % 256) as u8,
         (base / 256 % 256) as u8,
@@ -42,8 +55,13 @@ pub fn put_save_head(numbers: &[u64], out: &mut [u8])
         memory::tree_count(numbers) as u8,
         (uses / 256 % 256) as u8,
         (uses % 256) as u8,
+        (last / 16777216 % 256) as u8,
+        (last / 65536 % 256) as u8,
+        (last / 256 % 256) as u8,
+        (last % 256) as u8,
     ];
-    octets::copy(out, &head);
+    let n = save_forms::head_size(second);
+    octets::copy(out, &head[0..n]);
 }
 
 // ---- a route
@@ -107,29 +125,58 @@ fn leaf_octet(numbers: &[u64], i: usize) -> u8
     }
 }
 
-pub fn put_tree_record(numbers: &[u64], names: &[u8], i: usize, out: &mut [u8])
-    requires { ⌜ Numbers (now numbers) × Names (now names) × (i < treeCount (now numbers)) × (i < treeLimit) × (length (now out) ≡ treeSize) ⌝ }
-    ensures { λ _. ⌜ now (out .exit) ≡ treeSaved (treeAt i (cardOf (now (numbers .entry)) (now (names .entry)))) ⌝ }
+// The mark, the kind and the name.
+fn put_tree_name(out: &mut [u8], name: &[u8], second: bool)
+    requires { ⌜ length (now out) ≡ 3 + nameSize (formOf second) (now name) ⌝ }
+    ensures { λ _. ⌜ now (out .exit) ≡ marked (treeKind (formOf second)) (nameSaved (formOf second) (now (name .entry))) ⌝ }
 {
-    let head = [0x4c, 0x53, 3];
+    let e = out.len();
+    let head = [0x4c, 0x53, save_forms::tree_kind(second)];
     octets::copy(&mut out[0..3], &head);
-    save_texts::put_name(&mut out[3..LEAF_PLACE], memory_trees::tree_name(names, i));
+    save_texts::put_name(&mut out[3..e], name, second);
+}
+
+// What stands behind the name: the leaf mark and the branches.
+fn put_tree_rest(numbers: &[u64], i: usize, out: &mut [u8])
+    requires { ⌜ Numbers (now numbers) × (i < treeCount (now numbers)) × (i < treeLimit) × (length (now out) ≡ 1 + 4 * neighbourCount) ⌝ }
+    ensures { λ _. ⌜ ((os : List ℕ) → now (out .exit) ≡ pick (treeAt i (cardOf (now (numbers .entry)) os) .leaf) 1 0 ∷ foursOf (treeAt i (cardOf (now (numbers .entry)) os) .branches)) ⌝ }
+{
     let leaf = [leaf_octet(numbers, i)];
-    octets::copy(&mut out[LEAF_PLACE..BRANCH_PLACE], &leaf);
-    put_fours(numbers, i, &mut out[BRANCH_PLACE..TREE_SIZE]);
+    octets::copy(&mut out[0..1], &leaf);
+    let e = 1 + 4 * NEIGHBOUR_COUNT;
+    put_fours(numbers, i, &mut out[1..e]);
+}
+
+pub fn put_tree_record(numbers: &[u64], names: &[u8], second: bool, i: usize, out: &mut [u8])
+    requires { ⌜ Numbers (now numbers) × Names (now names) × (i < treeCount (now numbers)) × (i < treeLimit)
+        × (length (now out) ≡ treeBeside + nameSize (formOf second) (treeAt i (cardOf (now numbers) (now names)) .name)) ⌝ }
+    ensures { λ _. ⌜ now (out .exit) ≡ treeSaved (formOf second) (treeAt i (cardOf (now (numbers .entry)) (now (names .entry)))) ⌝ }
+{
+    let name = memory_trees::tree_name(names, i);
+    let a = 3 + save_texts::name_size(name, second);
+    let e = out.len();
+    put_tree_name(&mut out[0..a], name, second);
+    put_tree_rest(numbers, i, &mut out[a..e]);
 }
 
 // ---- a label in use
 
 // A label in state 1, mapped to the neighbour, or 2, awaiting release from it.
-fn put_state(out: &mut [u8], label: u64, state: u8, neighbour: u64, name: &[u8])
-    requires { ⌜ (length (now out) ≡ useSize) × (neighbour < 256) ⌝ }
-    ensures { λ _. ⌜ now (out .exit) ≡ marked 4 (four label ++ (state ∷ neighbour ∷ nameSaved (now (name .entry)))) ⌝ }
+fn put_state(
+    out: &mut [u8],
+    second: bool,
+    label: u64,
+    state: u8,
+    neighbour: u64,
+    name: &[u8],
+)
+    requires { ⌜ (length (now out) ≡ useBeside + nameSize (formOf second) (now name)) × (neighbour < 256) ⌝ }
+    ensures { λ _. ⌜ now (out .exit) ≡ marked (useKind (formOf second)) (four label ++ (state ∷ neighbour ∷ nameSaved (formOf second) (now (name .entry)))) ⌝ }
 {
     let head = [
         0x4c,
         0x53,
-        4,
+        save_forms::use_kind(second),
         (label / 16777216 % 256) as u8,
         (label / 65536 % 256) as u8,
         (label / 256 % 256) as u8,
@@ -137,26 +184,29 @@ fn put_state(out: &mut [u8], label: u64, state: u8, neighbour: u64, name: &[u8])
         state,
         neighbour as u8,
     ];
-    octets::copy(&mut out[0..9], &head);
-    save_texts::put_name(&mut out[9..USE_SIZE], name);
+    let e = out.len();
+    octets::copy(&mut out[0..USE_BESIDE], &head);
+    save_texts::put_name(&mut out[USE_BESIDE..e], name, second);
 }
 
 // The label at place p of the block, which is not free.
-pub fn put_use_record(numbers: &[u64], names: &[u8], p: usize, out: &mut [u8])
-    requires { ⌜ Numbers (now numbers) × Names (now names) × (p < labelCount) × (isFreeAt (now numbers) p ≡ false) × (length (now out) ≡ useSize) ⌝ }
-    ensures { λ _. ⌜ now (out .exit) ≡ useSaved (baseIn (now (numbers .entry)) + p) (labelIn (now (numbers .entry)) (now (names .entry)) p) ⌝ }
+pub fn put_use_record(numbers: &[u64], names: &[u8], second: bool, p: usize, out: &mut [u8])
+    requires { ⌜ Numbers (now numbers) × Names (now names) × (p < labelCount) × (isFreeAt (now numbers) p ≡ false)
+        × (length (now out) ≡ useBeside + nameSize (formOf second) (labelName (now names) p)) ⌝ }
+    ensures { λ _. ⌜ now (out .exit) ≡ useSaved (formOf second) (baseIn (now (numbers .entry)) + p) (labelIn (now (numbers .entry)) (now (names .entry)) p) ⌝ }
 {
     let label = memory::base(numbers) + p as u64;
     let n = memory_labels::mapped_at(numbers, p);
     if n == 17 {
         put_state(
             out,
+            second,
             label,
             2,
             memory_labels::awaited_at(numbers, p),
             memory_labels::label_name(names, p),
         );
     } else {
-        put_state(out, label, 1, n, memory_labels::label_name(names, p));
+        put_state(out, second, label, 1, n, memory_labels::label_name(names, p));
     }
 }

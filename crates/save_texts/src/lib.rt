@@ -1,13 +1,16 @@
-// Texts in their spaces, as a save has them: how many octets, these, and zeros; and a name, which is two of them.
+// Texts in their spaces, as a save has them: how many octets, these, and zeros; and a name, which is two of them in the old form, and one
+// without zeros in the new one.
 ghost use mathlib.Core.Path.{_≡_};
 ghost use Prim.Native.Nat.{_+_, _≤_};
 ghost use lib.ListN.{length, take};
 ghost use Rattle.meaning.specs.Wire.{opaqueIn};
-ghost use Rattle.meaning.specs.Save.{padded, spaced, nameSaved, isShort, nameSize};
-use meaning::NAME_SIZE;
+ghost use Rattle.meaning.specs.Save.{old, formOf, padded, spaced, nameSaved, nameMost, isShort, spacedName};
+ghost use Rattle.meaning.specs.SaveFields.{nameSize};
+use meaning::NAME_LIMIT;
 use meaning::ROOT_LIMIT;
 use meaning::SAVED_OPAQUE;
 use meaning::SAVED_ROOT_SPACE;
+use meaning::SPACED_NAME;
 
 // How many octets of a text find room.
 fn fitting(text: &[u8], room: usize) -> usize
@@ -50,16 +53,29 @@ fn opaque_of(name: &[u8]) -> &[u8]
     &name[n..]
 }
 
-// Whether the opaque value of a name finds its space in a save.
-pub fn is_short(name: &[u8]) -> bool
-    ensures { λ r. ⌜ r ≡ isShort (now (name .entry)) ⌝ }
+// Whether a name is short enough for the form.
+pub fn is_short(name: &[u8], second: bool) -> bool
+    ensures { λ r. ⌜ r ≡ isShort (formOf second) (now (name .entry)) ⌝ }
 {
+    if second {
+        return true;
+    }
     opaque_of(name).len() <= SAVED_OPAQUE
 }
 
-pub fn put_name(out: &mut [u8], name: &[u8])
-    requires { ⌜ length (now out) ≡ nameSize ⌝ }
-    ensures { λ _. ⌜ now (out .exit) ≡ nameSaved (now (name .entry)) ⌝ }
+// How many octets a name takes.
+pub fn name_size(name: &[u8], second: bool) -> usize
+    ensures { λ r. ⌜ (r ≡ nameSize (formOf second) (now (name .entry))) × (1 ≤ r) × (r ≤ nameMost (formOf second)) × (r ≤ 151) ⌝ }
+{
+    if second {
+        return 1 + fitting(name, NAME_LIMIT);
+    }
+    SPACED_NAME
+}
+
+fn put_spaces(out: &mut [u8], name: &[u8])
+    requires { ⌜ length (now out) ≡ spacedName ⌝ }
+    ensures { λ _. ⌜ now (out .exit) ≡ nameSaved old (now (name .entry)) ⌝ }
 {
     put_space(
         &mut out[0..SAVED_ROOT_SPACE],
@@ -67,8 +83,20 @@ pub fn put_name(out: &mut [u8], name: &[u8])
         wire_name::root_of(name),
     );
     put_space(
-        &mut out[SAVED_ROOT_SPACE..NAME_SIZE],
+        &mut out[SAVED_ROOT_SPACE..SPACED_NAME],
         SAVED_OPAQUE,
         opaque_of(name),
     );
+}
+
+pub fn put_name(out: &mut [u8], name: &[u8], second: bool)
+    requires { ⌜ length (now out) ≡ nameSize (formOf second) (now name) ⌝ }
+    ensures { λ _. ⌜ now (out .exit) ≡ nameSaved (formOf second) (now (name .entry)) ⌝ }
+{
+    if second {
+        let room = fitting(name, NAME_LIMIT);
+        put_space(out, room, name);
+    } else {
+        put_spaces(out, name);
+    }
 }

@@ -1,88 +1,148 @@
--- `save_records::put_save_head` meets its contract: the octets of the array are those of the definition, one by one. Assumes nothing.
-use mathlib.Core.Path.{_∙_}
-use Rattle.meaning.specs.Octets.{two, four}
 use Rattle.meaning.specs.Save.{marked}
+use Rattle.meaning.specs.Octets.{two, four}
+use mathlib.Core.Path.{_∙_}
 use Rattle.save_records.proofs.Records.{head-is}
 use borrow.Author.Needs.{needs}
 use Rattle.save_records.proofs.put_save_head.Statement.{statement}
 use Rattle.save_records.proofs.put_save_head.Tie as tie
-use Rattle.octets.proofs.copy.Reads as copy-reads
+use Rattle.save_records.proofs.put_save_head.Reads as reads
+use Rattle.save_records.proofs.put_save_head.Lts as lts
 use Rattle.memory.proofs.base.Reads as base-reads
-use Rattle.memory_labels.proofs.free_labels.Reads as free-labels-reads
 use Rattle.memory.proofs.next_id.Reads as next-id-reads
 use Rattle.memory.proofs.route_count.Reads as route-count-reads
 use Rattle.memory.proofs.tree_count.Reads as tree-count-reads
+use Rattle.memory_labels.proofs.free_labels.Reads as free-labels-reads
+use Rattle.octets.proofs.copy.Reads as copy-reads
+use Rattle.save_forms.proofs.head_kind.Reads as head-kind-reads
+use Rattle.save_forms.proofs.head_size.Reads as head-size-reads
+use Rattle.save_records.proofs.last_given.Reads as last-given-reads
 
+-- src/lib.rt:38:9
 base-requires : tie.Need-base-requires
 base-requires c κs = search needs
 
+-- src/lib.rt:39:9
 next-id-requires : tie.Need-next-id-requires
 next-id-requires c κs = search needs
 
+-- src/lib.rt:40:9
+last-given-requires : tie.Need-last-given-requires
+last-given-requires c κs = search needs
+
+-- src/lib.rt:41:30
 free-labels-requires : tie.Need-free-labels-requires
 free-labels-requires c κs = search needs
 
+-- src/lib.rt:41:16
 sub-uses : tie.Need-sub-uses
 sub-uses c = search needs
 
-cast-t10 : tie.Need-cast-t10
-cast-t10 c = search needs
+-- src/lib.rt:45:9
+head-kind-requires : tie.Need-head-kind-requires
+head-kind-requires c κs = search needs
 
-cast-t13 : tie.Need-cast-t13
-cast-t13 c = search needs
+-- src/lib.rt:46:9
+cast-t14 : tie.Need-cast-t14
+cast-t14 c = search needs
 
-cast-t16 : tie.Need-cast-t16
-cast-t16 c = search needs
+-- src/lib.rt:47:9
+cast-t17 : tie.Need-cast-t17
+cast-t17 c = search needs
 
-cast-t18 : tie.Need-cast-t18
-cast-t18 c = search needs
+-- src/lib.rt:48:9
+cast-t20 : tie.Need-cast-t20
+cast-t20 c = search needs
 
-cast-t21 : tie.Need-cast-t21
-cast-t21 c = search needs
+-- src/lib.rt:49:9
+cast-t22 : tie.Need-cast-t22
+cast-t22 c = search needs
 
-cast-t24 : tie.Need-cast-t24
-cast-t24 c = search needs
+-- src/lib.rt:50:9
+cast-t25 : tie.Need-cast-t25
+cast-t25 c = search needs
 
-cast-t27 : tie.Need-cast-t27
-cast-t27 c = search needs
+-- src/lib.rt:51:9
+cast-t28 : tie.Need-cast-t28
+cast-t28 c = search needs
 
-cast-t29 : tie.Need-cast-t29
-cast-t29 c = search needs
+-- src/lib.rt:52:9
+cast-t31 : tie.Need-cast-t31
+cast-t31 c = search needs
 
+-- src/lib.rt:53:9
+cast-t33 : tie.Need-cast-t33
+cast-t33 c = search needs
+
+-- src/lib.rt:54:9
 route-count-requires : tie.Need-route-count-requires
 route-count-requires c κs = search needs
 
-cast-t30 : tie.Need-cast-t30
-cast-t30 c = search needs
+-- src/lib.rt:54:9
+cast-t34 : tie.Need-cast-t34
+cast-t34 c = search needs
 
+-- src/lib.rt:55:9
 tree-count-requires : tie.Need-tree-count-requires
 tree-count-requires c κs = search needs
 
-cast-t32 : tie.Need-cast-t32
-cast-t32 c = search needs
+-- src/lib.rt:55:9
+cast-t36 : tie.Need-cast-t36
+cast-t36 c = search needs
 
-cast-t35 : tie.Need-cast-t35
-cast-t35 c = search needs
+-- src/lib.rt:56:9
+cast-t39 : tie.Need-cast-t39
+cast-t39 c = search needs
 
-cast-t37 : tie.Need-cast-t37
-cast-t37 c = search needs
+-- src/lib.rt:57:9
+cast-t41 : tie.Need-cast-t41
+cast-t41 c = search needs
 
-slice-aggregate-copy : tie.Need-slice-aggregate-copy
-slice-aggregate-copy c = search needs
+-- src/lib.rt:58:9
+cast-t44 : tie.Need-cast-t44
+cast-t44 c = search needs
 
+-- src/lib.rt:59:9
+cast-t47 : tie.Need-cast-t47
+cast-t47 c = search needs
+
+-- src/lib.rt:60:9
+cast-t50 : tie.Need-cast-t50
+cast-t50 c = search needs
+
+-- src/lib.rt:61:9
+cast-t52 : tie.Need-cast-t52
+cast-t52 c = search needs
+
+-- src/lib.rt:63:9
+head-size-requires : tie.Need-head-size-requires
+head-size-requires c κs = search needs
+
+-- src/lib.rt:64:23
+sub-copy : tie.Need-sub-copy
+sub-copy c = search needs
+
+-- src/lib.rt:64:23
+part-copy-start : tie.Need-part-copy-start
+part-copy-start c = search needs
+
+-- src/lib.rt:64:23
+part-copy-end : tie.Need-part-copy-end
+part-copy-end c = search needs
+
+-- src/lib.rt:64:5
 copy-requires : tie.Need-copy-requires
 copy-requires c κs = search needs
 
+-- src/lib.rt:34:1
 same-length : tie.Need-same-length
 same-length c = search needs
 
+-- src/lib.rt:34:1
 returns : tie.Need-returns
 unfolding marked four two
 returns c =
-    let u = c .before .before in
-    let t = u .before .before .before in
-    let b = t .before .before .before .before in
-    λ os. u .copy .ensures ∙ head-is (b .before .before .before .args .numbers .now) os _ _ _ _ _ (b .base .ensures .0) (t .before .before .before .next-id .ensures os) (t .before .route-count .ensures .0) (t .tree-count .ensures .0) (t .before .before .free-labels .ensures .0 os)
+    let ns = c .before .before .before .before .before .before .before .before .before .before .before .before .before .before .before .before .args .numbers .now in
+    λ os. c .before .before .copy .ensures ∙ head-is _ ns os _ _ _ _ _ _ _ _ (c .before .before .before .before .before .before .before .before .before .head-kind .ensures) (c .before .before .before .before .before .before .before .before .before .before .before .before .before .base .ensures .0) (c .before .before .before .before .before .before .before .before .before .before .before .before .next-id .ensures os) (c .before .before .before .before .before .before .before .before .route-count .ensures .0) (c .before .before .before .before .before .before .before .tree-count .ensures .0) (c .before .before .before .before .before .before .before .before .before .before .free-labels .ensures .0 os) (c .before .before .before .before .before .before .before .before .before .before .before .last-given .ensures os) (c .before .before .before .before .before .before .head-size .ensures .0)
 
 pub put-save-head-spec : {M : Type 1} → statement M
 put-save-head-spec =
@@ -90,23 +150,32 @@ put-save-head-spec =
     (tie.spec
     base-requires
     next-id-requires
+    last-given-requires
     free-labels-requires
     sub-uses
-    cast-t10
-    cast-t13
-    cast-t16
-    cast-t18
-    cast-t21
-    cast-t24
-    cast-t27
-    cast-t29
+    head-kind-requires
+    cast-t14
+    cast-t17
+    cast-t20
+    cast-t22
+    cast-t25
+    cast-t28
+    cast-t31
+    cast-t33
     route-count-requires
-    cast-t30
+    cast-t34
     tree-count-requires
-    cast-t32
-    cast-t35
-    cast-t37
-    slice-aggregate-copy
+    cast-t36
+    cast-t39
+    cast-t41
+    cast-t44
+    cast-t47
+    cast-t50
+    cast-t52
+    head-size-requires
+    sub-copy
+    part-copy-start
+    part-copy-end
     copy-requires
     same-length
     returns)

@@ -1,75 +1,99 @@
--- `save_records::put_state` meets its contract: nine octets and the name are the record. Assumes nothing.
-use Rattle.meaning.specs.Octets.{four}
 use Rattle.meaning.specs.Save.{marked}
+use Rattle.meaning.specs.Octets.{four}
+use mathlib.Core.List.{[], _∷_, _++_}
+use Prim.Native.Nat.{ℕ}
+use mathlib.Core.Path.{refl, ap, _∙_}
 use Rattle.save_records.proofs.Records.{state-put}
 use borrow.Author.Needs.{needs}
 use Rattle.save_records.proofs.put_state.Statement.{statement}
 use Rattle.save_records.proofs.put_state.Tie as tie
+use Rattle.save_records.proofs.put_state.Reads as reads
+use Rattle.save_records.proofs.put_state.Lts as lts
 use Rattle.octets.proofs.copy.Reads as copy-reads
+use Rattle.save_forms.proofs.use_kind.Reads as use-kind-reads
 use Rattle.save_texts.proofs.put_name.Reads as put-name-reads
 
-cast-t9 : tie.Need-cast-t9
-cast-t9 c = search needs
+-- src/lib.rt:179:9
+use-kind-requires : tie.Need-use-kind-requires
+use-kind-requires c κs = search needs
 
+-- src/lib.rt:180:9
 cast-t12 : tie.Need-cast-t12
 cast-t12 c = search needs
 
+-- src/lib.rt:181:9
 cast-t15 : tie.Need-cast-t15
 cast-t15 c = search needs
 
-cast-t17 : tie.Need-cast-t17
-cast-t17 c = search needs
-
+-- src/lib.rt:182:9
 cast-t18 : tie.Need-cast-t18
 cast-t18 c = search needs
 
+-- src/lib.rt:183:9
+cast-t20 : tie.Need-cast-t20
+cast-t20 c = search needs
+
+-- src/lib.rt:185:9
+cast-t21 : tie.Need-cast-t21
+cast-t21 c = search needs
+
+-- src/lib.rt:188:18
 sub-copy : tie.Need-sub-copy
 sub-copy c = search needs
 
+-- src/lib.rt:188:18
 part-copy-start : tie.Need-part-copy-start
 part-copy-start c = search needs
 
+-- src/lib.rt:188:18
 part-copy-end : tie.Need-part-copy-end
 part-copy-end c = search needs
 
+-- src/lib.rt:188:43
 slice-aggregate-copy : tie.Need-slice-aggregate-copy
 slice-aggregate-copy c = search needs
 
+-- src/lib.rt:188:5
 copy-requires : tie.Need-copy-requires
 copy-requires c κs = search needs
 
+-- src/lib.rt:189:26
 sub-put-name : tie.Need-sub-put-name
 sub-put-name c = search needs
 
+-- src/lib.rt:189:26
 part-put-name-start : tie.Need-part-put-name-start
 part-put-name-start c = search needs
 
+-- src/lib.rt:189:26
 part-put-name-end : tie.Need-part-put-name-end
 part-put-name-end c = search needs
 
+-- src/lib.rt:189:5
 put-name-requires : tie.Need-put-name-requires
 put-name-requires c κs = search needs
 
+-- src/lib.rt:165:1
 same-length : tie.Need-same-length
 same-length c = search needs
 
+-- src/lib.rt:165:1
 returns : tie.Need-returns
 unfolding marked four
 returns c =
-    let p = c .before .before in
-    let d = p .before .before .before .before in
-    let s = d .before .before .before .before .before in
-    state-put (s .args .label) (s .args .state) (s .args .neighbour) (s .args .name .now) (s .args .out .now) _ _ (s .pre .0) (d .copy .ensures) (p .put-name .ensures)
+    let s = c .before .before .before .before .before .before .before .before .before .before .before .before in
+    state-put _ (s .args .label) (s .args .state) (s .args .neighbour) _ (s .args .name .now) (s .args .out .now) _ _ refl (s .pre .0) (c .before .before .before .before .before .before .copy .ensures ∙ ap (λ (k : ℕ). marked k (four (s .args .label) ++ (s .args .state ∷ s .args .neighbour ∷ []))) (c .before .before .before .before .before .before .before .before .before .use-kind .ensures)) (c .before .before .put-name .ensures)
 
 pub put-state-spec : {M : Type 1} → statement M
 put-state-spec =
     tie.close
     (tie.spec
-    cast-t9
+    use-kind-requires
     cast-t12
     cast-t15
-    cast-t17
     cast-t18
+    cast-t20
+    cast-t21
     sub-copy
     part-copy-start
     part-copy-end

@@ -1,116 +1,90 @@
--- `save_records::put_tree_record` meets its contract: four parts of the output, one behind the other, are the tree. Assumes nothing.
-use Rattle.meaning.specs.Card.{treeAt}
-use Rattle.memory.specs.Memory.{cardOf}
 use Rattle.memory.proofs.Trees.{branches-length}
+use Rattle.memory.specs.Memory.{cardOf}
+use Rattle.meaning.specs.Card.{treeAt}
+use Rattle.meaning.specs.SaveFields.{nameSize}
+use mathlib.Core.Path.{refl, ap, _∙_}
+use native.Mathlib.Omega.{arith}
 use Rattle.save_records.proofs.Records.{tree-put}
 use borrow.Author.Needs.{needs}
 use Rattle.save_records.proofs.put_tree_record.Statement.{statement}
 use Rattle.save_records.proofs.put_tree_record.Tie as tie
-use Rattle.octets.proofs.copy.Reads as copy-reads
-use Rattle.save_records.proofs.leaf_octet.Reads as leaf-octet-reads
-use Rattle.save_records.proofs.put_fours.Reads as put-fours-reads
-use Rattle.save_texts.proofs.put_name.Reads as put-name-reads
+use Rattle.save_records.proofs.put_tree_record.Reads as reads
+use Rattle.save_records.proofs.put_tree_record.Lts as lts
 use Rattle.memory_trees.proofs.tree_name.Reads as tree-name-reads
+use Rattle.save_records.proofs.put_tree_name.Reads as put-tree-name-reads
+use Rattle.save_records.proofs.put_tree_rest.Reads as put-tree-rest-reads
+use Rattle.save_texts.proofs.name_size.Reads as name-size-reads
 
-sub-copy : tie.Need-sub-copy
-sub-copy c = search needs
-
-part-copy-start : tie.Need-part-copy-start
-part-copy-start c = search needs
-
-part-copy-end : tie.Need-part-copy-end
-part-copy-end c = search needs
-
-slice-aggregate-copy : tie.Need-slice-aggregate-copy
-slice-aggregate-copy c = search needs
-
-copy-requires : tie.Need-copy-requires
-copy-requires c κs = search needs
-
-sub-put-name : tie.Need-sub-put-name
-sub-put-name c = search needs
-
-part-put-name-start : tie.Need-part-put-name-start
-part-put-name-start c = search needs
-
-part-put-name-end : tie.Need-part-put-name-end
-part-put-name-end c = search needs
-
+-- src/lib.rt:155:9
 tree-name-requires : tie.Need-tree-name-requires
 tree-name-requires c κs = search needs
 
-put-name-requires : tie.Need-put-name-requires
-put-name-requires c κs = search needs
+-- src/lib.rt:156:17
+name-size-requires : tie.Need-name-size-requires
+name-size-requires c κs = search needs
 
-leaf-octet-requires : tie.Need-leaf-octet-requires
-leaf-octet-requires c κs = search needs
+-- src/lib.rt:156:13
+add-a : tie.Need-add-a
+add-a c = search needs
 
-sub-copy-2 : tie.Need-sub-copy-2
-sub-copy-2 c = search needs
+-- src/lib.rt:158:19
+sub-put-tree-name : tie.Need-sub-put-tree-name
+sub-put-tree-name c = search needs
 
-part-copy-start-2 : tie.Need-part-copy-start-2
-part-copy-start-2 c = search needs
+-- src/lib.rt:158:19
+part-put-tree-name-start : tie.Need-part-put-tree-name-start
+part-put-tree-name-start c = search needs
 
-part-copy-end-2 : tie.Need-part-copy-end-2
-part-copy-end-2 c = search needs
+-- src/lib.rt:158:19
+part-put-tree-name-end : tie.Need-part-put-tree-name-end
+part-put-tree-name-end c = omega (arith, (c .name-size .ensures .0 ∙ ap (nameSize _) (c .before .tree-name .ensures .0 (c .before .before .before .before .before .args .numbers .now) (c .before .before .before .before .before .pre .2))), c .before .before .before .before .before .pre .4)
 
-slice-aggregate-copy-2 : tie.Need-slice-aggregate-copy-2
-slice-aggregate-copy-2 c = search needs
+-- src/lib.rt:158:5
+put-tree-name-requires : tie.Need-put-tree-name-requires
+put-tree-name-requires c κs = search needs
 
-copy-requires-2 : tie.Need-copy-requires-2
-copy-requires-2 c κs = search needs
+-- src/lib.rt:159:31
+sub-put-tree-rest : tie.Need-sub-put-tree-rest
+sub-put-tree-rest c = omega (arith, (c .before .before .before .before .name-size .ensures .0 ∙ ap (nameSize _) (c .before .before .before .before .before .tree-name .ensures .0 (c .before .before .before .before .before .before .before .before .before .args .numbers .now) (c .before .before .before .before .before .before .before .before .before .pre .2))), c .before .before .before .before .before .before .before .before .before .pre .4)
 
-sub-put-fours : tie.Need-sub-put-fours
-sub-put-fours c = search needs
+-- src/lib.rt:159:31
+part-put-tree-rest-start : tie.Need-part-put-tree-rest-start
+part-put-tree-rest-start c = omega (arith, (c .before .before .before .before .name-size .ensures .0 ∙ ap (nameSize _) (c .before .before .before .before .before .tree-name .ensures .0 (c .before .before .before .before .before .before .before .before .before .args .numbers .now) (c .before .before .before .before .before .before .before .before .before .pre .2))), c .before .before .before .before .before .before .before .before .before .pre .4)
 
-part-put-fours-start : tie.Need-part-put-fours-start
-part-put-fours-start c = search needs
+-- src/lib.rt:159:31
+part-put-tree-rest-end : tie.Need-part-put-tree-rest-end
+part-put-tree-rest-end c = search needs
 
-part-put-fours-end : tie.Need-part-put-fours-end
-part-put-fours-end c = search needs
+-- src/lib.rt:159:5
+put-tree-rest-requires : tie.Need-put-tree-rest-requires
+put-tree-rest-requires c κs = (search needs, search needs, search needs, omega (arith, (c .before .before .before .before .before .name-size .ensures .0 ∙ ap (nameSize _) (c .before .before .before .before .before .before .tree-name .ensures .0 (c .before .before .before .before .before .before .before .before .before .before .args .numbers .now) (c .before .before .before .before .before .before .before .before .before .before .pre .2))), c .before .before .before .before .before .before .before .before .before .before .pre .4))
 
-put-fours-requires : tie.Need-put-fours-requires
-put-fours-requires c κs = search needs
-
+-- src/lib.rt:150:1
 same-length : tie.Need-same-length
 same-length c = search needs
 
+-- src/lib.rt:150:1
 returns : tie.Need-returns
 returns c =
-    let p = c .before .before in
-    let q = p .before .before .before .before in
-    let f = q .before .before .before in
-    let n = f .before .before .before in
-    let d = n .before .before .before .before .before in
-    let s = d .before .before .before .before .before .before in
+    let s = c .before .before .before .before .before .before .before .before .before .before .before .before .before in
     let ns = s .args .numbers .now in
     let os = s .args .names .now in
-    tree-put (treeAt (s .args .i) (cardOf ns os)) (s .args .out .now) _ _ _ _ _ _ (s .pre .4) (branches-length ns os (s .args .i) (s .pre .2))
-    (n .before .tree-name .ensures .0 ns (s .pre .2)) (f .leaf-octet .ensures os) (d .copy .ensures) (n .put-name .ensures) (q .copy2 .ensures) (p .put-fours .ensures os)
+    tree-put _ (treeAt (s .args .i) (cardOf ns os)) _ _ _ (s .args .out .now) _ _ (s .pre .4) (branches-length ns os (s .args .i) (s .pre .2)) (c .before .before .before .before .before .before .before .before .before .tree-name .ensures .0 ns (s .pre .2)) (c .before .before .before .before .before .before .before .before .name-size .ensures .0) refl (c .before .before .before .before .before .before .put-tree-name .ensures) (c .before .before .put-tree-rest .ensures os)
 
 pub put-tree-record-spec : {M : Type 1} → statement M
 put-tree-record-spec =
     tie.close
     (tie.spec
-    sub-copy
-    part-copy-start
-    part-copy-end
-    slice-aggregate-copy
-    copy-requires
-    sub-put-name
-    part-put-name-start
-    part-put-name-end
     tree-name-requires
-    put-name-requires
-    leaf-octet-requires
-    sub-copy-2
-    part-copy-start-2
-    part-copy-end-2
-    slice-aggregate-copy-2
-    copy-requires-2
-    sub-put-fours
-    part-put-fours-start
-    part-put-fours-end
-    put-fours-requires
+    name-size-requires
+    add-a
+    sub-put-tree-name
+    part-put-tree-name-start
+    part-put-tree-name-end
+    put-tree-name-requires
+    sub-put-tree-rest
+    part-put-tree-rest-start
+    part-put-tree-rest-end
+    put-tree-rest-requires
     same-length
     returns)

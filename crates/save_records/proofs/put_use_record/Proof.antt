@@ -1,3 +1,6 @@
+use mathlib.Core.List.{List}
+use Rattle.meaning.specs.Save.{formOf, useBeside}
+use Rattle.meaning.specs.SaveFields.{nameSize}
 -- `save_records::put_use_record` meets its contract: the label is mapped, or it awaits release; its record is that of the definition. Assumes nothing.
 use mathlib.Core.Path.{sym, ap, _∙_}
 use Prim.Native.Nat.{ℕ, _+_}
@@ -32,13 +35,13 @@ label-name-requires : tie.Need-label-name-requires
 label-name-requires c κs = search needs
 
 put-state-requires : tie.Need-put-state-requires
-put-state-requires c κs = search needs
+put-state-requires c κs = (c .before .before .before .before .before .before .before .before .before .pre .4 ∙ ap (λ (a : List ℕ). useBeside + nameSize (formOf (c .before .before .before .before .before .before .before .before .before .args .second)) a) (sym (c .label-name .ensures)), search needs)
 
 label-name-requires-2 : tie.Need-label-name-requires-2
 label-name-requires-2 c κs = search needs
 
 put-state-requires-2 : tie.Need-put-state-requires-2
-put-state-requires-2 c κs = search needs
+put-state-requires-2 c κs = (c .before .before .before .before .before .before .before .before .pre .4 ∙ ap (λ (a : List ℕ). useBeside + nameSize (formOf (c .before .before .before .before .before .before .before .before .args .second)) a) (sym (c .label-name2 .ensures)), search needs)
 
 same-length : tie.Need-same-length
 same-length c = search needs
@@ -48,7 +51,7 @@ returns c =
     let p = c .before .before in
     let m = p .before .before .before .before .before in
     let s = m .before .before .before .before .before in
-    use-awaiting (labelIn (s .args .numbers .now) (s .args .names .now) (s .args .p)) _ _ _ _ _ _ (ap (λ (b : ℕ). b + s .args .p) (m .before .base .ensures .0)) (p .before .label-name .ensures) (p .before .before .awaited-at .ensures .0 (s .args .names .now)) (p .put-state .ensures)
+    use-awaiting _ (labelIn (s .args .numbers .now) (s .args .names .now) (s .args .p)) _ _ _ _ _ _ (ap (λ (b : ℕ). b + s .args .p) (m .before .base .ensures .0)) (p .before .label-name .ensures) (p .before .before .awaited-at .ensures .0 (s .args .names .now)) (p .put-state .ensures)
 
 same-length-2 : tie.Need-same-length-2
 same-length-2 c = search needs
@@ -59,7 +62,7 @@ returns-2 c =
     let m = p .before .before .before .before in
     let s = m .before .before .before .before .before in
     let os = s .args .names .now in
-    use-mapped (labelIn (s .args .numbers .now) os (s .args .p)) _ _ _ _ _ _ (ap (λ (b : ℕ). b + s .args .p) (m .before .base .ensures .0)) (p .before .label-name2 .ensures)
+    use-mapped _ (labelIn (s .args .numbers .now) os (s .args .p)) _ _ _ _ _ _ (ap (λ (b : ℕ). b + s .args .p) (m .before .base .ensures .0)) (p .before .label-name2 .ensures)
     (mapped-is _ _ os (m .mapped-at .ensures .3 (p .before .before .before .if1 .left)) ∙ ap (λ (n : ℕ). mapped n (labelName os (s .args .p))) (sym (m .mapped-at .ensures .0 os))) (p .put-state2 .ensures)
 
 pub put-use-record-spec : {M : Type 1} → statement M

@@ -3,7 +3,7 @@ use native.Mathlib.Omega.{arith}
 use mathlib.Core.Path.{_≡_, refl, sym, _∙_}
 use lib.ListN.{drop}
 use Rattle.meaning.specs.Octets.{all}
-use Rattle.meaning.specs.Save.{isShortTree}
+use Rattle.meaning.specs.Save.{formOf, isShortTree}
 use Rattle.memory.specs.Memory.{cardOf}
 use Rattle.save_rules_rows.proofs.RowRules.{all-hit, all-miss, all-none, tree-there, trees-end}
 use borrow.Author.Needs.{needs}
@@ -11,10 +11,10 @@ use Rattle.save_spaces.proofs.trees_short.Statement.{statement}
 use Rattle.save_spaces.proofs.trees_short.Tie as tie
 
 abbrev Inv-loop : tie.InvT-loop
-Inv-loop numbers names n i₀ i = (i ≤ n) × (all isShortTree (cardOf numbers names .trees) ≡ all isShortTree (drop i (cardOf numbers names .trees)))
+Inv-loop numbers names second n i₀ i = (i ≤ n) × (all (isShortTree (formOf second)) (cardOf numbers names .trees) ≡ all (isShortTree (formOf second)) (drop i (cardOf numbers names .trees)))
 
 abbrev μ-loop : tie.MeasureT-loop
-μ-loop numbers names n i₀ i = n - i
+μ-loop numbers names second n i₀ i = n - i
 
 tree-count-requires : tie.Need-tree-count-requires Inv-loop μ-loop
 tree-count-requires c κs = search needs

@@ -4,7 +4,7 @@ use mathlib.Core.Path.{_≡_, refl, sym, _∙_}
 use lib.ListN.{drop}
 use Rattle.meaning.specs.Octets.{all}
 use Rattle.meaning.specs.Card.{labelCount}
-use Rattle.meaning.specs.Save.{isShortUse}
+use Rattle.meaning.specs.Save.{formOf, isShortUse}
 use Rattle.memory.specs.Memory.{cardOf}
 use Rattle.save_rules_rows.proofs.RowRules.{all-hit, all-miss, all-none, label-there, labels-end}
 use borrow.Author.Needs.{needs}
@@ -12,10 +12,10 @@ use Rattle.save_spaces.proofs.uses_short.Statement.{statement}
 use Rattle.save_spaces.proofs.uses_short.Tie as tie
 
 abbrev Inv-loop : tie.InvT-loop
-Inv-loop numbers names p₀ p = (p ≤ labelCount) × (all isShortUse (cardOf numbers names .labels) ≡ all isShortUse (drop p (cardOf numbers names .labels)))
+Inv-loop numbers names second p₀ p = (p ≤ labelCount) × (all (isShortUse (formOf second)) (cardOf numbers names .labels) ≡ all (isShortUse (formOf second)) (drop p (cardOf numbers names .labels)))
 
 abbrev μ-loop : tie.MeasureT-loop
-μ-loop numbers names p₀ p = labelCount - p
+μ-loop numbers names second p₀ p = labelCount - p
 
 loop-holds : tie.Need-loop-holds Inv-loop μ-loop
 loop-holds c = (omega arith, refl)

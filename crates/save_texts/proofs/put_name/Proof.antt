@@ -1,41 +1,17 @@
--- `save_texts::put_name` meets its contract: two spaces, one behind the other, are the name. Assumes nothing.
-use Rattle.save_texts.proofs.Texts.{name-put}
+-- `save_texts::put_name` meets its contract, in either form: a text in a space of its own length, or two spaces. Assumes nothing.
 use borrow.Author.Needs.{needs}
+use native.Mathlib.Omega.{arith}
+use Rattle.save_texts.proofs.Texts.{name-new, name-old, room-new, room-old}
 use Rattle.save_texts.proofs.put_name.Statement.{statement}
 use Rattle.save_texts.proofs.put_name.Tie as tie
-use Rattle.wire_name.proofs.root_of.Reads as root-of-reads
-use Rattle.save_texts.proofs.opaque_of.Reads as opaque-of-reads
-use Rattle.save_texts.proofs.put_space.Reads as put-space-reads
 
-sub-put-space : tie.Need-sub-put-space
-sub-put-space c = search needs
-
-part-put-space-start : tie.Need-part-put-space-start
-part-put-space-start c = search needs
-
-part-put-space-end : tie.Need-part-put-space-end
-part-put-space-end c = search needs
-
-root-of-requires : tie.Need-root-of-requires
-root-of-requires c κs = search needs
+fitting-requires : tie.Need-fitting-requires
+fitting-requires c κs = search needs
 
 put-space-requires : tie.Need-put-space-requires
-put-space-requires c κs = search needs
-
-sub-put-space-2 : tie.Need-sub-put-space-2
-sub-put-space-2 c = search needs
-
-part-put-space-start-2 : tie.Need-part-put-space-start-2
-part-put-space-start-2 c = search needs
-
-part-put-space-end-2 : tie.Need-part-put-space-end-2
-part-put-space-end-2 c = search needs
-
-opaque-of-requires : tie.Need-opaque-of-requires
-opaque-of-requires c κs = search needs
-
-put-space-requires-2 : tie.Need-put-space-requires-2
-put-space-requires-2 c κs = search needs
+put-space-requires c κs =
+    let f = c .before in
+    (room-new _ _ _ _ (f .before .if1 .taken) (f .fitting .ensures .0) (f .before .before .before .before .pre), omega arith)
 
 same-length : tie.Need-same-length
 same-length c = search needs
@@ -43,23 +19,17 @@ same-length c = search needs
 returns : tie.Need-returns
 returns c =
     let p = c .before .before in
-    let d = p .before .before .before .before .before in
-    let s = d .before .before .before .before .before in
-    name-put _ (s .args .out .now) _ _ _ _ (s .pre) (d .before .root-of .ensures) (p .before .opaque-of .ensures) (d .put-space .ensures) (p .put-space2 .ensures)
+    name-new _ _ _ _ (p .before .before .before .if1 .taken) (p .before .before .fitting .ensures .0) (p .put-space .ensures)
+
+put-spaces-requires : tie.Need-put-spaces-requires
+put-spaces-requires c κs = room-old _ _ _ (c .before .if1 .left) (c .before .before .before .before .pre)
+
+same-length-2 : tie.Need-same-length-2
+same-length-2 c = search needs
+
+returns-2 : tie.Need-returns-2
+returns-2 c = let p = c .before .before in name-old _ _ _ (p .before .before .if1 .left) (p .put-spaces .ensures)
 
 pub put-name-spec : {M : Type 1} → statement M
 put-name-spec =
-    tie.close
-    (tie.spec
-    sub-put-space
-    part-put-space-start
-    part-put-space-end
-    root-of-requires
-    put-space-requires
-    sub-put-space-2
-    part-put-space-start-2
-    part-put-space-end-2
-    opaque-of-requires
-    put-space-requires-2
-    same-length
-    returns)
+    tie.close (tie.spec fitting-requires put-space-requires put-spaces-requires same-length returns same-length-2 returns-2)

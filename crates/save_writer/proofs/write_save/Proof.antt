@@ -1,13 +1,15 @@
 -- `save_writer::write_save` meets its contract: the head, the routes, the trees and the labels, each behind the one before, are the save. Assumes nothing.
-use native.Mathlib.Omega.{arith}
+use mathlib.Core.Path.{_≡_}
+use Prim.Native.Nat.{_-_}
+use Rattle.meaning.specs.Save.{formOf}
 use Rattle.save_writer.proofs.Saved.{parts-length, parts-laid}
+use native.Mathlib.Omega.{arith}
 use borrow.Author.Needs.{needs}
 use Rattle.save_writer.proofs.write_save.Statement.{statement}
 use Rattle.save_writer.proofs.write_save.Tie as tie
-use Rattle.save_records.proofs.put_save_head.Reads as put-save-head-reads
-use Rattle.save_writer.proofs.put_labels.Reads as put-labels-reads
-use Rattle.save_writer.proofs.put_routes.Reads as put-routes-reads
-use Rattle.save_writer.proofs.put_trees.Reads as put-trees-reads
+
+head-size-requires : tie.Need-head-size-requires
+head-size-requires c κs = search needs
 
 sub-put-save-head : tie.Need-sub-put-save-head
 sub-put-save-head c = search needs
@@ -16,44 +18,35 @@ part-put-save-head-start : tie.Need-part-put-save-head-start
 part-put-save-head-start c = search needs
 
 part-put-save-head-end : tie.Need-part-put-save-head-end
-part-put-save-head-end c =
-    let s = c .before .before .before in
-    omega (arith, parts-length (s .args .numbers .now) (s .args .names .now))
+part-put-save-head-end c = omega (arith, parts-length (formOf (c .before .before .before .before .args .second)) (c .before .before .before .before .args .numbers .now) (c .before .before .before .before .args .names .now), c .head-size .ensures .0, c .before .before .before .before .pre .2)
 
 put-save-head-requires : tie.Need-put-save-head-requires
 put-save-head-requires c κs = search needs
 
 put-routes-requires : tie.Need-put-routes-requires
-put-routes-requires c κs =
-    let s = c .before .before .before .before .before .before .before .before in
-    (search needs, search needs, omega (arith, parts-length (s .args .numbers .now) (s .args .names .now)))
+put-routes-requires c κs = (search needs, search needs, omega (arith, parts-length (formOf (c .before .before .before .before .before .before .before .before .before .args .second)) (c .before .before .before .before .before .before .before .before .before .args .numbers .now) (c .before .before .before .before .before .before .before .before .before .args .names .now), c .before .before .before .before .before .head-size .ensures .0, c .before .before .before .before .before .before .before .before .before .pre .2))
 
 put-trees-requires : tie.Need-put-trees-requires
-put-trees-requires c κs =
-    let s = c .before .before .before .before .before .before .before .before .before .before .before .before in
-    (search needs, search needs, omega (arith, parts-length (s .args .numbers .now) (s .args .names .now)))
+put-trees-requires c κs = (search needs, search needs, omega (arith, parts-length (formOf (c .before .before .before .before .before .before .before .before .before .before .before .before .before .args .second)) (c .before .before .before .before .before .before .before .before .before .before .before .before .before .args .numbers .now) (c .before .before .before .before .before .before .before .before .before .before .before .before .before .args .names .now), c .before .before .before .before .before .before .before .before .before .head-size .ensures .0, c .before .before .before .before .before .before .before .before .before .before .before .before .before .pre .2))
 
 put-labels-requires : tie.Need-put-labels-requires
-put-labels-requires c κs =
-    let s = c .before .before .before .before .before .before .before .before .before .before .before .before .before .before .before .before in
-    (search needs, search needs, omega (arith, parts-length (s .args .numbers .now) (s .args .names .now)))
+put-labels-requires c κs = (search needs, search needs, omega (arith, parts-length (formOf (c .before .before .before .before .before .before .before .before .before .before .before .before .before .before .before .before .before .args .second)) (c .before .before .before .before .before .before .before .before .before .before .before .before .before .before .before .before .before .args .numbers .now) (c .before .before .before .before .before .before .before .before .before .before .before .before .before .before .before .before .before .args .names .now), c .before .before .before .before .before .before .before .before .before .before .before .before .before .head-size .ensures .0, c .before .before .before .before .before .before .before .before .before .before .before .before .before .before .before .before .before .pre .2))
 
 same-length : tie.Need-same-length
 same-length c = search needs
 
 returns : tie.Need-returns
 returns c =
-    let l = c .before .before in
-    let t = l .before .before .before .before in
-    let r = t .before .before .before .before in
-    let h = r .before .before .before .before in
-    let s = h .before .before .before .before .before in
-    parts-laid (s .args .numbers .now) (s .args .names .now) (s .args .out .now) (s .pre .2) _ _ _ _ _ _ _ (h .put-save-head .ensures (s .args .names .now)) (r .put-routes .ensures) (t .put-trees .ensures) (l .put-labels .ensures)
+    let s = c .before .before .before .before .before .before .before .before .before .before .before .before .before .before .before .before .before .before .before .before in
+    let h = c .before .before .before .before .before .before .before .before .before .before .before .before .before .before .before .before .head-size in
+    let whole : h .result - 0 ≡ h .result = omega arith in
+    parts-laid (formOf (s .args .second)) (s .args .numbers .now) (s .args .names .now) (s .args .out .now) (s .pre .2) _ _ _ _ _ _ _ _ _ (h .ensures .0) whole (c .before .before .before .before .before .before .before .before .before .before .before .before .before .before .put-save-head .ensures (s .args .names .now)) (c .before .before .before .before .before .before .before .before .before .before .put-routes .ensures) (c .before .before .before .before .before .before .put-trees .ensures) (c .before .before .put-labels .ensures)
 
 pub write-save-spec : {M : Type 1} → statement M
 write-save-spec =
     tie.close
     (tie.spec
+    head-size-requires
     sub-put-save-head
     part-put-save-head-start
     part-put-save-head-end
