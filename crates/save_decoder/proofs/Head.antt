@@ -1,40 +1,29 @@
 -- What a save's head has to say. Assumes nothing.
-use Prim.Native.Nat.{ℕ, suc, _+_, _*_, _≤_}
+use Prim.Native.Nat.{ℕ, _+_, _*_, _≤_, _<_}
 use native.Mathlib.Omega.{arith}
 use mathlib.Core.Path.{_≡_, refl, sym, ap, _∙_}
-use mathlib.Core.Bool.{true, false}
-use mathlib.Core.List.{List, [], _∷_, _++_}
-use lib.ListN.{length, drop, getD, replicate}
-use lib.Dec.{leb}
-use borrow.Author.Tests.{leb-true, not-true, not-false}
-use Rattle.meaning.specs.Octets.{any, two, four, twoAt, fourAt}
-use Rattle.meaning.specs.Lists.{by-test, same-eq}
+use mathlib.Core.Bool.{Bool, true, false}
+use mathlib.Core.List.{List, [], _∷_}
+use lib.ListN.{drop, getD, replicate}
+use lib.Dec.{ltb}
+use borrow.Author.Tests.{ltb-true, ltb-false, not-true}
+use Rattle.meaning.specs.Octets.{any, twoAt, fourAt}
+use Rattle.meaning.specs.Lists.{by-test}
 use Rattle.meaning.specs.RoundTrip.{both}
-use Rattle.meaning.specs.Card.{Tree, Use, free, Card, withTrees, withLabel, named, labelCount, routeLimit, treeLimit}
 use Rattle.meaning.specs.Events.{baseOutside}
-use Rattle.meaning.specs.Save.{marked, headSaved, treesRead, usesRead, labelled, allLabelled, onceEach, sameName, keepsRules, saved, tableIn, isSave, headSize, routeSize, treeSize}
+use Rattle.meaning.specs.Card.{Tree, Use, free, Card, withTrees, withLabel, named, labelCount}
+use Rattle.meaning.specs.Save.{Form, new, formOf, lastPlace, treesRead, treesEnd, usesRead, labelled, allLabelled, onceEach, sameName, keepsRules, tableIn, isSave, headSize, routeSize}
+use Rattle.meaning.specs.SaveLaws.{Head, head-of-save, last-of-save, ruled-keeps, taken-is-save}
 use Rattle.memory.proofs.Marks.{never}
 use Rattle.save_rows.specs.Stages.{treesBegin, rowsRead}
-use Rattle.save_rows.proofs.Rows.{routes-many, trees-many}
+use Rattle.save_labels.specs.Labels.{OfBlock}
 
--- ---- what the rules ask, of which the code needs some
-
-keeps-parts : (c : Card) → keepsRules c ≡ true → (baseOutside (c .base) ≡ false) × (length (c .routes) ≤ routeLimit) × (length (c .trees) ≤ treeLimit) × (onceEach sameName (c .trees) ≡ true)
+keeps-names : (c : Card) → keepsRules c ≡ true → (baseOutside (c .base) ≡ false) × (onceEach sameName (c .trees) ≡ true)
 unfolding keepsRules
-keeps-parts c e =
+keeps-names c e =
     let names = both _ _ (both _ _ (both _ _ (both _ _ (both _ _ e .0) .0) .0) .0) in
-    let counts = both _ _ (both _ _ (both _ _ (both _ _ (both _ _ (names .0) .0) .0) .0) .0) in
-    let routes = both _ _ (counts .0) in
-    (not-true _ (both _ _ (routes .0) .0), leb-true _ _ (routes .1), leb-true _ _ (counts .1), names .1)
-
-base-inside : (b : ℕ) → baseOutside b ≡ false → (16 ≤ b) × (b ≤ 1048320)
-unfolding baseOutside
-base-inside b e = let r = both (leb 16 b) (leb b 1048320) (not-false _ e) in (leb-true _ _ (r .0), leb-true _ _ (r .1))
-
-all-length : (b : ℕ) (us : List Use) (ts : List Tree) → length (allLabelled b us ts) ≡ length ts
-unfolding allLabelled
-all-length b us [] = refl
-all-length b us (t ∷ ts) = ap suc (all-length b us ts)
+    let routes = both _ _ (both _ _ (both _ _ (both _ _ (both _ _ (both _ _ (names .0) .0) .0) .0) .0) .0) in
+    (not-true _ (both _ _ (routes .0) .0), names .1)
 
 -- labels do not make names the same
 any-named : (b : ℕ) (us : List Use) (t : Tree) (ts : List Tree) → any (sameName (labelled b us t)) (allLabelled b us ts) ≡ any (sameName t) ts
@@ -47,42 +36,31 @@ unfolding onceEach allLabelled
 all-once b us [] = refl
 all-once b us (t ∷ ts) = rw (any-named b us t ts, all-once b us ts) refl
 
--- the number of labels in the head of a save, which has not more than there are
-written-labels : (c : Card) (rest : List ℕ) → twoAt (headSaved c ++ rest) 13 ≤ labelCount
-unfolding headSaved marked four two twoAt
-written-labels c rest = omega arith
+pub no-save : (f : Form) (o : List ℕ) → (Head o → ⊥) → isSave f o ≡ false
+no-save f o h = by-test (isSave f o) (λ e. absurd (h (head-of-save f o e))) (λ e. e)
 
-saved-labels : (c : Card) → twoAt (saved c) 13 ≤ labelCount
-unfolding saved
-saved-labels c = written-labels c _
+-- the trees of a save have each a name of their own
+module _ (f : Form) (o : List ℕ) where
+  names-once : isSave f o ≡ true → onceEach sameName (rowsRead f o .trees) ≡ true
+  unfolding tableIn rowsRead withTrees treesBegin
+  names-once e =
+      let afterRoutes : List ℕ = drop (headSize f + getD o 11 0 * routeSize) o in
+      let us : List Use = usesRead f (fourAt o 3) (twoAt o 13) (treesEnd f (getD o 12 0) afterRoutes) (replicate labelCount free) in
+      sym (all-once (fourAt o 3) us (treesRead f (getD o 12 0) afterRoutes)) ∙ keeps-names (tableIn f o) (ruled-keeps f (tableIn f o) (taken-is-save f o e .0)) .1
 
-module _ (o : List ℕ) where
-  pub record Head : Type 0 where
-    pub low : 16 ≤ fourAt o 3
-    pub high : fourAt o 3 ≤ 1048320
-    pub routes : getD o 11 0 ≤ routeLimit
-    pub trees : getD o 12 0 ≤ treeLimit
-    pub labels : twoAt o 13 ≤ labelCount
-    pub names : onceEach sameName (rowsRead o .trees) ≡ true
+  pub names-not : (c : Card) → c ≡ rowsRead f o → onceEach sameName (c .trees) ≡ false → isSave f o ≡ false
+  names-not c e n = by-test (isSave f o) (λ k. absurd (never (sym n ∙ ap (λ (x : Card). onceEach sameName (x .trees)) e ∙ names-once k))) (λ k. k)
 
-  saved-head : isSave o ≡ true → Head
-  unfolding isSave tableIn rowsRead withTrees treesBegin
-  saved-head e =
-      let us : List Use = usesRead (fourAt o 3) (twoAt o 13) (drop (getD o 12 0 * treeSize) (drop (headSize + getD o 11 0 * routeSize) o)) (replicate 256 free) in
-      let again : saved (tableIn o) ≡ o = same-eq (saved (tableIn o)) o (both (keepsRules (tableIn o)) _ e .1) in
-      let k = keeps-parts (tableIn o) (both (keepsRules (tableIn o)) _ e .0) in
-      let b = base-inside (fourAt o 3) (k .0) in
-      record {
-        low = b .0;
-        high = b .1;
-        routes = rw (routes-many (getD o 11 0) (drop headSize o)) at (k .1);
-        trees = rw (all-length (fourAt o 3) us (treesRead (getD o 12 0) (drop (headSize + getD o 11 0 * routeSize) o)), trees-many (getD o 12 0) (drop (headSize + getD o 11 0 * routeSize) o)) at (k .2);
-        labels = rw again at (saved-labels (tableIn o));
-        names = sym (all-once (fourAt o 3) us (treesRead (getD o 12 0) (drop (headSize + getD o 11 0 * routeSize) o))) ∙ k .3;
-      }
+-- the last label given, which the new form has
+pub last-not : (b : Bool) (o : List ℕ) → b ≡ true → (OfBlock (fourAt o 3) (fourAt o lastPlace) → ⊥) → isSave (formOf b) o ≡ false
+unfolding formOf
+last-not b o e h = rw e (by-test (isSave new o) (λ k. absurd (h (last-of-save o k))) (λ k. k))
 
-  pub no-save : (Head → ⊥) → isSave o ≡ false
-  no-save f = by-test (isSave o) (λ e. absurd (f (saved-head e))) (λ e. e)
+pub last-in : (base l b n : ℕ) → b ≡ base → n ≡ l → b ≤ n → ltb n (b + 256) ≡ true → OfBlock base l
+last-in base l b n eb en low high some = (omega arith, omega (arith, ltb-true n (b + 256) high))
 
-  pub names-not : (c : Card) → c ≡ rowsRead o → onceEach sameName (c .trees) ≡ false → isSave o ≡ false
-  names-not c e n = no-save (λ h. never (sym n ∙ ap (λ (x : Card). onceEach sameName (x .trees)) e ∙ h .names))
+pub last-out : (base l b n : ℕ) → b ≡ base → n ≡ l → (n ≡ 0 → ⊥) → ltb n (b + 256) ≡ false → OfBlock base l → ⊥
+last-out base l b n eb en some high h = omega (arith, ltb-false n (b + 256) high, h (λ z. some (en ∙ z)) .1)
+
+pub last-low : (base l b n : ℕ) → b ≡ base → n ≡ l → (n ≡ 0 → ⊥) → n < b → OfBlock base l → ⊥
+last-low base l b n eb en some low h = omega (arith, h (λ z. some (en ∙ z)) .0)

@@ -1,13 +1,15 @@
-// The table in the octets of a save, into memory that is lent.
+// The table in the octets of a save, of either form, into memory that is lent.
 ghost use mathlib.Core.Path.{_≡_};
 ghost use mathlib.Core.Bool.{true, false};
 ghost use Prim.Native.Nat.{_≤_};
 ghost use lib.ListN.{getD};
 ghost use Rattle.meaning.specs.Octets.{fourAt};
-ghost use Rattle.meaning.specs.Save.{tableIn, isSave};
+ghost use Rattle.meaning.specs.Save.{Form, formOf, lastPlace, tableIn, isSave};
 ghost use Rattle.meaning.specs.Card.{routeLimit, treeLimit};
 ghost use Rattle.memory.specs.Sizes.{Numbers, Names};
 ghost use Rattle.memory.specs.Memory.{cardOf};
+ghost use Rattle.save_labels.specs.Labels.{OfBlock};
+use meaning::LAST_PLACE;
 use memory::LABELS;
 use memory::ROUTES;
 use memory::TREES;
@@ -15,7 +17,7 @@ use memory::TREES;
 // Whether the head may be that of a save: its base is in range, and its routes, trees and labels are not too many.
 fn is_head(octets: &[u8]) -> bool
     ensures { λ r. ⌜ (r ≡ true → (16 ≤ fourAt (now (octets .entry)) 3) × (fourAt (now (octets .entry)) 3 ≤ 1048320) × (getD (now (octets .entry)) 11 0 ≤ routeLimit) × (getD (now (octets .entry)) 12 0 ≤ treeLimit))
-        × (r ≡ false → isSave (now (octets .entry)) ≡ false) ⌝ }
+        × (r ≡ false → (f : Form) → isSave f (now (octets .entry)) ≡ false) ⌝ }
 {
     let base = octets::four_at(octets, 3);
     if base < 16 {
@@ -33,18 +35,40 @@ fn is_head(octets: &[u8]) -> bool
     octets::at(octets, 12) <= TREES
 }
 
+// Whether the last label given, which the head of the new form says, is none or one of the block.
+fn is_last(octets: &[u8], second: bool) -> bool
+    ensures { λ r. ⌜ (r ≡ true → second ≡ true → OfBlock (fourAt (now (octets .entry)) 3) (fourAt (now (octets .entry)) lastPlace))
+        × (r ≡ false → isSave (formOf second) (now (octets .entry)) ≡ false) ⌝ }
+{
+    if !second {
+        return true;
+    }
+    let base = octets::four_at(octets, 3);
+    let last = octets::four_at(octets, LAST_PLACE);
+    if last == 0 {
+        return true;
+    }
+    if last < base {
+        return false;
+    }
+    last < base + LABELS
+}
+
 // The table in the octets, into memory that held anything. False where the octets can be no save.
-pub fn decode(octets: &[u8], numbers: &mut [u64], names: &mut [u8]) -> bool
+pub fn decode(octets: &[u8], second: bool, numbers: &mut [u64], names: &mut [u8]) -> bool
     requires { ⌜ Numbers (now numbers) × Names (now names) ⌝ }
-    ensures { λ r. ⌜ (r ≡ true → cardOf (now (numbers .exit)) (now (names .exit)) ≡ tableIn (now (octets .entry))) × (r ≡ false → isSave (now (octets .entry)) ≡ false) ⌝ }
+    ensures { λ r. ⌜ (r ≡ true → cardOf (now (numbers .exit)) (now (names .exit)) ≡ tableIn (formOf second) (now (octets .entry))) × (r ≡ false → isSave (formOf second) (now (octets .entry)) ≡ false) ⌝ }
 {
     if !is_head(octets) {
         return false;
     }
-    save_rows::read_rows(octets, numbers, names);
+    if !is_last(octets, second) {
+        return false;
+    }
+    let at = save_rows::read_rows(octets, second, numbers, names);
     if !save_rules_rows::names_once(numbers, names) {
         return false;
     }
-    save_labels::read_labels(octets, numbers, names);
+    save_labels::read_labels(octets, at, second, numbers, names);
     true
 }

@@ -1,8 +1,9 @@
 -- The fields of a save's records, as the code reads them: octets in a space, numbers, names. Assumes nothing.
-use Prim.Native.Nat.{ℕ, _+_, _*_, _-_, _/_, _%_, _≤_, _<_}
+use Prim.Native.Nat.{ℕ, suc, _+_, _*_, _-_, _/_, _%_, _≤_, _<_}
 use native.Mathlib.Nat.{add-zero}
 use native.Mathlib.Omega.{arith}
 use mathlib.Core.Path.{_≡_, refl, sym, ap, ap₂, _∙_}
+use mathlib.Core.Bool.{Bool, true, false}
 use mathlib.Core.List.{List, [], _∷_, _++_, append-assoc}
 use lib.ListN.{length, take, drop, getD, length-append, length-take, length-drop, drop-of-length-le}
 use lib.Seq.{take-take, take-all, take-length, take-at, drop-drop, getD-drop, length-take-le}
@@ -11,7 +12,8 @@ use borrow.Author.Tests.{ltb-true, ltb-false}
 use Rattle.meaning.specs.Octets.{pick, two, twoAt, fourAt}
 use Rattle.meaning.specs.Lists.{by-test, picked}
 use Rattle.meaning.specs.Wire.{element, rootLimit, nameLimit}
-use Rattle.meaning.specs.Save.{spacedIn, nameIn, savedOpaque}
+use Rattle.meaning.specs.Save.{old, new, formOf, spacedIn, nameIn, extent, savedOpaque, spacedName}
+use Rattle.meaning.specs.SavePlaces.{extent-there}
 use Rattle.octets.specs.Part.{mid}
 use Rattle.octets.proofs.Parts.{mid-length}
 use Rattle.memory.specs.Memory.{upTo}
@@ -93,6 +95,30 @@ module _ (xs us vs ws zs root opaque : List ℕ) (a b e : ℕ) (hl : length xs �
       take-mid b (e - b) e (mid a (b - a) (mid 4 (a - 4) (mid 0 4 xs us) vs) ws) ((us ++ vs) ++ ws) zs r (omega arith) (ap length hz ∙ omega arith) (omega arith)
       ∙ regroup us vs ws zs ∙ rw (hu, hv, hw, hz) refl
 
-pub name-in : (o root opaque : List ℕ) (at : ℕ) → root ≡ spacedIn rootLimit (drop at o) → opaque ≡ spacedIn savedOpaque (drop (at + (1 + rootLimit)) o) → element (pick (eqb (length root) 4) 1 2) root opaque ≡ nameIn (drop at o)
+pub name-in : (o root opaque : List ℕ) (at : ℕ) → root ≡ spacedIn rootLimit (drop at o) → opaque ≡ spacedIn savedOpaque (drop (at + (1 + rootLimit)) o) → element (pick (eqb (length root) 4) 1 2) root opaque ≡ nameIn old (drop at o)
 unfolding nameIn
 name-in o root opaque at hr ho = rw (hr, ho, ← drop-drop (1 + rootLimit) at o) refl
+
+pub whole-in : (o name xs ys : List ℕ) (at : ℕ) → length xs ≡ nameLimit → length name ≤ nameLimit → ys ≡ name → name ≡ spacedIn nameLimit (drop at o) → take (length name) (mid 0 (length name - 0) xs ys) ≡ nameIn new (drop at o)
+unfolding nameIn
+whole-in o name xs ys at l h e k =
+    let z : length name - 0 ≡ length name = omega arith in
+    rw (z, e) (take-mid 0 (length name) (length name) xs [] name refl (omega arith) refl (omega arith) ∙ k)
+
+-- ---- by the form
+
+pub name-new : (b : Bool) (o xs : List ℕ) → b ≡ true → xs ≡ nameIn new o → xs ≡ nameIn (formOf b) o
+unfolding formOf
+name-new b o xs e h = rw e h
+
+pub name-old : (b : Bool) (o xs : List ℕ) → b ≡ false → xs ≡ nameIn old o → xs ≡ nameIn (formOf b) o
+unfolding formOf
+name-old b o xs e h = rw e h
+
+pub extent-new : (b : Bool) (o : List ℕ) (at x : ℕ) → b ≡ true → x ≡ getD o at 0 → x + 1 ≡ extent (formOf b) (drop at o)
+unfolding formOf
+extent-new b o at x e h = rw e (let one-on : x + 1 ≡ suc x = omega arith in one-on ∙ ap suc h ∙ sym (extent-there o at))
+
+pub extent-old : (b : Bool) (o : List ℕ) → b ≡ false → spacedName ≡ extent (formOf b) o
+unfolding formOf
+extent-old b o e = rw e refl

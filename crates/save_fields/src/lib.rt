@@ -1,4 +1,4 @@
-// The fields of a save's records, read: the octets in a space, and a name.
+// The fields of a save's records, read: the octets in a space, and a name in either form.
 ghost use mathlib.Core.Path.{_≡_};
 ghost use mathlib.Core.List.{[], _∷_, _++_};
 ghost use Prim.Native.Nat.{_≤_, _<_};
@@ -6,11 +6,13 @@ ghost use lib.ListN.{length, take, drop};
 ghost use Rattle.meaning.specs.Octets.{pick, two};
 ghost use Rattle.meaning.specs.Wire.{nameLimit};
 ghost use lib.Dec.{eqb};
-ghost use Rattle.meaning.specs.Save.{spacedIn, nameIn, savedOpaque};
+ghost use Rattle.meaning.specs.Save.{old, new, formOf, spacedIn, nameIn, extent, savedOpaque};
 ghost use Rattle.memory.specs.Memory.{upTo};
+use meaning::NAME_LIMIT;
 use meaning::ROOT_LIMIT;
 use meaning::SAVED_OPAQUE;
 use meaning::SAVED_ROOT_SPACE;
+use meaning::SPACED_NAME;
 
 fn at_most(n: usize, k: usize) -> usize
     ensures { λ r. ⌜ (r ≡ upTo k n) × (r ≤ k) ⌝ }
@@ -55,10 +57,10 @@ fn put_two(out: &mut [u8], n: usize)
     octets::copy(out, &both);
 }
 
-// The name whose root and opaque value stand at a place, at the front of a buffer; its length.
-pub fn read_name(octets: &[u8], at: usize, out: &mut [u8]) -> usize
+// The name whose root and opaque value stand at a place, each in its space, at the front of a buffer; its length.
+fn read_spaces(octets: &[u8], at: usize, out: &mut [u8]) -> usize
     requires { ⌜ (length (now out) ≡ nameLimit) × (at < 1073741824) ⌝ }
-    ensures { λ r. ⌜ (take r (now (out .exit)) ≡ nameIn (drop at (now (octets .entry)))) × (r ≤ nameLimit) ⌝ }
+    ensures { λ r. ⌜ (take r (now (out .exit)) ≡ nameIn old (drop at (now (octets .entry)))) × (r ≤ nameLimit) ⌝ }
 {
     let root = spaced(octets, at, ROOT_LIMIT);
     let opaque = spaced(octets, at + SAVED_ROOT_SPACE, SAVED_OPAQUE);
@@ -70,4 +72,36 @@ pub fn read_name(octets: &[u8], at: usize, out: &mut [u8]) -> usize
     put_two(&mut out[a..b], opaque.len());
     octets::copy(&mut out[b..e], opaque);
     e
+}
+
+// The name that stands whole at a place, with its length before it.
+fn read_whole(octets: &[u8], at: usize, out: &mut [u8]) -> usize
+    requires { ⌜ length (now out) ≡ nameLimit ⌝ }
+    ensures { λ r. ⌜ (take r (now (out .exit)) ≡ nameIn new (drop at (now (octets .entry)))) × (r ≤ nameLimit) ⌝ }
+{
+    let name = spaced(octets, at, NAME_LIMIT);
+    let n = name.len();
+    octets::copy(&mut out[0..n], name);
+    n
+}
+
+// The name at a place, at the front of a buffer; its length.
+pub fn read_name(octets: &[u8], at: usize, second: bool, out: &mut [u8]) -> usize
+    requires { ⌜ (length (now out) ≡ nameLimit) × (at < 1073741824) ⌝ }
+    ensures { λ r. ⌜ (take r (now (out .exit)) ≡ nameIn (formOf second) (drop at (now (octets .entry)))) × (r ≤ nameLimit) ⌝ }
+{
+    if second {
+        return read_whole(octets, at, out);
+    }
+    read_spaces(octets, at, out)
+}
+
+// How many octets the name at a place takes.
+pub fn extent_at(octets: &[u8], at: usize, second: bool) -> usize
+    ensures { λ r. ⌜ (r ≡ extent (formOf second) (drop at (now (octets .entry)))) × (r ≤ 256) ⌝ }
+{
+    if second {
+        return octets::at(octets, at) as usize + 1;
+    }
+    SPACED_NAME
 }

@@ -3,7 +3,7 @@ use Prim.Native.Nat.{ℕ, zero, suc, _+_, _*_, _-_, _%_, _≤_, _<_}
 use native.Mathlib.Nat.{suc-mul, not-suc-le-zero, le-of-suc-le-suc}
 use native.Mathlib.Numerals.{add-one}
 use native.Mathlib.Omega.{arith}
-use mathlib.Core.Path.{_≡_, refl, sym, ap, _∙_}
+use mathlib.Core.Path.{_≡_, refl, sym, ap, _∙_, subst}
 use mathlib.Core.Bool.{Bool, true, false}
 use mathlib.Core.List.{List, [], _∷_}
 use lib.ListN.{length, drop, getD, set, length-set}
@@ -14,7 +14,8 @@ use Rattle.meaning.specs.Octets.{pick, place, any, same, twoAt, fourAt}
 use Rattle.meaning.specs.Lists.{by-test, place-finds, same-eq, same-no}
 use Rattle.meaning.specs.Card.{Tree, Use, free, mapped, awaiting, Card, fresh, withNext, withRoutes, withTrees, withLabels, withLabel, bare, treeAt, named, labelCount, withLast, isFree}
 use Rattle.meaning.specs.Events.{setLabel}
-use Rattle.meaning.specs.Save.{nameIn, useRead, usesRead, isMappedFor, labelled, allLabelled, onceEach, sameName, tableIn, headSize, routeSize, treeSize, useSize, highestUsed, settled}
+use Rattle.meaning.specs.Save.{Form, formOf, lastPlace, nameIn, extent, useRead, useEnd, usesRead, useBeside, isMappedFor, labelled, allLabelled, onceEach, sameName, tableIn, highestUsed, lastIn}
+use Rattle.meaning.specs.SavePlaces.{usesEnd, use-there, uses-end-more, uses-read-more}
 use Rattle.octets.specs.Part.{tab}
 use Rattle.memory.specs.Memory.{cardOf, baseIn, treeCount, labelIn, isFreeAt, labelBefore}
 use Rattle.memory.proofs.Memory.{base-range, trees-length, labels-length}
@@ -23,33 +24,16 @@ use Rattle.memory.proofs.Trees.{label-at}
 use Rattle.memory.proofs.Head.{label-before}
 use Rattle.meaning.specs.SaveLaws.{highest-is, highest-free}
 use Rattle.octets.proofs.Tab.{tab-get}
-use Rattle.save_rows.specs.Stages.{headRead, treesBegin, rowsRead}
+use Rattle.save_rows.specs.Stages.{headRead, treesBegin, rowsRead, labelsBegin}
 use Rattle.save_fields.proofs.Read.{four-drop}
 use Rattle.save_rows.proofs.Rows.{trees-bare}
-use Rattle.save_labels.specs.Labels.{Unlabelled, Ready}
+use Rattle.save_labels.specs.Labels.{Unlabelled, Ready, OfBlock}
 
 -- ---- a label's record
 
-module _ (b : ℕ) where
-  pub uses-length : (n : ℕ) (o : List ℕ) (us : List Use) → length (usesRead b n o us) ≡ length us
-  unfolding usesRead
-  uses-length zero o us = refl
-  uses-length (suc n) o us = uses-length n (drop useSize o) _ ∙ length-set us _ _
-
-  uses-next : (i : ℕ) (o : List ℕ) (us : List Use) → usesRead b (suc i) o us ≡ set (usesRead b i o us) (fourAt (drop (i * useSize) o) 3 - b) (useRead (drop (i * useSize) o))
-  unfolding usesRead
-  uses-next zero o us = refl
-  uses-next (suc i) o us =
-      let k : useSize + i * useSize ≡ suc i * useSize = omega (arith, suc-mul i useSize) in
-      let e : drop (i * useSize) (drop useSize o) ≡ drop (suc i * useSize) o = drop-drop (i * useSize) useSize o ∙ ap (λ (m : ℕ). drop m o) k in
-      uses-next i (drop useSize o) (set us (fourAt o 3 - b) (useRead o)) ∙ rw e refl
-
-  pub uses-more : (i at : ℕ) (o : List ℕ) (us : List Use) → usesRead b (i + 1) (drop at o) us ≡ set (usesRead b i (drop at o) us) (fourAt (drop (at + i * useSize) o) 3 - b) (useRead (drop (at + i * useSize) o))
-  uses-more i at o us = ap (λ (k : ℕ). usesRead b k (drop at o) us) (add-one i) ∙ uses-next i (drop at o) us ∙ rw (drop-drop (i * useSize) at o) refl
-
-use-read : (o : List ℕ) (at : ℕ) → pick (eqb (getD o (at + 7) 0) 1) (mapped (getD o (at + 8) 0 % 16) (nameIn (drop (at + 9) o))) (awaiting (getD o (at + 8) 0 % 16) (nameIn (drop (at + 9) o))) ≡ useRead (drop at o)
+use-read : (f : Form) (o : List ℕ) (at : ℕ) → pick (eqb (getD o (at + 7) 0) 1) (mapped (getD o (at + 8) 0 % 16) (nameIn f (drop (at + 9) o))) (awaiting (getD o (at + 8) 0 % 16) (nameIn f (drop (at + 9) o))) ≡ useRead f (drop at o)
 unfolding useRead
-use-read o at = rw (← getD-drop at o 7 0, ← getD-drop at o 8 0, ← drop-drop 9 at o) refl
+use-read f o at = rw (← getD-drop at o 7 0, ← getD-drop at o 8 0, ← drop-drop 9 at o) refl
 
 module _ (ns os o : List ℕ) (at p l b : ℕ) (hp : p ≡ l - b) (hl : l ≡ fourAt o (at + 3)) (hb : b ≡ baseIn ns) where
   place-is : fourAt (drop at o) 3 - cardOf ns os .base ≡ p
@@ -60,10 +44,10 @@ module _ (ns os o : List ℕ) (at p l b : ℕ) (hp : p ≡ l - b) (hl : l ≡ fo
   unfolding withLabels
   use-out u h = rw (place-is, set-out (cardOf ns os .labels) p u (rw labels-length h)) refl
 
-  pub use-put : (c : Card) (held : Bool) (n : ℕ) (a : List ℕ) → c ≡ withLabels (set (cardOf ns os .labels) p (pick held (mapped n a) (awaiting n a))) (cardOf ns os)
-      → held ≡ eqb (getD o (at + 7) 0) 1 → n ≡ getD o (at + 8) 0 % 16 → a ≡ nameIn (drop (at + 9) o)
-      → c ≡ withLabels (set (cardOf ns os .labels) (fourAt (drop at o) 3 - cardOf ns os .base) (useRead (drop at o))) (cardOf ns os)
-  use-put c held n a e eh en ea = rw (e, eh, en, ea, place-is, use-read o at) refl
+  pub use-put : (f : Form) (c : Card) (held : Bool) (n : ℕ) (a : List ℕ) → c ≡ withLabels (set (cardOf ns os .labels) p (pick held (mapped n a) (awaiting n a))) (cardOf ns os)
+      → held ≡ eqb (getD o (at + 7) 0) 1 → n ≡ getD o (at + 8) 0 % 16 → a ≡ nameIn f (drop (at + 9) o)
+      → c ≡ withLabels (set (cardOf ns os .labels) (fourAt (drop at o) 3 - cardOf ns os .base) (useRead f (drop at o))) (cardOf ns os)
+  use-put f c held n a e eh en ea = rw (e, eh, en, ea, place-is, use-read f o at) refl
 
 -- no tree carries a label of the block, where none carries any
 pub none-carries : (ns os : List ℕ) (p : ℕ) → Unlabelled (cardOf ns os) → (j : ℕ) → j < treeCount ns → treeAt j (cardOf ns os) .label ≡ baseIn ns + p → ⊥
@@ -81,16 +65,28 @@ once-kept c d ls h e = ap (λ (x : Card). onceEach sameName (x .trees)) e ∙ h
 
 -- ---- i labels were read
 
-module _ (c : Card) (o : List ℕ) (at : ℕ) where
-  pub labels-none : c ≡ withLabels (usesRead (c .base) 0 (drop at o) (c .labels)) c
+module _ (f : Form) (c : Card) (o : List ℕ) (from : ℕ) where
+  pub labels-none : c ≡ withLabels (usesRead f (c .base) 0 (drop from o) (c .labels)) c
   unfolding withLabels usesRead
   labels-none = refl
 
-  pub labels-more : (i : ℕ) (d e : Card) → d ≡ withLabels (usesRead (c .base) i (drop at o) (c .labels)) c
-      → e ≡ withLabels (set (d .labels) (fourAt (drop (at + i * useSize) o) 3 - d .base) (useRead (drop (at + i * useSize) o))) d
-      → e ≡ withLabels (usesRead (c .base) (i + 1) (drop at o) (c .labels)) c
+  pub none-behind : drop from o ≡ usesEnd f 0 (drop from o)
+  unfolding usesEnd
+  none-behind = refl
+
+  pub labels-more : (i at : ℕ) (d e : Card) → d ≡ withLabels (usesRead f (c .base) i (drop from o) (c .labels)) c → drop at o ≡ usesEnd f i (drop from o)
+      → e ≡ withLabels (set (d .labels) (fourAt (drop at o) 3 - d .base) (useRead f (drop at o))) d
+      → e ≡ withLabels (usesRead f (c .base) (i + 1) (drop from o) (c .labels)) c
   unfolding withLabels
-  labels-more i d e hd he = rw (he, hd, uses-more (c .base) i at o (c .labels)) refl
+  labels-more i at d e hd here he = rw (he, hd, here, add-one i, uses-read-more f (c .base) i (drop from o) (c .labels)) refl
+
+  pub label-behind : (i at e : ℕ) → e ≡ extent f (drop (at + 9) o) → drop at o ≡ usesEnd f i (drop from o) → drop (at + (useBeside + e)) o ≡ usesEnd f (i + 1) (drop from o)
+  label-behind i at e he here =
+      ap (λ (k : ℕ). drop (at + (useBeside + k)) o) he
+      ∙ sym (use-there f o at)
+      ∙ ap (useEnd f) here
+      ∙ sym (uses-end-more f i (drop from o))
+      ∙ ap (λ (k : ℕ). usesEnd f k (drop from o)) (sym (add-one i))
 
 -- ---- the first label that is mapped for a name
 
@@ -280,16 +276,21 @@ module _ (ns₀ os : List ℕ) where
 
 -- ---- all labels, after the routes and the trees
 
-module _ (o : List ℕ) where
-  pub rows-unlabelled : (c : Card) → c ≡ rowsRead o → Unlabelled c
+module _ (f : Form) (o : List ℕ) where
+  pub rows-unlabelled : (c : Card) → c ≡ rowsRead f o → Unlabelled c
   unfolding rowsRead withTrees treeAt
-  rows-unlabelled c e j lt = rw e (trees-bare (getD o 12 0) j (drop (treesBegin o) o))
+  rows-unlabelled c e j lt = rw e (trees-bare f (getD o 12 0) j (drop (treesBegin f o) o))
 
-  pub table-whole : (n routes trees : ℕ) (c d t s : Card) → c ≡ rowsRead o
-      → d ≡ withLabels (usesRead (c .base) n (drop (headSize + routes * routeSize + trees * treeSize) o) (c .labels)) c → t ≡ withTrees (allLabelled (d .base) (d .labels) (d .trees)) d
-      → n ≡ twoAt o 13 → routes ≡ getD o 11 0 → trees ≡ getD o 12 0 → s ≡ settled t → s ≡ tableIn o
-  unfolding tableIn rowsRead headRead treesBegin settled withLast withLabels withTrees withRoutes withNext fresh
-  table-whole n routes trees c d t s ec ed et en er es ez = rw (ez, et, ed, ec, en, er, es, ← drop-drop (getD o 12 0 * treeSize) (headSize + getD o 11 0 * routeSize) o) refl
+  -- the base that the head says
+  pub base-kept : (c d : Card) (us : List Use) (ns os : List ℕ) (ts : List Tree) → c ≡ rowsRead f o → d ≡ withLabels us c → cardOf ns os ≡ withTrees ts d → fourAt o 3 ≡ baseIn ns
+  unfolding rowsRead headRead withLabels withTrees withRoutes withNext fresh cardOf
+  base-kept c d us ns os ts ec ed et = sym (ap (λ (x : Card). x .base) et ∙ ap (λ (x : Card). x .base) ed ∙ ap (λ (x : Card). x .base) ec)
+
+  pub table-whole : (n at : ℕ) (c d t s : Card) → c ≡ rowsRead f o → drop at o ≡ labelsBegin f o
+      → d ≡ withLabels (usesRead f (c .base) n (drop at o) (c .labels)) c → t ≡ withTrees (allLabelled (d .base) (d .labels) (d .trees)) d
+      → n ≡ twoAt o 13 → s ≡ withLast (lastIn f o (t .base) (t .labels)) t → s ≡ tableIn f o
+  unfolding tableIn rowsRead headRead treesBegin labelsBegin withLast withLabels withTrees withRoutes withNext fresh
+  table-whole n at c d t s ec ea ed et en es = rw (es, et, ed, ec, en, ea) refl
 
 -- ---- the highest label in use, from the block's end down
 
@@ -319,6 +320,28 @@ module _ (ns os : List ℕ) where
   unfolding labelBefore
   used-none none = sym (highest-free (baseIn ns) (cardOf ns os .labels) (λ q hi. let k : q < labelCount = rw labels-length at hi in at-place q k ∙ none q (omega arith) k))
 
-  pub settled-is : (ms : List ℕ) (v : ℕ) → cardOf ms os ≡ withLast (labelBefore (baseIn ns) v) (cardOf ns os) → labelBefore (baseIn ns) v ≡ highestUsed (baseIn ns) (cardOf ns os .labels) → cardOf ms os ≡ settled (cardOf ns os)
-  unfolding settled cardOf
-  settled-is ms v e h = e ∙ ap (λ (l : ℕ). withLast l (cardOf ns os)) h
+  pub settled-is : (f : Form) (o ms : List ℕ) (v : ℕ) → cardOf ms os ≡ withLast (labelBefore (baseIn ns) v) (cardOf ns os) → labelBefore (baseIn ns) v ≡ lastIn f o (baseIn ns) (cardOf ns os .labels)
+      → cardOf ms os ≡ withLast (lastIn f o (cardOf ns os .base) (cardOf ns os .labels)) (cardOf ns os)
+  unfolding cardOf
+  settled-is f o ms v e h = e ∙ ap (λ (l : ℕ). withLast l (cardOf ns os)) h
+
+-- by the form
+module _ (b : Bool) (o : List ℕ) (base : ℕ) (us : List Use) where
+  pub turn-old : (v : ℕ) → b ≡ false → labelBefore base v ≡ highestUsed base us → labelBefore base v ≡ lastIn (formOf b) o base us
+  unfolding formOf lastIn
+  turn-old v e h = rw e h
+
+  pub turn-none : (l : ℕ) → b ≡ true → l ≡ fourAt o lastPlace → l ≡ 0 → labelBefore base 0 ≡ lastIn (formOf b) o base us
+  unfolding formOf lastIn labelBefore
+  turn-none l e h z = rw e (sym z ∙ h)
+
+  pub turn-some : (l n : ℕ) → b ≡ true → l ≡ fourAt o lastPlace → n ≡ base → OfBlock base (fourAt o lastPlace) → (l ≡ 0 → ⊥) → labelBefore base (l - n + 1) ≡ lastIn (formOf b) o base us
+  unfolding formOf lastIn
+  turn-some l n e h en range some =
+      let p : (base ≤ l) × (l < base + labelCount) = rw h (range (λ z. some (h ∙ z))) in
+      let q : base + (l - n) ≡ l = omega arith in
+      rw e (label-before base (l - n) (omega arith) ∙ q ∙ h)
+
+-- what the head says is of the block of the memory that was read
+pub block-kept : (b : Bool) (base l n : ℕ) → base ≡ n → (b ≡ true → OfBlock base l) → b ≡ true → OfBlock n l
+block-kept b base l n e h k = subst (λ (m : ℕ). OfBlock m l) e (h k)

@@ -1,22 +1,21 @@
-// A save's labels in use, and with them the label that each tree carries: out of its octets, into the memory that holds its trees.
+// A save's labels in use, and with them the label that each tree carries and the last label given: out of its octets, in either form, into
+// the memory that holds its trees.
 ghost use mathlib.Core.Path.{_≡_};
 ghost use mathlib.Core.Bool.{true};
 ghost use mathlib.Core.List.{List};
 ghost use Prim.Native.Nat.{ℕ, _-_, _≤_, _<_};
-ghost use lib.ListN.{drop, set, getD};
+ghost use lib.ListN.{drop, set};
 ghost use Rattle.meaning.specs.Octets.{place, fourAt};
-ghost use Rattle.meaning.specs.Card.{withTrees, withLabels, treeAt, labelCount, routeLimit, treeLimit};
-ghost use Rattle.meaning.specs.Save.{useRead, usesRead, isMappedFor, labelled, allLabelled, sameName, onceEach, tableIn, highestUsed, settled};
+ghost use Rattle.meaning.specs.Card.{withTrees, withLabels, withLast, treeAt, labelCount, treeLimit};
+ghost use Rattle.meaning.specs.Save.{formOf, lastPlace, useRead, usesRead, isMappedFor, labelled, allLabelled, sameName, onceEach, tableIn, highestUsed, lastIn};
 ghost use Rattle.memory.specs.Sizes.{Numbers, Names};
 ghost use Rattle.memory.specs.Memory.{cardOf, baseIn, treeCount, isMappedAt, labelBefore};
-ghost use Rattle.save_rows.specs.Stages.{rowsRead};
-ghost use Rattle.save_labels.specs.Labels.{Unlabelled, Ready};
-use meaning::HEAD_SIZE;
+ghost use Rattle.save_rows.specs.Stages.{rowsRead, labelsBegin};
+ghost use Rattle.save_labels.specs.Labels.{Unlabelled, Ready, OfBlock};
 use meaning::LABEL_COUNT;
+use meaning::LAST_PLACE;
 use meaning::NAME_LIMIT;
-use meaning::ROUTE_SIZE;
-use meaning::TREE_SIZE;
-use meaning::USE_SIZE;
+use meaning::USE_BESIDE;
 use memory::LABELS;
 
 // ---- labels in use
@@ -28,30 +27,40 @@ fn place_of(label: u64, base: u64) -> u64
     if label < base { 0 } else { label - base }
 }
 
-fn read_use(octets: &[u8], at: usize, numbers: &mut [u64], names: &mut [u8])
+fn read_use(octets: &[u8], at: usize, second: bool, numbers: &mut [u64], names: &mut [u8])
     requires { ⌜ Numbers (now numbers) × Names (now names) × (at < 1000000000) × Unlabelled (cardOf (now numbers) (now names)) ⌝ }
     ensures { λ _. ⌜ (let c = cardOf (now (numbers .entry)) (now (names .entry)) in
-        cardOf (now (numbers .exit)) (now (names .exit)) ≡ withLabels (set (c .labels) (fourAt (drop at (now (octets .entry))) 3 - c .base) (useRead (drop at (now (octets .entry))))) c) ⌝ }
+        cardOf (now (numbers .exit)) (now (names .exit)) ≡ withLabels (set (c .labels) (fourAt (drop at (now (octets .entry))) 3 - c .base) (useRead (formOf second) (drop at (now (octets .entry))))) c) ⌝ }
 {
     let p = place_of(octets::four_at(octets, at + 3), memory::base(numbers));
     if LABELS <= p {
         return;
     }
     let mut name = [0u8; NAME_LIMIT];
-    let n = save_fields::read_name(octets, at + 9, &mut name);
+    let n = save_fields::read_name(octets, at + 9, second, &mut name);
     let held = octets::at(octets, at + 7) == 1;
     let neighbour = octets::at(octets, at + 8) % 16;
     memory_marks::enter_use(numbers, names, p as usize, held, neighbour, &name[0..n]);
 }
 
-fn read_uses(octets: &[u8], at: usize, n: usize, numbers: &mut [u64], names: &mut [u8])
-    requires { ⌜ Numbers (now numbers) × Names (now names) × (n < 65536) × (at < 65536) × Unlabelled (cardOf (now numbers) (now names)) ⌝ }
+fn read_uses(
+    octets: &[u8],
+    from: usize,
+    second: bool,
+    n: usize,
+    numbers: &mut [u64],
+    names: &mut [u8],
+)
+    requires { ⌜ Numbers (now numbers) × Names (now names) × (n < 65536) × (from < 65536) × Unlabelled (cardOf (now numbers) (now names)) ⌝ }
     ensures { λ _. ⌜ (let c = cardOf (now (numbers .entry)) (now (names .entry)) in
-        cardOf (now (numbers .exit)) (now (names .exit)) ≡ withLabels (usesRead (c .base) n (drop at (now (octets .entry))) (c .labels)) c) ⌝ }
+        cardOf (now (numbers .exit)) (now (names .exit)) ≡ withLabels (usesRead (formOf second) (c .base) n (drop from (now (octets .entry))) (c .labels)) c) ⌝ }
 {
+    let mut at = from;
     let mut i = 0;
     while i < n {
-        read_use(octets, at + i * USE_SIZE, numbers, names);
+        read_use(octets, at, second, numbers, names);
+        let e = save_fields::extent_at(octets, at + 9, second);
+        at = at + (USE_BESIDE + e);
         i += 1;
     }
 }
@@ -98,9 +107,6 @@ fn label_trees(numbers: &mut [u64], names: &[u8])
     }
 }
 
-// ---- both
-
-// The labels, where no two trees have one name.
 // ---- the last label given
 
 // The place after that of the highest label in use; 0 where none is in use.
@@ -118,30 +124,39 @@ fn above_used(numbers: &[u64]) -> usize
     0
 }
 
-// A save does not carry the last label given: the highest in use is taken for it.
-fn settle(numbers: &mut [u64])
-    requires { ⌜ Numbers (now numbers) ⌝ }
-    ensures { λ _. ⌜ ((os : List ℕ) → cardOf (now (numbers .exit)) os ≡ settled (cardOf (now (numbers .entry)) os)) ⌝ }
+// The place after that of the last label given: in the new form the head says which, in the old one the highest in use is taken for it.
+fn turn_after(octets: &[u8], second: bool, numbers: &[u64]) -> usize
+    requires { ⌜ Numbers (now numbers) × (second ≡ true → OfBlock (baseIn (now numbers)) (fourAt (now octets) lastPlace)) ⌝ }
+    ensures { λ r. ⌜ ((os : List ℕ) → labelBefore (baseIn (now (numbers .entry))) r ≡ lastIn (formOf second) (now (octets .entry)) (baseIn (now (numbers .entry))) (cardOf (now (numbers .entry)) os .labels)) ⌝ }
 {
-    let v = above_used(numbers);
+    if !second {
+        return above_used(numbers);
+    }
+    let last = octets::four_at(octets, LAST_PLACE);
+    if last == 0 {
+        return 0;
+    }
+    (last - memory::base(numbers)) as usize + 1
+}
+
+fn settle(octets: &[u8], second: bool, numbers: &mut [u64])
+    requires { ⌜ Numbers (now numbers) × (second ≡ true → OfBlock (baseIn (now numbers)) (fourAt (now octets) lastPlace)) ⌝ }
+    ensures { λ _. ⌜ ((os : List ℕ) → (let c = cardOf (now (numbers .entry)) os in
+        cardOf (now (numbers .exit)) os ≡ withLast (lastIn (formOf second) (now (octets .entry)) (c .base) (c .labels)) c)) ⌝ }
+{
+    let v = turn_after(octets, second, numbers);
     memory::set_turn(numbers, v);
 }
 
-pub fn read_labels(octets: &[u8], numbers: &mut [u64], names: &mut [u8])
-    requires { ⌜ Numbers (now numbers) × Names (now names) × (getD (now octets) 11 0 ≤ routeLimit) × (getD (now octets) 12 0 ≤ treeLimit)
-        × (cardOf (now numbers) (now names) ≡ rowsRead (now octets)) × (onceEach sameName (cardOf (now numbers) (now names) .trees) ≡ true) ⌝ }
-    ensures { λ _. ⌜ cardOf (now (numbers .exit)) (now (names .exit)) ≡ tableIn (now (octets .entry)) ⌝ }
+// The labels, whose records begin at a place, where no two trees have one name.
+pub fn read_labels(octets: &[u8], at: usize, second: bool, numbers: &mut [u64], names: &mut [u8])
+    requires { ⌜ Numbers (now numbers) × Names (now names) × (at < 65536) × (drop at (now octets) ≡ labelsBegin (formOf second) (now octets))
+        × (cardOf (now numbers) (now names) ≡ rowsRead (formOf second) (now octets)) × (onceEach sameName (cardOf (now numbers) (now names) .trees) ≡ true)
+        × (second ≡ true → OfBlock (fourAt (now octets) 3) (fourAt (now octets) lastPlace)) ⌝ }
+    ensures { λ _. ⌜ cardOf (now (numbers .exit)) (now (names .exit)) ≡ tableIn (formOf second) (now (octets .entry)) ⌝ }
 {
-    let routes = octets::at(octets, 11) as usize;
-    let trees = octets::at(octets, 12) as usize;
     let labels = octets::two_at(octets, 13) as usize;
-    read_uses(
-        octets,
-        HEAD_SIZE + routes * ROUTE_SIZE + trees * TREE_SIZE,
-        labels,
-        numbers,
-        names,
-    );
+    read_uses(octets, at, second, labels, numbers, names);
     label_trees(numbers, names);
-    settle(numbers);
+    settle(octets, second, numbers);
 }

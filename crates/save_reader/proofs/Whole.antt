@@ -1,33 +1,39 @@
 -- What is taken for a save, and what is put in its place. Assumes nothing.
-use Prim.Native.Nat.{ℕ, _-_}
+use Prim.Native.Nat.{ℕ, _+_, _-_, _≤_, _<_}
 use native.Mathlib.Omega.{arith}
-use mathlib.Core.Path.{_≡_, refl}
+use mathlib.Core.Path.{_≡_, refl, sym}
 use mathlib.Core.Bool.{Bool, true, false}
 use mathlib.Core.List.{List}
 use lib.ListN.{length, take, drop}
 use lib.Seq.{take-append-seam}
 use Rattle.meaning.specs.Octets.{same}
-use Rattle.meaning.specs.Card.{Card}
+use lib.Dec.{eqb, leb, ltb}
+use borrow.Author.Tests.{eq-eqb, ne-eqb, le-leb, lt-ltb}
+use Rattle.meaning.specs.Card.{Card, freeLabels, labelCount, turn}
 use Rattle.meaning.specs.Events.{refuse}
+use Rattle.meaning.specs.Lists.{positive}
 use Rattle.meaning.specs.Calls.{over}
-use Rattle.meaning.specs.Save.{keepsRules, saved, tableIn, isSave, restore}
+use Rattle.memory.specs.Memory.{cardOf, baseIn}
+use Rattle.memory.proofs.Memory.{base-range}
+use Rattle.save_records.proofs.Records.{last-none, last-some}
+use Rattle.meaning.specs.Save.{Form, formOf, keepsRules, lastRight, ruled, saved, tableIn, isSave, restore}
 
-module _ (o : List ℕ) where
+module _ (f : Form) (o : List ℕ) where
   -- ---- the octets that its save are
 
-  pub not-taken : (c : Card) → c ≡ tableIn o → keepsRules c ≡ false → isSave o ≡ false
+  pub not-taken : (c : Card) → c ≡ tableIn f o → ruled f c ≡ false → isSave f o ≡ false
   unfolding isSave
   not-taken c e k = rw (← e, k) refl
 
-  pub taken : (c : Card) (r : Bool) → c ≡ tableIn o → keepsRules c ≡ true → r ≡ same (saved c) o → r ≡ isSave o
+  pub taken : (c : Card) (r : Bool) → c ≡ tableIn f o → ruled f c ≡ true → r ≡ same (saved f c) o → r ≡ isSave f o
   unfolding isSave
   taken c r e k h = rw (← e, k) h
 
-  pub refused : (c : Card) → isSave o ≡ false → (19 ≡ restore o c .answer) × (c ≡ restore o c .card)
+  pub refused : (c : Card) → isSave f o ≡ false → (19 ≡ restore f o c .answer) × (c ≡ restore f o c .card)
   unfolding restore refuse
   refused c e = rw e (refl, refl)
 
-  pub restored : (c d : Card) → isSave o ≡ true → d ≡ tableIn o → (0 ≡ restore o c .answer) × (d ≡ restore o c .card)
+  pub restored : (c d : Card) → isSave f o ≡ true → d ≡ tableIn f o → (0 ≡ restore f o c .answer) × (d ≡ restore f o c .card)
   unfolding restore
   restored c d e h = rw e (refl, h)
 
@@ -37,3 +43,36 @@ unfolding over
 over-front s t l n e h =
     let k : n - 0 ≡ length s = omega arith in
     rw (k, e) (take-append-seam s (drop (length s) t))
+
+-- ---- the rules that a form asks for
+
+module _ (ns os : List ℕ) (v : ℕ) (ev : v ≡ turn (cardOf ns os)) where
+  pub right-some : v ≤ labelCount → (v ≡ 0 → ⊥) → true ≡ lastRight (cardOf ns os)
+  unfolding lastRight
+  right-some few some =
+      let base : cardOf ns os .base ≡ baseIn ns = unfold cardOf in refl in
+      let last : baseIn ns + v - 1 ≡ cardOf ns os .last = last-some ns os (baseIn ns) v refl ev some in
+      let low = base-range ns .0 in
+      let one : 1 ≤ v = positive v some in
+      rw (ne-eqb (cardOf ns os .last) 0 (λ z. omega arith), le-leb (cardOf ns os .base) (cardOf ns os .last) (omega arith), lt-ltb (cardOf ns os .last) (cardOf ns os .base + 256) (omega arith)) refl
+
+  pub right-none : (n : ℕ) → v ≡ 0 → n ≡ freeLabels (cardOf ns os) → eqb n labelCount ≡ lastRight (cardOf ns os)
+  unfolding lastRight
+  right-none n z en = let none : eqb (cardOf ns os .last) 0 ≡ true = eq-eqb _ _ (sym (last-none ns os v ev z)) in rw (none, en) refl
+
+module _ (b : Bool) (c : Card) where
+  pub not-ruled : keepsRules c ≡ false → false ≡ ruled (formOf b) c
+  unfolding formOf ruled
+  not-ruled k = by-form b
+    where
+      by-form : (b : Bool) → false ≡ ruled (formOf b) c
+      by-form true = rw k refl
+      by-form false = rw k refl
+
+  pub ruled-new : b ≡ true → keepsRules c ≡ true → (r : Bool) → r ≡ lastRight c → r ≡ ruled (formOf b) c
+  unfolding formOf ruled
+  ruled-new e k r h = rw (e, k) h
+
+  pub ruled-old : b ≡ false → keepsRules c ≡ true → true ≡ ruled (formOf b) c
+  unfolding formOf ruled
+  ruled-old e k = rw e (sym k)

@@ -1,40 +1,73 @@
-// The way back from a save: the table in its octets, into the card's memory.
+// The way back from a save of either form: the table in its octets, into the card's memory.
 ghost use mathlib.Core.Path.{_≡_};
 ghost use mathlib.Core.Bool.{true, false};
-ghost use Prim.Native.Nat.{_≤_};
+ghost use mathlib.Core.List.{List};
+ghost use Prim.Native.Nat.{ℕ, _≤_};
 ghost use lib.ListN.{length};
 ghost use Rattle.meaning.specs.Octets.{same};
-ghost use Rattle.meaning.specs.Save.{saved, saveLimit, tableIn, isSave, restore};
+ghost use Rattle.meaning.specs.Save.{new, formOf, saved, saveLimit, tableIn, lastRight, ruled, isSave, restore};
 ghost use Rattle.memory.specs.Sizes.{Numbers, Names};
 ghost use Rattle.memory.specs.Memory.{cardOf};
+use meaning::LABEL_COUNT;
 use meaning::SAVE_LIMIT;
 use memory::NUMBER_COUNT;
 use memory::OCTET_COUNT;
 
-// Whether the save of the table in the memory is these octets. That save is written into a spare part, which held anything.
-fn is_saved_as(numbers: &[u64], names: &[u8], octets: &[u8], spare: &mut [u8]) -> bool
-    requires { ⌜ Numbers (now numbers) × Names (now names) × (saveLimit ≤ length (now spare)) ⌝ }
-    ensures { λ r. ⌜ r ≡ same (saved (cardOf (now (numbers .entry)) (now (names .entry)))) (now (octets .entry)) ⌝ }
+// Whether the last label given is none only while no label is in use. (The memory has none beyond the block.)
+fn is_last_right(numbers: &[u64]) -> bool
+    requires { ⌜ Numbers (now numbers) ⌝ }
+    ensures { λ r. ⌜ ((os : List ℕ) → r ≡ lastRight (cardOf (now (numbers .entry)) os)) ⌝ }
 {
-    if octets.len() != save_writer::saved_size(numbers) {
+    if memory::turn(numbers) != 0 {
+        return true;
+    }
+    memory_labels::free_labels(numbers) == LABEL_COUNT
+}
+
+// Whether the table in the memory keeps the rules that the form asks for.
+fn is_ruled(numbers: &[u64], names: &[u8], second: bool) -> bool
+    requires { ⌜ Numbers (now numbers) × Names (now names) ⌝ }
+    ensures { λ r. ⌜ r ≡ ruled (formOf second) (cardOf (now (numbers .entry)) (now (names .entry))) ⌝ }
+{
+    if !save_rules::keeps_rules(numbers, names) {
         return false;
     }
-    let n = save_writer::write_save(numbers, names, spare);
+    if second {
+        return is_last_right(numbers);
+    }
+    true
+}
+
+// Whether the save of the table in the memory is these octets. That save is written into a spare part, which held anything.
+fn is_saved_as(numbers: &[u64], names: &[u8], second: bool, octets: &[u8], spare: &mut [u8]) -> bool
+    requires { ⌜ Numbers (now numbers) × Names (now names) × (saveLimit new ≤ length (now spare)) ⌝ }
+    ensures { λ r. ⌜ r ≡ same (saved (formOf second) (cardOf (now (numbers .entry)) (now (names .entry)))) (now (octets .entry)) ⌝ }
+{
+    if octets.len() != save_writer::saved_size(numbers, names, second) {
+        return false;
+    }
+    let n = save_writer::write_save(numbers, names, second, spare);
     octets::equal(&spare[0..n], octets)
 }
 
 // Whether the octets are a save; where they are, its table is in the memory, which held anything.
-fn is_taken(octets: &[u8], numbers: &mut [u64], names: &mut [u8], spare: &mut [u8]) -> bool
-    requires { ⌜ Numbers (now numbers) × Names (now names) × (saveLimit ≤ length (now spare)) ⌝ }
-    ensures { λ r. ⌜ (r ≡ isSave (now (octets .entry))) × (r ≡ true → cardOf (now (numbers .exit)) (now (names .exit)) ≡ tableIn (now (octets .entry))) ⌝ }
+pub fn is_taken(
+    octets: &[u8],
+    second: bool,
+    numbers: &mut [u64],
+    names: &mut [u8],
+    spare: &mut [u8],
+) -> bool
+    requires { ⌜ Numbers (now numbers) × Names (now names) × (saveLimit new ≤ length (now spare)) ⌝ }
+    ensures { λ r. ⌜ (r ≡ isSave (formOf second) (now (octets .entry))) × (r ≡ true → cardOf (now (numbers .exit)) (now (names .exit)) ≡ tableIn (formOf second) (now (octets .entry))) ⌝ }
 {
-    if !save_decoder::decode(octets, numbers, names) {
+    if !save_decoder::decode(octets, second, numbers, names) {
         return false;
     }
-    if !save_rules::keeps_rules(numbers, names) {
+    if !is_ruled(numbers, names, second) {
         return false;
     }
-    is_saved_as(numbers, names, octets, spare)
+    is_saved_as(numbers, names, second, octets, spare)
 }
 
 fn put_over(numbers: &mut [u64], names: &mut [u8], from: &[u64], octets: &[u8])
@@ -45,22 +78,23 @@ fn put_over(numbers: &mut [u64], names: &mut [u8], from: &[u64], octets: &[u8])
     octets::copy(names, octets);
 }
 
-// Takes back a save: 0, with its table in the card's memory, or 19, with the memory as it was. The table is read into spare memory
-// first, and its own save written into a spare part, so that octets that are no save change nothing. What is spare may hold anything
-// before and after.
+// Takes back a save, of the new form where `second` says so: 0, with its table in the card's memory, or 19, with the memory as it was. The
+// table is read into spare memory first, and its own save written into a spare part, so that octets that are no save change nothing. What is
+// spare may hold anything before and after.
 pub fn restore(
     numbers: &mut [u64; NUMBER_COUNT],
     names: &mut [u8; OCTET_COUNT],
+    second: bool,
     octets: &[u8],
     spare_numbers: &mut [u64; NUMBER_COUNT],
     spare_names: &mut [u8; OCTET_COUNT],
     spare_save: &mut [u8; SAVE_LIMIT],
 ) -> u32
     ensures { λ r. ⌜ (let c = cardOf (now (numbers .entry)) (now (names .entry)) in
-        (r ≡ restore (now (octets .entry)) c .answer)
-        × (cardOf (now (numbers .exit)) (now (names .exit)) ≡ restore (now (octets .entry)) c .card)) ⌝ }
+        (r ≡ restore (formOf second) (now (octets .entry)) c .answer)
+        × (cardOf (now (numbers .exit)) (now (names .exit)) ≡ restore (formOf second) (now (octets .entry)) c .card)) ⌝ }
 {
-    if !is_taken(octets, spare_numbers, spare_names, spare_save) {
+    if !is_taken(octets, second, spare_numbers, spare_names, spare_save) {
         return 19;
     }
     put_over(numbers, names, spare_numbers, spare_names);

@@ -162,14 +162,7 @@ pub fn put_tree_record(numbers: &[u64], names: &[u8], second: bool, i: usize, ou
 // ---- a label in use
 
 // A label in state 1, mapped to the neighbour, or 2, awaiting release from it.
-fn put_state(
-    out: &mut [u8],
-    second: bool,
-    label: u64,
-    state: u8,
-    neighbour: u64,
-    name: &[u8],
-)
+fn put_state(out: &mut [u8], second: bool, label: u64, state: u8, neighbour: u64, name: &[u8])
     requires { ⌜ (length (now out) ≡ useBeside + nameSize (formOf second) (now name)) × (neighbour < 256) ⌝ }
     ensures { λ _. ⌜ now (out .exit) ≡ marked (useKind (formOf second)) (four label ++ (state ∷ neighbour ∷ nameSaved (formOf second) (now (name .entry)))) ⌝ }
 {
@@ -207,6 +200,13 @@ pub fn put_use_record(numbers: &[u64], names: &[u8], second: bool, p: usize, out
             memory_labels::label_name(names, p),
         );
     } else {
-        put_state(out, second, label, 1, n, memory_labels::label_name(names, p));
+        put_state(
+            out,
+            second,
+            label,
+            1,
+            n,
+            memory_labels::label_name(names, p),
+        );
     }
 }

@@ -12,12 +12,13 @@ use lib.Dec.{eqb}
 use Rattle.meaning.specs.Octets.{fourAt}
 use Rattle.meaning.specs.Wire.{rootLimit}
 use Rattle.meaning.specs.Card.{Route, Tree, Card, fresh, withNext, withRoutes, withTrees, withBranch, withLeaf, bare, treeAt}
-use Rattle.meaning.specs.Save.{spacedIn, nameIn, routeRead, treeRead, foursIn, routesRead, treesRead, headSize, routeSize, leafPlace, branchPlace, treeSize}
+use Rattle.meaning.specs.Save.{Form, spacedIn, nameIn, extent, routeRead, treeRead, treeEnd, foursIn, routesRead, treesRead, treesEnd, headSize, routeSize, treeBeside}
+use Rattle.meaning.specs.SavePlaces.{tree-there, trees-end-more, trees-read-more}
 use Rattle.octets.proofs.Parts.{front, front-more, copy-done}
 use Rattle.memory.specs.Memory.{cardOf, treeCount, routeCount}
 use Rattle.memory.proofs.Memory.{trees-length, routes-length}
 use Rattle.memory.proofs.Trees.{branches-length}
-use Rattle.save_rows.specs.Stages.{withBranches, headRead, treesBegin, rowsRead}
+use Rattle.save_rows.specs.Stages.{withBranches, headRead, treesBegin, rowsRead, labelsBegin}
 use Rattle.save_fields.proofs.Read.{four-drop}
 
 -- ---- n records of w octets, one after the other
@@ -60,11 +61,6 @@ unfolding routesRead reads
 routes-are zero o = refl
 routes-are (suc n) o = ap (λ (l : List Route). routeRead o ∷ l) (routes-are n (drop routeSize o))
 
-trees-are : (n : ℕ) (o : List ℕ) → treesRead n o ≡ reads treeRead treeSize n o
-unfolding treesRead reads
-trees-are zero o = refl
-trees-are (suc n) o = ap (λ (l : List Tree). treeRead o ∷ l) (trees-are n (drop treeSize o))
-
 abbrev firstFour : List ℕ → ℕ
 firstFour o = fourAt o 0
 
@@ -82,32 +78,34 @@ pub route-read : (o root : List ℕ) (at via : ℕ) → root ≡ spacedIn rootLi
 unfolding routeRead
 route-read o root at via hr hv = rw (hr, hv, ← drop-drop 4 at o, ← getD-drop at o 3 0) refl
 
-module _ (c : Card) (o : List ℕ) where
-  pub routes-none : c .routes ≡ [] → c ≡ withRoutes (routesRead 0 (drop headSize o)) c
+module _ (c : Card) (o : List ℕ) (at : ℕ) where
+  pub routes-none : c .routes ≡ [] → c ≡ withRoutes (routesRead 0 (drop at o)) c
   unfolding withRoutes routesRead
   routes-none e = ap (λ (rs : List Route). withRoutes rs c) e
 
-  pub routes-more : (i : ℕ) (ns os ns' os' : List ℕ) → cardOf ns os ≡ withRoutes (routesRead i (drop headSize o)) c
-      → cardOf ns' os' ≡ withRoutes (cardOf ns os .routes ++ (routeRead (drop (headSize + i * routeSize) o) ∷ [])) (cardOf ns os)
-      → cardOf ns' os' ≡ withRoutes (routesRead (i + 1) (drop headSize o)) c
+  pub routes-more : (i : ℕ) (ns os ns' os' : List ℕ) → cardOf ns os ≡ withRoutes (routesRead i (drop at o)) c
+      → cardOf ns' os' ≡ withRoutes (cardOf ns os .routes ++ (routeRead (drop (at + i * routeSize) o) ∷ [])) (cardOf ns os)
+      → cardOf ns' os' ≡ withRoutes (routesRead (i + 1) (drop at o)) c
   unfolding withRoutes
-  routes-more i ns os ns' os' e h = rw (h, e, routes-are (i + 1) (drop headSize o), reads-more routeRead routeSize i headSize o, ← routes-are i (drop headSize o)) refl
+  routes-more i ns os ns' os' e h = rw (h, e, routes-are (i + 1) (drop at o), reads-more routeRead routeSize i at o, ← routes-are i (drop at o)) refl
 
-  pub routes-room : (i : ℕ) (ns os : List ℕ) → cardOf ns os ≡ withRoutes (routesRead i (drop headSize o)) c → routeCount ns ≡ i
+  pub routes-room : (i : ℕ) (ns os : List ℕ) → cardOf ns os ≡ withRoutes (routesRead i (drop at o)) c → routeCount ns ≡ i
   unfolding withRoutes
-  routes-room i ns os e = sym (routes-length ns os) ∙ ap (λ (x : Card). length (x .routes)) e ∙ routes-many i (drop headSize o)
+  routes-room i ns os e = sym (routes-length ns os) ∙ ap (λ (x : Card). length (x .routes)) e ∙ routes-many i (drop at o)
 
 -- ---- trees
 
-pub trees-many : (n : ℕ) (o : List ℕ) → length (treesRead n o) ≡ n
-trees-many n o = ap length (trees-are n o) ∙ reads-length treeRead treeSize n o
+pub trees-many : (f : Form) (n : ℕ) (o : List ℕ) → length (treesRead f n o) ≡ n
+unfolding treesRead
+trees-many f zero o = refl
+trees-many f (suc n) o = ap suc (trees-many f n (treeEnd f o))
 
 -- none carries a label, and neither does what stands for an absent one
-pub trees-bare : (n j : ℕ) (o : List ℕ) → getD (treesRead n o) j (bare []) .label ≡ 0
+pub trees-bare : (f : Form) (n j : ℕ) (o : List ℕ) → getD (treesRead f n o) j (bare []) .label ≡ 0
 unfolding treesRead treeRead bare
-trees-bare zero j o = refl
-trees-bare (suc n) zero o = refl
-trees-bare (suc n) (suc j) o = trees-bare n j (drop treeSize o)
+trees-bare f zero j o = refl
+trees-bare f (suc n) zero o = refl
+trees-bare f (suc n) (suc j) o = trees-bare f n j (treeEnd f o)
 
 -- one tree more, and one tree anew
 pub entered : (ns os ns' os' : List ℕ) (t : Tree) → cardOf ns' os' ≡ withTrees (cardOf ns os .trees ++ (t ∷ [])) (cardOf ns os) → treeCount ns' ≡ treeCount ns + 1
@@ -129,34 +127,52 @@ module _ (c : Card) (ts : List Tree) (t : Tree) (i : ℕ) (h : i ≡ length ts) 
   unfolding withTrees
   last-set u = rw (set-at ts t [] u i (sym h)) refl
 
-tree-read : (o : List ℕ) (at : ℕ) → withBranches (foursIn 16 (drop (at + branchPlace) o)) (withLeaf (not (eqb (getD o (at + leafPlace) 0) 0)) (bare (nameIn (drop (at + 3) o)))) ≡ treeRead (drop at o)
-unfolding treeRead withBranches withLeaf bare
-tree-read o at = rw (← drop-drop branchPlace at o, ← drop-drop 3 at o, ← getD-drop at o leafPlace 0) refl
+-- a tree at a place, whose name takes e octets
+module _ (f : Form) (o : List ℕ) (at e : ℕ) (he : e ≡ extent f (drop (at + 3) o)) where
+  tree-read : withBranches (foursIn 16 (drop (at + (4 + e)) o)) (withLeaf (not (eqb (getD o (at + (3 + e)) 0) 0)) (bare (nameIn f (drop (at + 3) o)))) ≡ treeRead f (drop at o)
+  unfolding treeRead withBranches withLeaf bare
+  tree-read =
+      let n : ℕ = extent f (drop 3 (drop at o)) in
+      let k : e ≡ n = he ∙ ap (extent f) (sym (drop-drop 3 at o)) in
+      rw (k, ← drop-drop (4 + n) at o, ← drop-drop 3 at o, ← getD-drop at o (3 + n) 0) refl
 
-pub tree-made : (o : List ℕ) (c c₁ c₂ c₃ : Card) (at i : ℕ) (f : Bool) → i ≡ length (c .trees)
-    → c₁ ≡ withTrees (c .trees ++ (bare (nameIn (drop (at + 3) o)) ∷ [])) c
-    → c₂ ≡ withTrees (set (c₁ .trees) i (withLeaf f (treeAt i c₁))) c₁ → f ≡ not (eqb (getD o (at + leafPlace) 0) 0)
-    → c₃ ≡ withTrees (set (c₂ .trees) i (withBranches (foursIn 16 (drop (at + branchPlace) o)) (treeAt i c₂))) c₂
-    → c₃ ≡ withTrees (c .trees ++ (treeRead (drop at o) ∷ [])) c
-tree-made o c c₁ c₂ c₃ at i f h e₁ e₂ ef e₃ =
-    let a : Tree = bare (nameIn (drop (at + 3) o)) in
-    let k₂ : c₂ ≡ withTrees (c .trees ++ (withLeaf f a ∷ [])) c = rw (e₂, e₁, last-at c (c .trees) a i h) (last-set c (c .trees) a i h (withLeaf f a)) in
-    rw (e₃, k₂, last-at c (c .trees) (withLeaf f a) i h, last-set c (c .trees) (withLeaf f a) i h (withBranches (foursIn 16 (drop (at + branchPlace) o)) (withLeaf f a)), ← tree-read o at, ← ef) refl
+  pub tree-made : (c c₁ c₂ c₃ : Card) (i : ℕ) (leaf : Bool) → i ≡ length (c .trees)
+      → c₁ ≡ withTrees (c .trees ++ (bare (nameIn f (drop (at + 3) o)) ∷ [])) c
+      → c₂ ≡ withTrees (set (c₁ .trees) i (withLeaf leaf (treeAt i c₁))) c₁ → leaf ≡ not (eqb (getD o (at + (3 + e)) 0) 0)
+      → c₃ ≡ withTrees (set (c₂ .trees) i (withBranches (foursIn 16 (drop (at + (4 + e)) o)) (treeAt i c₂))) c₂
+      → c₃ ≡ withTrees (c .trees ++ (treeRead f (drop at o) ∷ [])) c
+  tree-made c c₁ c₂ c₃ i leaf h e₁ e₂ ef e₃ =
+      let a : Tree = bare (nameIn f (drop (at + 3) o)) in
+      let k₂ : c₂ ≡ withTrees (c .trees ++ (withLeaf leaf a ∷ [])) c = rw (e₂, e₁, last-at c (c .trees) a i h) (last-set c (c .trees) a i h (withLeaf leaf a)) in
+      rw (e₃, k₂, last-at c (c .trees) (withLeaf leaf a) i h, last-set c (c .trees) (withLeaf leaf a) i h (withBranches (foursIn 16 (drop (at + (4 + e)) o)) (withLeaf leaf a)), ← tree-read, ← ef) refl
 
-module _ (c : Card) (o : List ℕ) (at : ℕ) where
-  pub trees-none : c .trees ≡ [] → c ≡ withTrees (treesRead 0 (drop at o)) c
+  -- and the place behind it
+  pub tree-behind : (i from : ℕ) → drop at o ≡ treesEnd f i (drop from o) → drop (at + (treeBeside + e)) o ≡ treesEnd f (i + 1) (drop from o)
+  tree-behind i from here =
+      ap (λ (k : ℕ). drop (at + (treeBeside + k)) o) he
+      ∙ sym (tree-there f o at)
+      ∙ ap (treeEnd f) here
+      ∙ sym (trees-end-more f i (drop from o))
+      ∙ ap (λ (k : ℕ). treesEnd f k (drop from o)) (sym (add-one i))
+
+module _ (f : Form) (c : Card) (o : List ℕ) (from : ℕ) where
+  pub trees-none : c .trees ≡ [] → c ≡ withTrees (treesRead f 0 (drop from o)) c
   unfolding withTrees treesRead
   trees-none e = ap (λ (ts : List Tree). withTrees ts c) e
 
-  pub trees-more : (i : ℕ) (ns os ns' os' : List ℕ) → cardOf ns os ≡ withTrees (treesRead i (drop at o)) c
-      → cardOf ns' os' ≡ withTrees (cardOf ns os .trees ++ (treeRead (drop (at + i * treeSize) o) ∷ [])) (cardOf ns os)
-      → cardOf ns' os' ≡ withTrees (treesRead (i + 1) (drop at o)) c
-  unfolding withTrees
-  trees-more i ns os ns' os' e h = rw (h, e, trees-are (i + 1) (drop at o), reads-more treeRead treeSize i at o, ← trees-are i (drop at o)) refl
+  pub none-behind : drop from o ≡ treesEnd f 0 (drop from o)
+  unfolding treesEnd
+  none-behind = refl
 
-  pub trees-room : (i : ℕ) (ns os : List ℕ) → cardOf ns os ≡ withTrees (treesRead i (drop at o)) c → treeCount ns ≡ i
+  pub trees-more : (i at : ℕ) (ns os ns' os' : List ℕ) → cardOf ns os ≡ withTrees (treesRead f i (drop from o)) c → drop at o ≡ treesEnd f i (drop from o)
+      → cardOf ns' os' ≡ withTrees (cardOf ns os .trees ++ (treeRead f (drop at o) ∷ [])) (cardOf ns os)
+      → cardOf ns' os' ≡ withTrees (treesRead f (i + 1) (drop from o)) c
   unfolding withTrees
-  trees-room i ns os e = sym (trees-length ns os) ∙ ap (λ (x : Card). length (x .trees)) e ∙ trees-many i (drop at o)
+  trees-more i at ns os ns' os' e here h = rw (h, e, here, add-one i, trees-read-more f i (drop from o)) refl
+
+  pub trees-room : (i : ℕ) (ns os : List ℕ) → cardOf ns os ≡ withTrees (treesRead f i (drop from o)) c → treeCount ns ≡ i
+  unfolding withTrees
+  trees-room i ns os e = sym (trees-length ns os) ∙ ap (λ (x : Card). length (x .trees)) e ∙ trees-many f i (drop from o)
 
 -- ---- branches: n of them were set
 
@@ -196,16 +212,18 @@ module _ (ns₀ os o : List ℕ) (at i : ℕ) (h : i < treeCount ns₀) where
 
 -- ---- head, routes and trees
 
-module _ (o : List ℕ) where
-  pub rows-whole : (b id routes trees : ℕ) (c₁ c₂ c₃ c₄ : Card) → b ≡ fourAt o 3 → id ≡ fourAt o 7 → routes ≡ getD o 11 0 → trees ≡ getD o 12 0
-      → c₁ ≡ fresh b → c₂ ≡ withNext id c₁ → c₃ ≡ withRoutes (routesRead routes (drop headSize o)) c₂ → c₄ ≡ withTrees (treesRead trees (drop (headSize + routes * routeSize) o)) c₃ → c₄ ≡ rowsRead o
-  unfolding rowsRead headRead treesBegin
-  rows-whole b id routes trees c₁ c₂ c₃ c₄ hb hi hr ht e₁ e₂ e₃ e₄ = rw (e₄, e₃, e₂, e₁, hb, hi, hr, ht) refl
+module _ (f : Form) (o : List ℕ) where
+  pub rows-whole : (b id head routes trees r : ℕ) (c₁ c₂ c₃ c₄ : Card) → b ≡ fourAt o 3 → id ≡ fourAt o 7 → head ≡ headSize f → routes ≡ getD o 11 0 → trees ≡ getD o 12 0
+      → c₁ ≡ fresh b → c₂ ≡ withNext id c₁ → c₃ ≡ withRoutes (routesRead routes (drop head o)) c₂
+      → c₄ ≡ withTrees (treesRead f trees (drop (head + routes * routeSize) o)) c₃ → drop r o ≡ treesEnd f trees (drop (head + routes * routeSize) o)
+      → (c₄ ≡ rowsRead f o) × (drop r o ≡ labelsBegin f o)
+  unfolding rowsRead headRead treesBegin labelsBegin
+  rows-whole b id head routes trees r c₁ c₂ c₃ c₄ hb hi hh hr ht e₁ e₂ e₃ e₄ e₅ = (rw (e₄, e₃, e₂, e₁, hb, hi, hh, hr, ht) refl, e₅ ∙ rw (hh, hr, ht) refl)
 
-  pub head-empty : (b id : ℕ) (c₁ c₂ : Card) → c₁ ≡ fresh b → c₂ ≡ withNext id c₁ → (c₂ .routes ≡ []) × (c₂ .trees ≡ [])
-  unfolding fresh withNext
-  head-empty b id c₁ c₂ e₁ e₂ = (rw (e₂, e₁) refl, rw (e₂, e₁) refl)
+pub head-empty : (b id : ℕ) (c₁ c₂ : Card) → c₁ ≡ fresh b → c₂ ≡ withNext id c₁ → (c₂ .routes ≡ []) × (c₂ .trees ≡ [])
+unfolding fresh withNext
+head-empty b id c₁ c₂ e₁ e₂ = (rw (e₂, e₁) refl, rw (e₂, e₁) refl)
 
-  pub still-empty : (rs : List Route) (c₂ c₃ : Card) → c₂ .trees ≡ [] → c₃ ≡ withRoutes rs c₂ → c₃ .trees ≡ []
-  unfolding withRoutes
-  still-empty rs c₂ c₃ h e = rw e h
+pub still-empty : (rs : List Route) (c₂ c₃ : Card) → c₂ .trees ≡ [] → c₃ ≡ withRoutes rs c₂ → c₃ .trees ≡ []
+unfolding withRoutes
+still-empty rs c₂ c₃ h e = rw e h

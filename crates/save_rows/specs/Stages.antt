@@ -4,7 +4,7 @@ use mathlib.Core.List.{List}
 use lib.ListN.{drop, getD}
 use Rattle.meaning.specs.Octets.{fourAt}
 use Rattle.meaning.specs.Card.{Tree, Card, fresh, withNext, withRoutes, withTrees}
-use Rattle.meaning.specs.Save.{routesRead, treesRead, headSize, routeSize}
+use Rattle.meaning.specs.Save.{Form, routesRead, treesRead, treesEnd, headSize, routeSize}
 
 unfoldable pub withBranches : List ℕ → Tree → Tree
 withBranches bs t = record { name = t .name; branches = bs; leaf = t .leaf; label = t .label }
@@ -14,8 +14,12 @@ withBranches bs t = record { name = t .name; branches = bs; leaf = t .leaf; labe
 unfoldable pub headRead : List ℕ → Card
 headRead o = withNext (fourAt o 7) (fresh (fourAt o 3))
 
-unfoldable pub treesBegin : List ℕ → ℕ
-treesBegin o = headSize + getD o 11 0 * routeSize
+unfoldable pub treesBegin : Form → List ℕ → ℕ
+treesBegin f o = headSize f + getD o 11 0 * routeSize
 
-unfoldable pub rowsRead : List ℕ → Card
-rowsRead o = withTrees (treesRead (getD o 12 0) (drop (treesBegin o) o)) (withRoutes (routesRead (getD o 11 0) (drop headSize o)) (headRead o))
+unfoldable pub rowsRead : Form → List ℕ → Card
+rowsRead f o = withTrees (treesRead f (getD o 12 0) (drop (treesBegin f o) o)) (withRoutes (routesRead (getD o 11 0) (drop (headSize f) o)) (headRead o))
+
+-- what stands behind the trees
+unfoldable pub labelsBegin : Form → List ℕ → List ℕ
+labelsBegin f o = treesEnd f (getD o 12 0) (drop (treesBegin f o) o)

@@ -1,20 +1,17 @@
-// A save's head, routes and trees: out of its octets, into memory that is lent.
+// A save's head, routes and trees: out of its octets, in either form, into memory that is lent.
 ghost use mathlib.Core.Path.{_≡_};
 ghost use mathlib.Core.List.{List, [], _∷_, _++_};
-ghost use Prim.Native.Nat.{ℕ, _≤_, _<_};
+ghost use Prim.Native.Nat.{ℕ, _+_, _*_, _≤_, _<_};
 ghost use lib.ListN.{drop, set, getD};
 ghost use Rattle.meaning.specs.Octets.{fourAt};
 ghost use Rattle.meaning.specs.Card.{withRoutes, withTrees, bare, treeAt, routeLimit, treeLimit};
-ghost use Rattle.meaning.specs.Save.{nameIn, routeRead, treeRead, foursIn, routesRead, treesRead, headSize};
+ghost use Rattle.meaning.specs.Save.{formOf, nameIn, extent, routeRead, treeRead, foursIn, routesRead, treesRead, treesEnd};
 ghost use Rattle.memory.specs.Sizes.{Numbers, Names};
 ghost use Rattle.memory.specs.Memory.{cardOf, treeCount, routeCount};
-ghost use Rattle.save_rows.specs.Stages.{withBranches, rowsRead};
-use meaning::BRANCH_PLACE;
-use meaning::HEAD_SIZE;
-use meaning::LEAF_PLACE;
+ghost use Rattle.save_rows.specs.Stages.{withBranches, rowsRead, labelsBegin};
 use meaning::NAME_LIMIT;
 use meaning::ROUTE_SIZE;
-use meaning::TREE_SIZE;
+use meaning::TREE_BESIDE;
 
 // ---- routes
 
@@ -28,13 +25,13 @@ fn read_route(octets: &[u8], at: usize, numbers: &mut [u64], names: &mut [u8])
     memory_routes::append_route(numbers, names, root, via);
 }
 
-fn read_routes(octets: &[u8], n: usize, numbers: &mut [u64], names: &mut [u8])
-    requires { ⌜ Numbers (now numbers) × Names (now names) × (n ≤ routeLimit) × (cardOf (now numbers) (now names) .routes ≡ []) ⌝ }
-    ensures { λ _. ⌜ cardOf (now (numbers .exit)) (now (names .exit)) ≡ withRoutes (routesRead n (drop headSize (now (octets .entry)))) (cardOf (now (numbers .entry)) (now (names .entry))) ⌝ }
+fn read_routes(octets: &[u8], at: usize, n: usize, numbers: &mut [u64], names: &mut [u8])
+    requires { ⌜ Numbers (now numbers) × Names (now names) × (n ≤ routeLimit) × (at < 65536) × (cardOf (now numbers) (now names) .routes ≡ []) ⌝ }
+    ensures { λ _. ⌜ cardOf (now (numbers .exit)) (now (names .exit)) ≡ withRoutes (routesRead n (drop at (now (octets .entry)))) (cardOf (now (numbers .entry)) (now (names .entry))) ⌝ }
 {
     let mut i = 0;
     while i < n {
-        read_route(octets, HEAD_SIZE + i * ROUTE_SIZE, numbers, names);
+        read_route(octets, at + i * ROUTE_SIZE, numbers, names);
         i += 1;
     }
 }
@@ -54,56 +51,81 @@ fn read_branches(octets: &[u8], at: usize, numbers: &mut [u64], i: usize)
     }
 }
 
-fn enter_name(octets: &[u8], at: usize, numbers: &mut [u64], names: &mut [u8])
+fn enter_name(octets: &[u8], at: usize, second: bool, numbers: &mut [u64], names: &mut [u8])
     requires { ⌜ Numbers (now numbers) × Names (now names) × (treeCount (now numbers) < treeLimit) × (at < 1073741824) ⌝ }
     ensures { λ _. ⌜ (let c = cardOf (now (numbers .entry)) (now (names .entry)) in
-        cardOf (now (numbers .exit)) (now (names .exit)) ≡ withTrees (c .trees ++ (bare (nameIn (drop at (now (octets .entry)))) ∷ [])) c) ⌝ }
+        cardOf (now (numbers .exit)) (now (names .exit)) ≡ withTrees (c .trees ++ (bare (nameIn (formOf second) (drop at (now (octets .entry)))) ∷ [])) c) ⌝ }
 {
     let mut name = [0u8; NAME_LIMIT];
-    let n = save_fields::read_name(octets, at, &mut name);
+    let n = save_fields::read_name(octets, at, second, &mut name);
     memory_rows::enter_tree(numbers, names, &name[0..n]);
 }
 
-fn read_tree(octets: &[u8], at: usize, numbers: &mut [u64], names: &mut [u8])
-    requires { ⌜ Numbers (now numbers) × Names (now names) × (treeCount (now numbers) < treeLimit) × (at < 1000000000) ⌝ }
+// The tree at a place, whose name takes e octets.
+fn read_tree(
+    octets: &[u8],
+    at: usize,
+    second: bool,
+    e: usize,
+    numbers: &mut [u64],
+    names: &mut [u8],
+)
+    requires { ⌜ Numbers (now numbers) × Names (now names) × (treeCount (now numbers) < treeLimit) × (at < 1000000000)
+        × (e ≡ extent (formOf second) (drop (at + 3) (now octets))) × (e ≤ 256) ⌝ }
     ensures { λ _. ⌜ (let c = cardOf (now (numbers .entry)) (now (names .entry)) in
-        cardOf (now (numbers .exit)) (now (names .exit)) ≡ withTrees (c .trees ++ (treeRead (drop at (now (octets .entry))) ∷ [])) c) ⌝ }
+        cardOf (now (numbers .exit)) (now (names .exit)) ≡ withTrees (c .trees ++ (treeRead (formOf second) (drop at (now (octets .entry))) ∷ [])) c) ⌝ }
 {
     let i = memory::tree_count(numbers);
-    enter_name(octets, at + 3, numbers, names);
-    let leaf = octets::at(octets, at + LEAF_PLACE) != 0;
+    enter_name(octets, at + 3, second, numbers, names);
+    let leaf = octets::at(octets, at + (3 + e)) != 0;
     memory_trees::set_leaf(numbers, i, leaf);
-    read_branches(octets, at + BRANCH_PLACE, numbers, i);
+    read_branches(octets, at + (4 + e), numbers, i);
 }
 
-fn read_trees(octets: &[u8], at: usize, n: usize, numbers: &mut [u64], names: &mut [u8])
-    requires { ⌜ Numbers (now numbers) × Names (now names) × (n ≤ treeLimit) × (at < 65536) × (cardOf (now numbers) (now names) .trees ≡ []) ⌝ }
-    ensures { λ _. ⌜ cardOf (now (numbers .exit)) (now (names .exit)) ≡ withTrees (treesRead n (drop at (now (octets .entry)))) (cardOf (now (numbers .entry)) (now (names .entry))) ⌝ }
+// The trees from a place on; the place behind them.
+fn read_trees(
+    octets: &[u8],
+    from: usize,
+    second: bool,
+    n: usize,
+    numbers: &mut [u64],
+    names: &mut [u8],
+) -> usize
+    requires { ⌜ Numbers (now numbers) × Names (now names) × (n ≤ treeLimit) × (from < 65536) × (cardOf (now numbers) (now names) .trees ≡ []) ⌝ }
+    ensures { λ r. ⌜ (cardOf (now (numbers .exit)) (now (names .exit)) ≡ withTrees (treesRead (formOf second) n (drop from (now (octets .entry)))) (cardOf (now (numbers .entry)) (now (names .entry))))
+        × (drop r (now (octets .entry)) ≡ treesEnd (formOf second) n (drop from (now (octets .entry)))) × (r ≤ from + n * 324) ⌝ }
 {
+    let mut at = from;
     let mut i = 0;
     while i < n {
-        read_tree(octets, at + i * TREE_SIZE, numbers, names);
+        let e = save_fields::extent_at(octets, at + 3, second);
+        read_tree(octets, at, second, e, numbers, names);
+        at = at + (TREE_BESIDE + e);
         i += 1;
     }
+    at
 }
 
 // ---- the whole
 
-// The head, the routes and the trees, into memory that held anything.
-pub fn read_rows(octets: &[u8], numbers: &mut [u64], names: &mut [u8])
+// The head, the routes and the trees, into memory that held anything; the place behind them.
+pub fn read_rows(octets: &[u8], second: bool, numbers: &mut [u64], names: &mut [u8]) -> usize
     requires { ⌜ Numbers (now numbers) × Names (now names) × (16 ≤ fourAt (now octets) 3) × (fourAt (now octets) 3 ≤ 1048320) × (getD (now octets) 11 0 ≤ routeLimit) × (getD (now octets) 12 0 ≤ treeLimit) ⌝ }
-    ensures { λ _. ⌜ cardOf (now (numbers .exit)) (now (names .exit)) ≡ rowsRead (now (octets .entry)) ⌝ }
+    ensures { λ r. ⌜ (cardOf (now (numbers .exit)) (now (names .exit)) ≡ rowsRead (formOf second) (now (octets .entry)))
+        × (drop r (now (octets .entry)) ≡ labelsBegin (formOf second) (now (octets .entry))) × (r < 65536) ⌝ }
 {
     memory_rows::start_fresh(numbers, octets::four_at(octets, 3));
     memory::set_next_id(numbers, octets::four_at(octets, 7) as u32);
+    let head = save_forms::head_size(second);
     let routes = octets::at(octets, 11) as usize;
-    read_routes(octets, routes, numbers, names);
+    read_routes(octets, head, routes, numbers, names);
     let trees = octets::at(octets, 12) as usize;
     read_trees(
         octets,
-        HEAD_SIZE + routes * ROUTE_SIZE,
+        head + routes * ROUTE_SIZE,
+        second,
         trees,
         numbers,
         names,
-    );
+    )
 }

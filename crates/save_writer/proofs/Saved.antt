@@ -16,7 +16,6 @@ use Rattle.octets.specs.Part.{mid, tab}
 use Rattle.octets.proofs.Parts.{mid-none}
 use Rattle.memory.specs.Memory.{cardOf, baseIn, routeCount, treeCount, routeIn, treeIn, labelIn, labelName}
 use Rattle.memory.proofs.Memory.{tree-at, routes-length as routes-count}
-
 use Rattle.memory.proofs.Trees.{branches-length}
 use Rattle.memory.proofs.Marks.{by-use}
 use Rattle.save_texts.specs.Laid.{laid}

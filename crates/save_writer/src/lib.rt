@@ -60,13 +60,7 @@ fn put_routes(numbers: &[u64], names: &[u8], out: &mut [u8], from: usize) -> usi
 }
 
 // All trees from a place on; the place behind them.
-fn put_trees(
-    numbers: &[u64],
-    names: &[u8],
-    second: bool,
-    out: &mut [u8],
-    from: usize,
-) -> usize
+fn put_trees(numbers: &[u64], names: &[u8], second: bool, out: &mut [u8], from: usize) -> usize
     requires { ⌜ Numbers (now numbers) × Names (now names)
         × (from + length (treesSaved (formOf second) (cardOf (now numbers) (now names) .trees)) ≤ length (now out)) ⌝ }
     ensures { λ r. ⌜ (let c = cardOf (now (numbers .entry)) (now (names .entry)) in
@@ -108,13 +102,7 @@ fn put_label(
 }
 
 // All labels in use from a place on; the place behind them.
-fn put_labels(
-    numbers: &[u64],
-    names: &[u8],
-    second: bool,
-    out: &mut [u8],
-    from: usize,
-) -> usize
+fn put_labels(numbers: &[u64], names: &[u8], second: bool, out: &mut [u8], from: usize) -> usize
     requires { ⌜ Numbers (now numbers) × Names (now names)
         × (from + length (usesSaved (formOf second) (baseIn (now numbers)) (cardOf (now numbers) (now names) .labels)) ≤ length (now out)) ⌝ }
     ensures { λ r. ⌜ (let c = cardOf (now (numbers .entry)) (now (names .entry)) in

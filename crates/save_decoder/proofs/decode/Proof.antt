@@ -1,8 +1,9 @@
-use mathlib.Core.Path.{sym, _∙_}
-use borrow.Author.Tests.{not-true, not-false}
-use borrow.Author.Needs.{needs}
-use Rattle.memory.proofs.Marks.{never}
+-- `save_decoder::decode` meets its contract: what the head cannot say, and a name that stands twice, are no save. Assumes nothing.
 use Rattle.save_decoder.proofs.Head.{names-not}
+use Rattle.memory.proofs.Marks.{never}
+use borrow.Author.Tests.{not-true, not-false}
+use mathlib.Core.Path.{sym, _∙_}
+use borrow.Author.Needs.{needs}
 use Rattle.save_decoder.proofs.decode.Statement.{statement}
 use Rattle.save_decoder.proofs.decode.Tie as tie
 
@@ -10,13 +11,18 @@ is-head-requires : tie.Need-is-head-requires
 is-head-requires c κs = search needs
 
 returns : tie.Need-returns
-returns c = ((λ t. absurd (never t)), (λ _. c .before .is-head .ensures .1 (not-true _ (c .if1 .taken))))
+returns c = ((λ t. absurd (never t)), (λ _. c .before .is-head .ensures .1 (not-true _ (c .if1 .taken)) _))
+
+is-last-requires : tie.Need-is-last-requires
+is-last-requires c κs = search needs
+
+returns-2 : tie.Need-returns-2
+returns-2 c = ((λ t. absurd (never t)), (λ _. c .before .is-last .ensures .1 (not-true _ (c .if2 .taken))))
 
 read-rows-requires : tie.Need-read-rows-requires
 read-rows-requires c κs =
-    let s = c .before .before .before .before .before .before .before in
-    let h = c .before .before .before .is-head .ensures .0 (not-false _ (c .before .before .if1 .left)) in
-    (s .pre .0, s .pre .1, h .0, h .1, h .2, h .3)
+    let h = c .before .before .before .before .before .is-head .ensures .0 (not-false _ (c .before .before .before .before .if1 .left)) in
+    (c .before .before .before .before .before .before .before .before .before .pre .0, c .before .before .before .before .before .before .before .before .before .pre .1, h .0, h .1, h .2, h .3)
 
 names-once-requires : tie.Need-names-once-requires
 names-once-requires c κs = search needs
@@ -27,19 +33,14 @@ same-length c = search needs
 same-length-2 : tie.Need-same-length-2
 same-length-2 c = search needs
 
-returns-2 : tie.Need-returns-2
-returns-2 c = ((λ t. absurd (never t)), (λ _. names-not _ _ (c .before .before .before .before .before .before .before .before .read-rows .ensures) (sym (c .before .names-once .ensures) ∙ not-true _ (c .if2 .taken))))
+returns-3 : tie.Need-returns-3
+returns-3 c = ((λ t. absurd (never t)), (λ _. names-not _ _ _ (c .before .before .before .before .before .before .before .before .read-rows .ensures .0) (sym (c .before .names-once .ensures) ∙ not-true _ (c .if3 .taken))))
 
 read-labels-requires : tie.Need-read-labels-requires
 read-labels-requires c κs =
-    let at-names = c .before .before .before .before .before .before .before in
-    let at-numbers = at-names .before .before in
-    let at-read-rows = at-numbers .before in
-    let at-if1 = at-read-rows .before .before .before in
-    let at-is-head = at-if1 .before in
-    let s = at-is-head .before .before .before .before in
-    let h = at-is-head .is-head .ensures .0 (not-false _ (at-if1 .if1 .left)) in
-    (at-numbers .numbers .given ∙ s .pre .0, at-names .names .given ∙ s .pre .1, h .2, h .3, at-read-rows .read-rows .ensures, sym (c .before .before .before .names-once .ensures) ∙ not-false _ (c .before .before .if2 .left))
+    let s = c .before .before .before .before .before .before .before .before .before .before .before .before .before .before .before .before .before .before .before .before in
+    let r = c .before .before .before .before .before .before .before .before .before .before .read-rows .ensures in
+    (c .before .before .before .before .before .before .before .before .before .numbers .given ∙ s .pre .0, c .before .before .before .before .before .before .before .names .given ∙ s .pre .1, r .2, r .1, r .0, sym (c .before .before .before .names-once .ensures) ∙ not-false _ (c .before .before .if3 .left), c .before .before .before .before .before .before .before .before .before .before .before .before .before .before .is-last .ensures .0 (not-false _ (c .before .before .before .before .before .before .before .before .before .before .before .before .before .if2 .left)))
 
 same-length-3 : tie.Need-same-length-3
 same-length-3 c = search needs
@@ -47,8 +48,8 @@ same-length-3 c = search needs
 same-length-4 : tie.Need-same-length-4
 same-length-4 c = search needs
 
-returns-3 : tie.Need-returns-3
-returns-3 c = ((λ _. c .before .before .before .before .read-labels .ensures), (λ t. absurd (never (sym t))))
+returns-4 : tie.Need-returns-4
+returns-4 c = ((λ _. c .before .before .before .before .read-labels .ensures), (λ t. absurd (never (sym t))))
 
 pub decode-spec : {M : Type 1} → statement M
 decode-spec =
@@ -56,12 +57,14 @@ decode-spec =
     (tie.spec
     is-head-requires
     returns
+    is-last-requires
+    returns-2
     read-rows-requires
     names-once-requires
     same-length
     same-length-2
-    returns-2
+    returns-3
     read-labels-requires
     same-length-3
     same-length-4
-    returns-3)
+    returns-4)

@@ -79,7 +79,7 @@ returns-2 c =
     let at-four-at = at-base .before .before in
     let s = at-four-at .before .before .before .before in
     let z : at-read-name .read-name .result - 0 ≡ at-read-name .read-name .result = omega arith in
-    use-put (s .args .numbers .now) (s .args .names .now) (s .args .octets .now) (s .args .at) _ _ _ (at-place-of .place-of .ensures) (at-four-at .four-at .ensures .0) (at-base .base .ensures .0) _ _ _ _ (c .before .before .before .before .enter-use .ensures) (ap (λ x. eqb x 1) (at-at .at .ensures .0)) (ap (λ x. x % 16) (at-at2 .at2 .ensures .0)) (rw z (at-read-name .read-name .ensures .0))
+    use-put (s .args .numbers .now) (s .args .names .now) (s .args .octets .now) (s .args .at) _ _ _ (at-place-of .place-of .ensures) (at-four-at .four-at .ensures .0) (at-base .base .ensures .0) _ _ _ _ _ (c .before .before .before .before .enter-use .ensures) (ap (λ x. eqb x 1) (at-at .at .ensures .0)) (ap (λ x. x % 16) (at-at2 .at2 .ensures .0)) (rw z (at-read-name .read-name .ensures .0))
 
 pub read-use-spec : {M : Type 1} → statement M
 read-use-spec =

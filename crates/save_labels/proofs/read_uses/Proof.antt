@@ -1,35 +1,45 @@
-use Prim.Native.Nat.{_-_, _≤_}
-use native.Mathlib.Omega.{arith}
-use mathlib.Core.Path.{_≡_, refl, _∙_}
-use lib.ListN.{length, drop}
+-- `save_labels::read_uses` meets its contract: the invariant is that i labels were read, and that the place is behind them. Assumes nothing.
 use borrow.Author.Needs.{needs}
-use Rattle.meaning.specs.Save.{usesRead}
-use Rattle.meaning.specs.Card.{withLabels}
+use Rattle.save_labels.proofs.Labels.{labels-none, none-behind, unlabelled-kept, labels-more, label-behind}
 use Rattle.memory.specs.Memory.{cardOf}
-use Rattle.save_labels.proofs.Labels.{labels-none, labels-more, unlabelled-kept}
+use Rattle.meaning.specs.SavePlaces.{usesEnd}
+use Rattle.meaning.specs.Save.{formOf, usesRead}
+use Rattle.meaning.specs.Card.{withLabels}
+use lib.ListN.{drop, length}
+use Prim.Native.Nat.{_+_, _*_, _-_, _≤_}
+use mathlib.Core.Path.{_≡_, refl, sym, ap, _∙_}
+use native.Mathlib.Omega.{arith}
 use Rattle.save_labels.proofs.read_uses.Statement.{statement}
 use Rattle.save_labels.proofs.read_uses.Tie as tie
 
 abbrev Inv-loop : tie.InvT-loop
-Inv-loop octets at n numbers₀ names₀ i₀ numbers names i = (i ≤ n) × (length numbers ≡ length numbers₀) × (length names ≡ length names₀) × (cardOf numbers names ≡ withLabels (usesRead (cardOf numbers₀ names₀ .base) i (drop at octets) (cardOf numbers₀ names₀ .labels)) (cardOf numbers₀ names₀))
+Inv-loop octets from second n numbers₀ names₀ at₀ i₀ numbers names at i = (i ≤ n) × (length numbers ≡ length numbers₀) × (length names ≡ length names₀) × (cardOf numbers names ≡ withLabels (usesRead (formOf second) (cardOf numbers₀ names₀ .base) i (drop from octets) (cardOf numbers₀ names₀ .labels)) (cardOf numbers₀ names₀)) × (drop at octets ≡ usesEnd (formOf second) i (drop from octets)) × (at ≤ from + i * 265)
 
 abbrev μ-loop : tie.MeasureT-loop
-μ-loop octets at n numbers₀ names₀ i₀ numbers names i = n - i
+μ-loop octets from second n numbers₀ names₀ at₀ i₀ numbers names at i = n - i
 
 loop-holds : tie.Need-loop-holds Inv-loop μ-loop
-loop-holds c = (omega arith, refl, refl, labels-none (cardOf (c .before .before .before .args .numbers .now) (c .before .before .before .args .names .now)) (c .before .before .before .args .octets .now) (c .before .before .before .args .at))
-
-mul-read-use : tie.Need-mul-read-use Inv-loop μ-loop
-mul-read-use c = search needs
-
-add-read-use : tie.Need-add-read-use Inv-loop μ-loop
-add-read-use c = search needs
+loop-holds c =
+    let s = c .before .before .before in
+    (omega arith, refl, refl, labels-none _ (cardOf (s .args .numbers .now) (s .args .names .now)) (s .args .octets .now) (s .args .from), none-behind _ (cardOf (s .args .numbers .now) (s .args .names .now)) (s .args .octets .now) (s .args .from), omega arith)
 
 read-use-requires : tie.Need-read-use-requires Inv-loop μ-loop
 read-use-requires c κs =
     let s = c .before .before .before .before .before .before .before in
     let v = c .before .before .before .loop .inv in
-    (v .1 ∙ s .pre .0, v .2 ∙ s .pre .1, omega arith, unlabelled-kept (cardOf (s .args .numbers .now) (s .args .names .now)) _ _ (s .pre .4) (v .3))
+    (v .1 ∙ s .pre .0, v .2 ∙ s .pre .1, omega (arith, v .5), unlabelled-kept (cardOf (s .args .numbers .now) (s .args .names .now)) _ _ (s .pre .4) (v .3))
+
+add-extent-at : tie.Need-add-extent-at Inv-loop μ-loop
+add-extent-at c = omega (arith, c .before .before .before .before .before .before .before .before .loop .inv .5)
+
+extent-at-requires : tie.Need-extent-at-requires Inv-loop μ-loop
+extent-at-requires c κs = search needs
+
+add-at : tie.Need-add-at Inv-loop μ-loop
+add-at c = omega (arith, c .extent-at .ensures .1)
+
+add-at-2 : tie.Need-add-at-2 Inv-loop μ-loop
+add-at-2 c = omega (arith, c .extent-at .ensures .1, c .before .before .before .before .before .before .before .before .before .loop .inv .5)
 
 add-i : tie.Need-add-i Inv-loop μ-loop
 add-i c = search needs
@@ -39,10 +49,11 @@ loop-less c = search needs
 
 loop-again : tie.Need-loop-again Inv-loop μ-loop
 loop-again c =
-    let at-loop = c .before .before .before .before .before .before .before .before in
-    let s = at-loop .before .before .before .before in
-    let v = at-loop .loop .inv in
-    (omega arith, c .before .before .before .numbers .given ∙ v .1, c .before .names .given ∙ v .2, labels-more (cardOf (s .args .numbers .now) (s .args .names .now)) (s .args .octets .now) (s .args .at) _ _ _ (v .3) (c .before .before .before .before .read-use .ensures))
+    let s = c .before .before .before .before .before .before .before .before .before .before .before .before .before in
+    let l = c .before .before .before .before .before .before .before .before .before .loop in
+    let v = l .inv in
+    let e = c .extent-at .ensures in
+    (omega arith, c .before .before .before .before .numbers .given ∙ v .1, c .before .before .names .given ∙ v .2, labels-more _ (cardOf (s .args .numbers .now) (s .args .names .now)) (s .args .octets .now) (s .args .from) (l .i) (l .at) _ _ (v .3) (v .4) (c .before .before .before .before .before .read-use .ensures), label-behind _ (cardOf (s .args .numbers .now) (s .args .names .now)) (s .args .octets .now) (s .args .from) (l .i) (l .at) _ (e .0) (v .4), omega (arith, v .5, e .1))
 
 same-length : tie.Need-same-length Inv-loop μ-loop
 same-length c = c .before .loop .inv .1
@@ -53,8 +64,8 @@ same-length-2 c = c .before .loop .inv .2
 returns : tie.Need-returns Inv-loop μ-loop
 returns c =
     let v = c .before .loop .inv in
-    let e : c .before .loop .i ≡ c .before .before .before .before .before .args .n = omega arith in
-    rw (← e) (v .3)
+    let done : c .before .loop .i ≡ c .before .before .before .before .before .args .n = omega arith in
+    rw (← done) (v .3)
 
 pub read-uses-spec : {M : Type 1} → statement M
 read-uses-spec =
@@ -63,9 +74,11 @@ read-uses-spec =
     Inv-loop
     μ-loop
     loop-holds
-    mul-read-use
-    add-read-use
     read-use-requires
+    add-extent-at
+    extent-at-requires
+    add-at
+    add-at-2
     add-i
     loop-less
     loop-again

@@ -1,10 +1,11 @@
+-- `save_labels::settle` meets its contract: the last label given is set by its turn. Assumes nothing.
 use Rattle.save_labels.proofs.Labels.{settled-is}
 use borrow.Author.Needs.{needs}
 use Rattle.save_labels.proofs.settle.Statement.{statement}
 use Rattle.save_labels.proofs.settle.Tie as tie
 
-above-used-requires : tie.Need-above-used-requires
-above-used-requires c κs = search needs
+turn-after-requires : tie.Need-turn-after-requires
+turn-after-requires c κs = search needs
 
 set-turn-requires : tie.Need-set-turn-requires
 set-turn-requires c κs = search needs
@@ -13,9 +14,7 @@ same-length : tie.Need-same-length
 same-length c = search needs
 
 returns : tie.Need-returns
-returns c =
-    let t = c .before .before in
-    λ os. settled-is _ os _ _ (t .set-turn .ensures os) (t .before .before .above-used .ensures os)
+returns c = λ os. settled-is (c .before .before .before .before .before .before .before .before .args .numbers .now) os _ (c .before .before .before .before .before .before .before .before .args .octets .now) _ _ (c .before .before .set-turn .ensures os) (c .before .before .before .before .turn-after .ensures os)
 
 pub settle-spec : {M : Type 1} → statement M
-settle-spec = tie.close (tie.spec above-used-requires set-turn-requires same-length returns)
+settle-spec = tie.close (tie.spec turn-after-requires set-turn-requires same-length returns)

@@ -13,12 +13,12 @@ saved-size-requires c κs = search needs
 returns : tie.Need-returns
 returns c =
     let s = c .before .before .before .before .before .before in
-    sym (same-length _ _ (λ e. c .if1 .taken (sym e ∙ sym (c .before .saved-size .ensures .0 (s .args .names .now)))))
+    sym (same-length _ _ (λ e. c .if1 .taken (sym e ∙ sym (c .before .saved-size .ensures .0))))
 
 write-save-requires : tie.Need-write-save-requires
 write-save-requires c κs =
     let s = c .before .before .before .before .before .before .before in
-    (s .pre .0, s .pre .1, omega (arith, s .pre .2, c .before .before .saved-size .ensures .0 (s .args .names .now), c .before .before .saved-size .ensures .1))
+    (s .pre .0, s .pre .1, omega (arith, s .pre .2, c .before .before .saved-size .ensures .0, c .before .before .saved-size .ensures .1))
 
 sub-equal : tie.Need-sub-equal
 sub-equal c = search needs
@@ -30,7 +30,7 @@ part-equal-end : tie.Need-part-equal-end
 part-equal-end c =
     let s = c .before .before .before .before .before .before .before .before .before .before .before in
     let z = c .before .before .before .before .before .before .saved-size .ensures in
-    omega (arith, s .pre .2, c .before .before .before .write-save .ensures .1, z .0 (s .args .names .now), z .1)
+    omega (arith, s .pre .2, c .before .before .before .write-save .ensures .1, z .0, z .1)
 
 equal-requires : tie.Need-equal-requires
 equal-requires c κs = search needs

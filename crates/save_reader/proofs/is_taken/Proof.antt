@@ -18,8 +18,8 @@ same-length-2 c = search needs
 returns : tie.Need-returns
 returns c = (sym (c .before .before .before .before .before .decode .ensures .1 (not-true _ (c .if1 .taken))), (λ t. absurd (never t)))
 
-keeps-rules-requires : tie.Need-keeps-rules-requires
-keeps-rules-requires c κs = search needs
+is-ruled-requires : tie.Need-is-ruled-requires
+is-ruled-requires c κs = search needs
 
 same-length-3 : tie.Need-same-length-3
 same-length-3 c = search needs
@@ -31,7 +31,7 @@ returns-2 : tie.Need-returns-2
 returns-2 c =
     let at-decode = c .before .before .before .before .before .before .before .before .before in
     let d = at-decode .decode .ensures .0 (not-false _ (c .before .before .before .before .if1 .left)) in
-    (sym (not-taken _ _ d (sym (c .before .keeps-rules .ensures) ∙ not-true _ (c .if2 .taken))), (λ t. absurd (never t)))
+    (sym (not-taken _ _ _ d (sym (c .before .is-ruled .ensures) ∙ not-true _ (c .if2 .taken))), (λ t. absurd (never t)))
 
 is-saved-as-requires : tie.Need-is-saved-as-requires
 is-saved-as-requires c κs = search needs
@@ -48,7 +48,7 @@ same-length-7 c = search needs
 returns-3 : tie.Need-returns-3
 returns-3 c =
     let d = c .before .before .before .before .before .before .before .before .before .before .before .before .before .before .before .decode .ensures .0 (not-false _ (c .before .before .before .before .before .before .before .before .before .before .if1 .left)) in
-    (taken _ _ _ d (sym (c .before .before .before .before .before .before .before .keeps-rules .ensures) ∙ not-false _ (c .before .before .before .before .before .before .if2 .left)) (c .before .before .is-saved-as .ensures), (λ _. d))
+    (taken _ _ _ _ d (sym (c .before .before .before .before .before .before .before .is-ruled .ensures) ∙ not-false _ (c .before .before .before .before .before .before .if2 .left)) (c .before .before .is-saved-as .ensures), (λ _. d))
 
 pub is-taken-spec : {M : Type 1} → statement M
 is-taken-spec =
@@ -58,7 +58,7 @@ is-taken-spec =
     same-length
     same-length-2
     returns
-    keeps-rules-requires
+    is-ruled-requires
     same-length-3
     same-length-4
     returns-2

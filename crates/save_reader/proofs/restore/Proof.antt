@@ -11,7 +11,7 @@ is-taken-requires c κs = search needs
 returns : tie.Need-returns
 returns c =
     let s = c .before .before .before .before .before .before in
-    refused (s .args .octets .now) _ (sym (c .before .is-taken .ensures .0) ∙ not-true _ (c .if1 .taken))
+    refused _ (s .args .octets .now) _ (sym (c .before .is-taken .ensures .0) ∙ not-true _ (c .if1 .taken))
 
 put-over-requires : tie.Need-put-over-requires
 put-over-requires c κs = search needs
@@ -21,7 +21,7 @@ returns-2 c =
     let s = c .before .before .before .before .before .before .before .before .before .before .before .before .before in
     let t = c .before .before .before .before .before .before .before .before .is-taken .ensures in
     let e = not-false _ (c .before .before .before .before .before .before .before .if1 .left) in
-    restored (s .args .octets .now) _ _ (sym (t .0) ∙ e) (rw (c .put-over .ensures .0, c .put-over .ensures .1) (t .1 e))
+    restored _ (s .args .octets .now) _ _ (sym (t .0) ∙ e) (rw (c .put-over .ensures .0, c .put-over .ensures .1) (t .1 e))
 
 pub restore-spec : {M : Type 1} → statement M
 restore-spec =

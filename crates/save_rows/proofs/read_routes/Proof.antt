@@ -3,7 +3,7 @@ use native.Mathlib.Omega.{arith}
 use mathlib.Core.Path.{_≡_, refl, _∙_}
 use lib.ListN.{length, drop}
 use borrow.Author.Needs.{needs}
-use Rattle.meaning.specs.Save.{routesRead, headSize}
+use Rattle.meaning.specs.Save.{routesRead}
 use Rattle.meaning.specs.Card.{withRoutes}
 use Rattle.memory.specs.Memory.{cardOf}
 use Rattle.save_rows.proofs.Rows.{routes-none, routes-more, routes-room}
@@ -11,13 +11,13 @@ use Rattle.save_rows.proofs.read_routes.Statement.{statement}
 use Rattle.save_rows.proofs.read_routes.Tie as tie
 
 abbrev Inv-loop : tie.InvT-loop
-Inv-loop octets n numbers₀ names₀ i₀ numbers names i = (i ≤ n) × (length numbers ≡ length numbers₀) × (length names ≡ length names₀) × (cardOf numbers names ≡ withRoutes (routesRead i (drop headSize octets)) (cardOf numbers₀ names₀))
+Inv-loop octets at n numbers₀ names₀ i₀ numbers names i = (i ≤ n) × (length numbers ≡ length numbers₀) × (length names ≡ length names₀) × (cardOf numbers names ≡ withRoutes (routesRead i (drop at octets)) (cardOf numbers₀ names₀))
 
 abbrev μ-loop : tie.MeasureT-loop
-μ-loop octets n numbers₀ names₀ i₀ numbers names i = n - i
+μ-loop octets at n numbers₀ names₀ i₀ numbers names i = n - i
 
 loop-holds : tie.Need-loop-holds Inv-loop μ-loop
-loop-holds c = (omega arith, refl, refl, routes-none (cardOf (c .before .before .before .args .numbers .now) (c .before .before .before .args .names .now)) (c .before .before .before .args .octets .now) (c .before .before .before .pre .3))
+loop-holds c = (omega arith, refl, refl, routes-none (cardOf (c .before .before .before .args .numbers .now) (c .before .before .before .args .names .now)) (c .before .before .before .args .octets .now) (c .before .before .before .args .at) (c .before .before .before .pre .4))
 
 mul-read-route : tie.Need-mul-read-route Inv-loop μ-loop
 mul-read-route c = search needs
@@ -29,7 +29,7 @@ read-route-requires : tie.Need-read-route-requires Inv-loop μ-loop
 read-route-requires c κs =
     let s = c .before .before .before .before .before .before .before in
     let v = c .before .before .before .loop .inv in
-    (v .1 ∙ s .pre .0, v .2 ∙ s .pre .1, omega (arith, routes-room (cardOf (s .args .numbers .now) (s .args .names .now)) (s .args .octets .now) _ _ _ (v .3)), omega arith)
+    (v .1 ∙ s .pre .0, v .2 ∙ s .pre .1, omega (arith, routes-room (cardOf (s .args .numbers .now) (s .args .names .now)) (s .args .octets .now) (s .args .at) _ _ _ (v .3)), omega arith)
 
 add-i : tie.Need-add-i Inv-loop μ-loop
 add-i c = search needs
@@ -42,7 +42,7 @@ loop-again c =
     let at-loop = c .before .before .before .before .before .before .before .before in
     let s = at-loop .before .before .before .before in
     let v = at-loop .loop .inv in
-    (omega arith, c .before .before .before .numbers .given ∙ v .1, c .before .names .given ∙ v .2, routes-more (cardOf (s .args .numbers .now) (s .args .names .now)) (s .args .octets .now) _ _ _ _ _ (v .3) (c .before .before .before .before .read-route .ensures))
+    (omega arith, c .before .before .before .numbers .given ∙ v .1, c .before .names .given ∙ v .2, routes-more (cardOf (s .args .numbers .now) (s .args .names .now)) (s .args .octets .now) (s .args .at) _ _ _ _ _ (v .3) (c .before .before .before .before .read-route .ensures))
 
 same-length : tie.Need-same-length Inv-loop μ-loop
 same-length c = c .before .loop .inv .1

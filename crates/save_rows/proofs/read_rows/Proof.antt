@@ -1,7 +1,8 @@
+-- `save_rows::read_rows` meets its contract: the head, the routes and the trees, one stage after the other. Assumes nothing.
+use Rattle.save_rows.proofs.Rows.{head-empty, still-empty, rows-whole}
+use mathlib.Core.Path.{_≡_, refl, sym, ap, _∙_}
 use native.Mathlib.Omega.{arith}
-use mathlib.Core.Path.{_∙_}
 use borrow.Author.Needs.{needs}
-use Rattle.save_rows.proofs.Rows.{rows-whole, head-empty, still-empty}
 use Rattle.save_rows.proofs.read_rows.Statement.{statement}
 use Rattle.save_rows.proofs.read_rows.Tie as tie
 
@@ -20,17 +21,18 @@ cast-set-next-id c = search needs
 set-next-id-requires : tie.Need-set-next-id-requires
 set-next-id-requires c κs = search needs
 
+head-size-requires : tie.Need-head-size-requires
+head-size-requires c κs = search needs
+
 at-requires : tie.Need-at-requires
 at-requires c κs = search needs
 
 read-routes-requires : tie.Need-read-routes-requires
 read-routes-requires c κs =
-    let at-numbers = c .before .before .before .before .before .before .before .before .before in
-    let at-start-fresh = at-numbers .before in
-    let s = at-start-fresh .before .before .before .before .before .before in
+    let s = c .before .before .before .before .before .before .before .before .before .before .before .before .before .before .before .before .before in
     let r = c .before .before .at .ensures .0 in
-    let none = head-empty (s .args .octets .now) _ _ _ _ (at-start-fresh .start-fresh .ensures (s .args .names .now)) (c .before .before .before .before .before .set-next-id .ensures (s .args .names .now)) in
-    (c .before .before .before .before .numbers2 .given ∙ at-numbers .numbers .given ∙ s .pre .0, s .pre .1, omega (arith, s .pre .4), none .0)
+    let none = head-empty _ _ _ _ (c .before .before .before .before .before .before .before .before .before .before .before .start-fresh .ensures (s .args .names .now)) (c .before .before .before .before .before .before .set-next-id .ensures (s .args .names .now)) in
+    (c .before .before .before .before .before .numbers2 .given ∙ c .before .before .before .before .before .before .before .before .before .before .numbers .given ∙ s .pre .0, s .pre .1, omega (arith, s .pre .4), omega (arith, c .before .before .before .head-size .ensures .2), none .0)
 
 at-requires-2 : tie.Need-at-requires-2
 at-requires-2 c κs = search needs
@@ -43,18 +45,11 @@ add-read-trees c = search needs
 
 read-trees-requires : tie.Need-read-trees-requires
 read-trees-requires c κs =
-    let at-numbers3 = c .before .before .before .before .before .before in
-    let at-read-routes = at-numbers3 .before in
-    let at-at = at-read-routes .before .before .before in
-    let at-numbers2 = at-at .before .before in
-    let at-set-next-id = at-numbers2 .before in
-    let at-numbers = at-set-next-id .before .before .before .before in
-    let at-start-fresh = at-numbers .before in
-    let s = at-start-fresh .before .before .before .before .before .before in
-    let r = at-at .at .ensures .0 in
+    let s = c .before .before .before .before .before .before .before .before .before .before .before .before .before .before .before .before .before .before .before .before .before .before .before .before .before in
+    let r = c .before .before .before .before .before .before .before .before .before .before .at .ensures .0 in
     let t = c .before .before .at2 .ensures .0 in
-    let none = head-empty (s .args .octets .now) _ _ _ _ (at-start-fresh .start-fresh .ensures (s .args .names .now)) (at-set-next-id .set-next-id .ensures (s .args .names .now)) in
-    (at-numbers3 .numbers3 .given ∙ at-numbers2 .numbers2 .given ∙ at-numbers .numbers .given ∙ s .pre .0, c .before .before .before .before .names .given ∙ s .pre .1, omega (arith, s .pre .5), omega (arith, s .pre .4), still-empty (s .args .octets .now) _ _ _ (none .1) (at-read-routes .read-routes .ensures))
+    let none = head-empty _ _ _ _ (c .before .before .before .before .before .before .before .before .before .before .before .before .before .before .before .before .before .before .before .start-fresh .ensures (s .args .names .now)) (c .before .before .before .before .before .before .before .before .before .before .before .before .before .before .set-next-id .ensures (s .args .names .now)) in
+    (c .before .before .before .before .before .before .numbers3 .given ∙ c .before .before .before .before .before .before .before .before .before .before .before .before .before .numbers2 .given ∙ c .before .before .before .before .before .before .before .before .before .before .before .before .before .before .before .before .before .before .numbers .given ∙ s .pre .0, c .before .before .before .before .names .given ∙ s .pre .1, omega (arith, s .pre .5), omega (arith, s .pre .4, c .before .before .before .before .before .before .before .before .before .before .before .head-size .ensures .2), still-empty _ _ _ (none .1) (c .before .before .before .before .before .before .before .read-routes .ensures))
 
 same-length : tie.Need-same-length
 same-length c = search needs
@@ -64,15 +59,10 @@ same-length-2 c = search needs
 
 returns : tie.Need-returns
 returns c =
-    let at-at2 = c .before .before .before .before .before .before .before in
-    let at-read-routes = at-at2 .before .before .before .before .before in
-    let at-at = at-read-routes .before .before .before in
-    let at-set-next-id = at-at .before .before .before in
-    let at-four-at2 = at-set-next-id .before in
-    let at-start-fresh = at-four-at2 .before .before .before .before in
-    let at-four-at = at-start-fresh .before in
-    let s = at-four-at .before .before .before .before .before in
-    rows-whole (s .args .octets .now) _ _ _ _ _ _ _ _ (at-four-at .four-at .ensures .0) (at-four-at2 .four-at2 .ensures .0) (at-at .at .ensures .0) (at-at2 .at2 .ensures .0) (at-start-fresh .start-fresh .ensures (s .args .names .now)) (at-set-next-id .set-next-id .ensures (s .args .names .now)) (at-read-routes .read-routes .ensures) (c .before .before .before .before .read-trees .ensures)
+    let s = c .before .before .before .before .before .before .before .before .before .before .before .before .before .before .before .before .before .before .before .before .before .before .before .before .before .before .before .before .before .before in
+    let t = c .before .before .before .before .read-trees .ensures in
+    let whole = rows-whole _ (s .args .octets .now) _ _ _ _ _ (c .before .before .before .before .read-trees .result) _ _ _ _ (c .before .before .before .before .before .before .before .before .before .before .before .before .before .before .before .before .before .before .before .before .before .before .before .before .before .four-at .ensures .0) (c .before .before .before .before .before .before .before .before .before .before .before .before .before .before .before .before .before .before .before .before .four-at2 .ensures .0) (c .before .before .before .before .before .before .before .before .before .before .before .before .before .before .before .before .head-size .ensures .0) (c .before .before .before .before .before .before .before .before .before .before .before .before .before .before .before .at .ensures .0) (c .before .before .before .before .before .before .before .at2 .ensures .0) (c .before .before .before .before .before .before .before .before .before .before .before .before .before .before .before .before .before .before .before .before .before .before .before .before .start-fresh .ensures (s .args .names .now)) (c .before .before .before .before .before .before .before .before .before .before .before .before .before .before .before .before .before .before .before .set-next-id .ensures (s .args .names .now)) (c .before .before .before .before .before .before .before .before .before .before .before .before .read-routes .ensures) (t .0) (t .1) in
+    (whole .0, whole .1, omega (arith, t .2, s .pre .4, s .pre .5, c .before .before .before .before .before .before .before .before .before .before .before .before .before .before .before .before .head-size .ensures .2, c .before .before .before .before .before .before .before .before .before .before .before .before .before .before .before .at .ensures .0, c .before .before .before .before .before .before .before .at2 .ensures .0))
 
 pub read-rows-spec : {M : Type 1} → statement M
 read-rows-spec =
@@ -83,6 +73,7 @@ read-rows-spec =
     four-at-requires-2
     cast-set-next-id
     set-next-id-requires
+    head-size-requires
     at-requires
     read-routes-requires
     at-requires-2

@@ -1,11 +1,12 @@
-use native.Mathlib.Omega.{arith}
-use mathlib.Core.Bool.{not}
-use mathlib.Core.Path.{sym, ap, _∙_}
-use lib.Dec.{eqb}
-use borrow.Author.Needs.{needs}
-use Rattle.memory.proofs.Memory.{trees-length}
-use Rattle.memory.specs.Memory.{cardOf}
+-- `save_rows::read_tree` meets its contract: a bare tree with its name, its leaf mark and its branches. Assumes nothing.
 use Rattle.save_rows.proofs.Rows.{entered, changed, tree-made}
+use Rattle.memory.specs.Memory.{cardOf}
+use Rattle.memory.proofs.Memory.{trees-length}
+use lib.Dec.{eqb}
+use mathlib.Core.Path.{sym, ap, _∙_}
+use mathlib.Core.Bool.{not}
+use native.Mathlib.Omega.{arith}
+use borrow.Author.Needs.{needs}
 use Rattle.save_rows.proofs.read_tree.Statement.{statement}
 use Rattle.save_rows.proofs.read_tree.Tie as tie
 
@@ -21,28 +22,29 @@ enter-name-requires c κs = search needs
 add-at : tie.Need-add-at
 add-at c = search needs
 
+add-at-2 : tie.Need-add-at-2
+add-at-2 c = search needs
+
 at-requires : tie.Need-at-requires
 at-requires c κs = search needs
 
 set-leaf-requires : tie.Need-set-leaf-requires
 set-leaf-requires c κs =
-    let at-enter-name = c .before .before .before .before .before .before in
-    let at-tree-count = at-enter-name .before .before .before in
-    let s = at-tree-count .before .before .before .before .before in
-    let n = at-tree-count .tree-count .ensures .0 in
-    (c .before .before .before .before .before .numbers .given ∙ s .pre .0, omega (arith, entered (s .args .numbers .now) (s .args .names .now) _ _ _ (at-enter-name .enter-name .ensures)), omega (arith, s .pre .2))
+    let s = c .before .before .before .before .before .before .before .before .before .before .before .before .before .before in
+    let n = c .before .before .before .before .before .before .before .before .before .tree-count .ensures .0 in
+    (c .before .before .before .before .before .numbers .given ∙ s .pre .0, omega (arith, entered (s .args .numbers .now) (s .args .names .now) _ _ _ (c .before .before .before .before .before .before .enter-name .ensures)), omega (arith, s .pre .2))
 
 add-read-branches : tie.Need-add-read-branches
 add-read-branches c = search needs
 
+add-read-branches-2 : tie.Need-add-read-branches-2
+add-read-branches-2 c = search needs
+
 read-branches-requires : tie.Need-read-branches-requires
 read-branches-requires c κs =
-    let at-numbers = c .before .before .before .before .before .before .before .before .before in
-    let at-enter-name = at-numbers .before in
-    let at-tree-count = at-enter-name .before .before .before in
-    let s = at-tree-count .before .before .before .before .before in
-    let n = at-tree-count .tree-count .ensures .0 in
-    (c .before .before .numbers2 .given ∙ at-numbers .numbers .given ∙ s .pre .0, omega (arith, entered (s .args .numbers .now) (s .args .names .now) _ _ _ (at-enter-name .enter-name .ensures), changed _ _ (s .args .names .now) _ _ (c .before .before .before .set-leaf .ensures (s .args .names .now))), omega (arith, s .pre .2), omega arith)
+    let s = c .before .before .before .before .before .before .before .before .before .before .before .before .before .before .before .before .before .before in
+    let n = c .before .before .before .before .before .before .before .before .before .before .before .before .before .tree-count .ensures .0 in
+    (c .before .before .numbers2 .given ∙ c .before .before .before .before .before .before .before .before .before .numbers .given ∙ s .pre .0, omega (arith, entered (s .args .numbers .now) (s .args .names .now) _ _ _ (c .before .before .before .before .before .before .before .before .before .before .enter-name .ensures), changed _ _ (s .args .names .now) _ _ (c .before .before .before .set-leaf .ensures (s .args .names .now))), omega (arith, s .pre .2), omega (arith, s .pre .3, s .pre .5))
 
 same-length : tie.Need-same-length
 same-length c = search needs
@@ -52,12 +54,8 @@ same-length-2 c = search needs
 
 returns : tie.Need-returns
 returns c =
-    let at-set-leaf = c .before .before .before .before .before .before in
-    let at-at = at-set-leaf .before .before in
-    let at-enter-name = at-at .before .before .before .before .before in
-    let at-tree-count = at-enter-name .before .before .before in
-    let s = at-tree-count .before .before .before .before .before in
-    tree-made (s .args .octets .now) (cardOf (s .args .numbers .now) (s .args .names .now)) _ _ _ (s .args .at) _ _ (at-tree-count .tree-count .ensures .0 ∙ sym (trees-length _ _)) (at-enter-name .enter-name .ensures) (at-set-leaf .set-leaf .ensures _) (ap (λ x. not (eqb x 0)) (at-at .at .ensures .0)) (c .before .before .read-branches .ensures _)
+    let s = c .before .before .before .before .before .before .before .before .before .before .before .before .before .before .before .before .before .before .before .before .before in
+    tree-made _ (s .args .octets .now) (s .args .at) (s .args .e) (s .pre .4) (cardOf (s .args .numbers .now) (s .args .names .now)) _ _ _ _ _ (c .before .before .before .before .before .before .before .before .before .before .before .before .before .before .before .before .tree-count .ensures .0 ∙ sym (trees-length _ _)) (c .before .before .before .before .before .before .before .before .before .before .before .before .before .enter-name .ensures) (c .before .before .before .before .before .before .set-leaf .ensures _) (ap (λ x. not (eqb x 0)) (c .before .before .before .before .before .before .before .before .at .ensures .0)) (c .before .before .read-branches .ensures _)
 
 pub read-tree-spec : {M : Type 1} → statement M
 read-tree-spec =
@@ -67,9 +65,11 @@ read-tree-spec =
     add-enter-name
     enter-name-requires
     add-at
+    add-at-2
     at-requires
     set-leaf-requires
     add-read-branches
+    add-read-branches-2
     read-branches-requires
     same-length
     same-length-2

@@ -1,35 +1,44 @@
-use Prim.Native.Nat.{_-_, _≤_}
-use native.Mathlib.Omega.{arith}
-use mathlib.Core.Path.{_≡_, refl, _∙_}
-use lib.ListN.{length, drop}
+-- `save_rows::read_trees` meets its contract: the invariant is that i trees stand, and that the place is behind them. Assumes nothing.
 use borrow.Author.Needs.{needs}
-use Rattle.meaning.specs.Save.{treesRead}
-use Rattle.meaning.specs.Card.{withTrees}
+use Rattle.save_rows.proofs.Rows.{trees-none, none-behind, trees-room, trees-more, tree-behind}
 use Rattle.memory.specs.Memory.{cardOf}
-use Rattle.save_rows.proofs.Rows.{trees-none, trees-more, trees-room}
+use Rattle.meaning.specs.Save.{formOf, treesRead, treesEnd}
+use Rattle.meaning.specs.Card.{withTrees}
+use lib.ListN.{drop, length}
+use Prim.Native.Nat.{_+_, _*_, _-_, _≤_}
+use mathlib.Core.Path.{_≡_, refl, sym, ap, _∙_}
+use native.Mathlib.Omega.{arith}
 use Rattle.save_rows.proofs.read_trees.Statement.{statement}
 use Rattle.save_rows.proofs.read_trees.Tie as tie
 
 abbrev Inv-loop : tie.InvT-loop
-Inv-loop octets at n numbers₀ names₀ i₀ numbers names i = (i ≤ n) × (length numbers ≡ length numbers₀) × (length names ≡ length names₀) × (cardOf numbers names ≡ withTrees (treesRead i (drop at octets)) (cardOf numbers₀ names₀))
+Inv-loop octets from second n numbers₀ names₀ at₀ i₀ numbers names at i = (i ≤ n) × (length numbers ≡ length numbers₀) × (length names ≡ length names₀) × (cardOf numbers names ≡ withTrees (treesRead (formOf second) i (drop from octets)) (cardOf numbers₀ names₀)) × (drop at octets ≡ treesEnd (formOf second) i (drop from octets)) × (at ≤ from + i * 324)
 
 abbrev μ-loop : tie.MeasureT-loop
-μ-loop octets at n numbers₀ names₀ i₀ numbers names i = n - i
+μ-loop octets from second n numbers₀ names₀ at₀ i₀ numbers names at i = n - i
 
 loop-holds : tie.Need-loop-holds Inv-loop μ-loop
-loop-holds c = (omega arith, refl, refl, trees-none (cardOf (c .before .before .before .args .numbers .now) (c .before .before .before .args .names .now)) (c .before .before .before .args .octets .now) (c .before .before .before .args .at) (c .before .before .before .pre .4))
+loop-holds c =
+    let s = c .before .before .before in
+    (omega arith, refl, refl, trees-none _ (cardOf (s .args .numbers .now) (s .args .names .now)) (s .args .octets .now) (s .args .from) (s .pre .4), none-behind _ (cardOf (s .args .numbers .now) (s .args .names .now)) (s .args .octets .now) (s .args .from), omega arith)
 
-mul-read-tree : tie.Need-mul-read-tree Inv-loop μ-loop
-mul-read-tree c = search needs
+add-extent-at : tie.Need-add-extent-at Inv-loop μ-loop
+add-extent-at c = omega (arith, c .before .loop .inv .5)
 
-add-read-tree : tie.Need-add-read-tree Inv-loop μ-loop
-add-read-tree c = search needs
+extent-at-requires : tie.Need-extent-at-requires Inv-loop μ-loop
+extent-at-requires c κs = search needs
 
 read-tree-requires : tie.Need-read-tree-requires Inv-loop μ-loop
 read-tree-requires c κs =
-    let s = c .before .before .before .before .before .before .before in
-    let v = c .before .before .before .loop .inv in
-    (v .1 ∙ s .pre .0, v .2 ∙ s .pre .1, omega (arith, trees-room (cardOf (s .args .numbers .now) (s .args .names .now)) (s .args .octets .now) (s .args .at) _ _ _ (v .3)), omega arith)
+    let s = c .before .before .before .before .before .before .before .before in
+    let v = c .before .before .before .before .loop .inv in
+    (v .1 ∙ s .pre .0, v .2 ∙ s .pre .1, omega (arith, trees-room _ (cardOf (s .args .numbers .now) (s .args .names .now)) (s .args .octets .now) (s .args .from) _ _ _ (v .3)), omega (arith, v .5), c .before .before .extent-at .ensures .0, c .before .before .extent-at .ensures .1)
+
+add-at : tie.Need-add-at Inv-loop μ-loop
+add-at c = omega (arith, c .before .before .before .before .before .before .before .extent-at .ensures .1)
+
+add-at-2 : tie.Need-add-at-2 Inv-loop μ-loop
+add-at-2 c = omega (arith, c .before .before .before .before .before .before .before .extent-at .ensures .1, c .before .before .before .before .before .before .before .before .before .loop .inv .5)
 
 add-i : tie.Need-add-i Inv-loop μ-loop
 add-i c = search needs
@@ -39,10 +48,11 @@ loop-less c = search needs
 
 loop-again : tie.Need-loop-again Inv-loop μ-loop
 loop-again c =
-    let at-loop = c .before .before .before .before .before .before .before .before in
-    let s = at-loop .before .before .before .before in
-    let v = at-loop .loop .inv in
-    (omega arith, c .before .before .before .numbers .given ∙ v .1, c .before .names .given ∙ v .2, trees-more (cardOf (s .args .numbers .now) (s .args .names .now)) (s .args .octets .now) (s .args .at) _ _ _ _ _ (v .3) (c .before .before .before .before .read-tree .ensures))
+    let s = c .before .before .before .before .before .before .before .before .before .before .before .before .before in
+    let l = c .before .before .before .before .before .before .before .before .before .loop in
+    let v = l .inv in
+    let e = c .before .before .before .before .before .before .before .extent-at .ensures in
+    (omega arith, c .before .before .before .numbers .given ∙ v .1, c .before .names .given ∙ v .2, trees-more _ (cardOf (s .args .numbers .now) (s .args .names .now)) (s .args .octets .now) (s .args .from) (l .i) (l .at) _ _ _ _ (v .3) (v .4) (c .before .before .before .before .read-tree .ensures), tree-behind _ (s .args .octets .now) (l .at) _ (e .0) (l .i) (s .args .from) (v .4), omega (arith, v .5, e .1))
 
 same-length : tie.Need-same-length Inv-loop μ-loop
 same-length c = c .before .loop .inv .1
@@ -53,8 +63,8 @@ same-length-2 c = c .before .loop .inv .2
 returns : tie.Need-returns Inv-loop μ-loop
 returns c =
     let v = c .before .loop .inv in
-    let e : c .before .loop .i ≡ c .before .before .before .before .before .args .n = omega arith in
-    rw (← e) (v .3)
+    let done : c .before .loop .i ≡ c .before .before .before .before .before .args .n = omega arith in
+    rw (← done) (v .3, v .4, v .5)
 
 pub read-trees-spec : {M : Type 1} → statement M
 read-trees-spec =
@@ -63,9 +73,11 @@ read-trees-spec =
     Inv-loop
     μ-loop
     loop-holds
-    mul-read-tree
-    add-read-tree
+    add-extent-at
+    extent-at-requires
     read-tree-requires
+    add-at
+    add-at-2
     add-i
     loop-less
     loop-again
