@@ -1,19 +1,20 @@
 -- The calls of the code by their contracts, and nothing more: each constructor takes what a caller learns of one call (`Learnt`), and says of it what went in and what came back.
 -- a are the call's arguments, r is its result, and s are its parameters as they are right after it, in the order of the source (`.0`, `.1 .0`, `.1 .1 .0`, ..):
 -- start: numbers, base. receive: numbers, names, neighbour, message, out, answer. join, leave: numbers, names, element, out, answer. route: numbers, names, root, via, out, answer. lost: numbers, names, neighbour, out, answer.
--- notice: numbers, neighbour, number, octets, out, answer. save: numbers, names, out, answer. restore: numbers, names, octets, and spare memory, of which nothing is learnt.
+-- notice: numbers, neighbour, number, octets, out, answer. save: numbers, names, the form, out, answer. restore: numbers, names, the form, octets, and spare memory, of which nothing is learnt. (For C there is a call for each form.)
+-- newer, older: octets, three pieces of spare memory, out, answer; in their core the form stands behind the octets.
 -- lookup by label: numbers, label, and in a core or for C the branches; by name: numbers, names, element, and the branches likewise. The cores and the calls for C have the order of the call.
 -- The law behind each type (`made`, `told`, ..) is its statement in the words of `meaning`. Assumes nothing.
 use Prim.Native.Nat.{ℕ}
 use mathlib.Core.Path.{_≡_}
-use mathlib.Core.Bool.{Bool}
+use mathlib.Core.Bool.{Bool, not}
 use mathlib.Core.List.{List}
 use lib.ListN.{take, length}
 use denote.Ref.{now}
 use Rattle.meaning.specs.Card.{freeLabels, lookupLabel, lookupName}
 use Rattle.meaning.specs.Events.{Event, receive, join, leave, route, lost, event, start}
 use Rattle.meaning.specs.Notice.{notice}
-use Rattle.meaning.specs.Save.{save, restore}
+use Rattle.meaning.specs.Save.{Form, old, new, formOf, save, restore, move, newer, older}
 use Rattle.meaning.specs.Calls.{Hands}
 use Rattle.meaning.specs.Handed.{handed}
 use Rattle.memory.specs.Memory.{cardOf}
@@ -45,12 +46,21 @@ use Rattle.firmware_lookups.proofs.card_lookup_name.Reads as card-lookup-name-r
 use Rattle.firmware_lookups.proofs.card_free_labels.Reads as card-free-labels-reads
 use Rattle.firmware_notices.proofs.card_notice.Reads as card-notice-reads
 use Rattle.firmware_saves.proofs.card_save.Reads as card-save-reads
+use Rattle.firmware_saves.proofs.card_save2.Reads as card-save2-reads
 use Rattle.firmware_saves.proofs.card_restore.Reads as card-restore-reads
+use Rattle.firmware_saves.proofs.card_restore2.Reads as card-restore2-reads
+use Rattle.firmware_saves.proofs.card_newer.Reads as card-newer-reads
+use Rattle.firmware_saves.proofs.card_older.Reads as card-older-reads
 use Rattle.notice_writer.proofs.notice.Reads as notice-reads
 use Rattle.notice_writer.proofs.notice_core.Reads as notice-core-reads
 use Rattle.save_writer.proofs.save.Reads as save-reads
 use Rattle.save_writer.proofs.save_core.Reads as save-core-reads
 use Rattle.save_reader.proofs.restore.Reads as restore-reads
+use Rattle.save_mover.specs.Moves.{Gives}
+use Rattle.save_mover.proofs.Moving.{given}
+use Rattle.save_mover.proofs.newer.Reads as newer-reads
+use Rattle.save_mover.proofs.older.Reads as older-reads
+use Rattle.save_mover.proofs.move_core.Reads as move-core-reads
 
 -- ---- an event
 
@@ -146,27 +156,48 @@ pub began : {base : ℕ} {ns : List ℕ} → Started base ns → (any : List ℕ
 began (by-start κs a r s h) = h .1
 began (by-card-start κs a r s h) = h .1
 
--- ---- a save: on the memory ns, os, which is lent to be read alone; the length of the buffer, the answer, and the octets that were handed back
+-- ---- a save: its form, on the memory ns, os, which is lent to be read alone; the length of the buffer, the answer, and the octets that were handed back
 
-pub data Saved : List ℕ → List ℕ → ℕ → ℕ → List ℕ → Type 0 where
-  by-save : (κs : _) (a : _) (r : _) (s : _) → save-reads.Learnt κs a r s → Saved (now (a .0)) (now (a .1 .0)) (length (now (a .1 .1 .0))) (now (s .1 .1 .1 .0)) (now r)
-  by-save-core : (κs : _) (a : _) (r : _) (s : _) → save-core-reads.Learnt κs a r s → Saved (now (a .0)) (now (a .1 .0)) (length (now (a .1 .1 .0))) (now (s .1 .1 .1 .0)) (take r (now (s .1 .1 .0)))
-  by-card-save : (κs : _) (a : _) (r : _) (s : _) → card-save-reads.Learnt κs a r s → Saved (now (a .0)) (now (a .1 .0)) (length (now (a .1 .1 .0))) (now (s .1 .1 .1 .0)) (take r (now (s .1 .1 .0)))
+pub data Saved : Form → List ℕ → List ℕ → ℕ → ℕ → List ℕ → Type 0 where
+  by-save : (κs : _) (a : _) (r : _) (s : _) → save-reads.Learnt κs a r s → Saved (formOf (a .1 .1 .0)) (now (a .0)) (now (a .1 .0)) (length (now (a .1 .1 .1 .0))) (now (s .1 .1 .1 .1 .0)) (now r)
+  by-save-core : (κs : _) (a : _) (r : _) (s : _) → save-core-reads.Learnt κs a r s → Saved (formOf (a .1 .1 .0)) (now (a .0)) (now (a .1 .0)) (length (now (a .1 .1 .1 .0))) (now (s .1 .1 .1 .1 .0)) (take r (now (s .1 .1 .1 .0)))
+  by-card-save : (κs : _) (a : _) (r : _) (s : _) → card-save-reads.Learnt κs a r s → Saved old (now (a .0)) (now (a .1 .0)) (length (now (a .1 .1 .0))) (now (s .1 .1 .1 .0)) (take r (now (s .1 .1 .0)))
+  by-card-save2 : (κs : _) (a : _) (r : _) (s : _) → card-save2-reads.Learnt κs a r s → Saved new (now (a .0)) (now (a .1 .0)) (length (now (a .1 .1 .0))) (now (s .1 .1 .1 .0)) (take r (now (s .1 .1 .0)))
 
-pub wrote : {ns os : List ℕ} {room answer : ℕ} {octets : List ℕ} → Saved ns os room answer octets → Hands (save room (cardOf ns os)) answer octets (cardOf ns os)
+pub wrote : {f : Form} {ns os : List ℕ} {room answer : ℕ} {octets : List ℕ} → Saved f ns os room answer octets → Hands (save f room (cardOf ns os)) answer octets (cardOf ns os)
 wrote (by-save κs a r s h) = h .0
 wrote (by-save-core κs a r s h) = handed _ _ _ _ _ _ h
 wrote (by-card-save κs a r s h) = handed _ _ _ _ _ _ h
+wrote (by-card-save2 κs a r s h) = handed _ _ _ _ _ _ h
 
--- ---- a restore: on the memory ns, os, of those octets; the answer, and the memory that it left
+-- ---- a restore: its form, on the memory ns, os, of those octets; the answer, and the memory that it left
 
-pub data Restored : List ℕ → List ℕ → List ℕ → ℕ → List ℕ → List ℕ → Type 0 where
-  by-restore : (κs : _) (a : _) (r : _) (s : _) → restore-reads.Learnt κs a r s → Restored (now (a .0)) (now (a .1 .0)) (now (a .1 .1 .0)) r (now (s .0)) (now (s .1 .0))
-  by-card-restore : (κs : _) (a : _) (r : _) (s : _) → card-restore-reads.Learnt κs a r s → Restored (now (a .0)) (now (a .1 .0)) (now (a .1 .1 .0)) r (now (s .0)) (now (s .1 .0))
+pub data Restored : Form → List ℕ → List ℕ → List ℕ → ℕ → List ℕ → List ℕ → Type 0 where
+  by-restore : (κs : _) (a : _) (r : _) (s : _) → restore-reads.Learnt κs a r s → Restored (formOf (a .1 .1 .0)) (now (a .0)) (now (a .1 .0)) (now (a .1 .1 .1 .0)) r (now (s .0)) (now (s .1 .0))
+  by-card-restore : (κs : _) (a : _) (r : _) (s : _) → card-restore-reads.Learnt κs a r s → Restored old (now (a .0)) (now (a .1 .0)) (now (a .1 .1 .0)) r (now (s .0)) (now (s .1 .0))
+  by-card-restore2 : (κs : _) (a : _) (r : _) (s : _) → card-restore2-reads.Learnt κs a r s → Restored new (now (a .0)) (now (a .1 .0)) (now (a .1 .1 .0)) r (now (s .0)) (now (s .1 .0))
 
-pub read : {ns os octets : List ℕ} {answer : ℕ} {ns′ os′ : List ℕ} → Restored ns os octets answer ns′ os′ → (answer ≡ restore octets (cardOf ns os) .answer) × (cardOf ns′ os′ ≡ restore octets (cardOf ns os) .card)
+pub read : {f : Form} {ns os octets : List ℕ} {answer : ℕ} {ns′ os′ : List ℕ} → Restored f ns os octets answer ns′ os′ → (answer ≡ restore f octets (cardOf ns os) .answer) × (cardOf ns′ os′ ≡ restore f octets (cardOf ns os) .card)
 read (by-restore κs a r s h) = h
 read (by-card-restore κs a r s h) = h
+read (by-card-restore2 κs a r s h) = h
+
+-- ---- a move from one form to the other, of those octets; the length of the buffer, the answer, and the octets that were handed back
+
+pub data Moving : Form → Form → List ℕ → ℕ → ℕ → List ℕ → Type 0 where
+  by-newer : (κs : _) (a : _) (r : _) (s : _) → newer-reads.Learnt κs a r s → Moving old new (now (a .0)) (length (now (a .1 .1 .1 .1 .0))) (now (s .1 .1 .1 .1 .1 .0)) (now r)
+  by-older : (κs : _) (a : _) (r : _) (s : _) → older-reads.Learnt κs a r s → Moving new old (now (a .0)) (length (now (a .1 .1 .1 .1 .0))) (now (s .1 .1 .1 .1 .1 .0)) (now r)
+  by-move-core : (κs : _) (a : _) (r : _) (s : _) → move-core-reads.Learnt κs a r s → Moving (formOf (a .1 .0)) (formOf (not (a .1 .0))) (now (a .0)) (length (now (a .1 .1 .1 .1 .1 .0))) (now (s .1 .1 .1 .1 .1 .1 .0)) (take r (now (s .1 .1 .1 .1 .1 .0)))
+  by-card-newer : (κs : _) (a : _) (r : _) (s : _) → card-newer-reads.Learnt κs a r s → Moving old new (now (a .0)) (length (now (a .1 .1 .1 .1 .0))) (now (s .1 .1 .1 .1 .1 .0)) (take r (now (s .1 .1 .1 .1 .0)))
+  by-card-older : (κs : _) (a : _) (r : _) (s : _) → card-older-reads.Learnt κs a r s → Moving new old (now (a .0)) (length (now (a .1 .1 .1 .1 .0))) (now (s .1 .1 .1 .1 .1 .0)) (take r (now (s .1 .1 .1 .1 .0)))
+
+pub shifted : {f g : Form} {octets : List ℕ} {room answer : ℕ} {part : List ℕ} → Moving f g octets room answer part → Gives (move f g room octets) answer part
+unfolding newer older
+shifted (by-newer κs a r s h) = h .0
+shifted (by-older κs a r s h) = h .0
+shifted (by-move-core κs a r s h) = given _ _ _ _ _ h
+shifted (by-card-newer κs a r s h) = given _ _ _ _ _ h
+shifted (by-card-older κs a r s h) = given _ _ _ _ _ h
 
 -- ---- lookups: the sixteen branch labels and the leaf mark that came back
 

@@ -1,4 +1,4 @@
--- DEMAND 3 OF THE CODE: what is promised of a history, said of what the calls of `card`, `firmware_*`, `notice_writer`, `save_writer` and `save_reader` are handed and give back.
+-- DEMAND 3 OF THE CODE: what is promised of a history, said of what the calls of `card`, `firmware_*`, `notice_writer`, `save_writer`, `save_reader` and `save_mover` are handed and give back.
 -- Of the calls it takes their contracts (`Contracts`) and nothing more.
 use Prim.Native.Nat.{ℕ, _+_, _≤_}
 use native.Mathlib.Omega.{arith}
@@ -11,37 +11,40 @@ use Rattle.meaning.specs.Octets.{pick, count}
 use Rattle.meaning.specs.Wire.{release, messageIn, records, recordsIn}
 use Rattle.meaning.specs.Card.{Card, nothing}
 use Rattle.meaning.specs.Events.{Event, receive, refuse, roomShort, event}
-use Rattle.meaning.specs.Save.{saved, save, restore, fitsSave}
+use Rattle.meaning.specs.Save.{Form, saved, save, restore, fitsSave, move}
 use Rattle.meaning.specs.Calls.{Hands}
 use Rattle.meaning.specs.Lists.{by-test}
 use Rattle.promise.specs.Promise.{Given, ofLabel, noteAll, noteTaken, branchesSaid, feedBy, Step, Past, answerTo, sends, isTaken, liveAt, acceptedAt, thenStep, begun, Each, NoneLive, AllMapped, Leads, isWithdrawn, Untouched, Promise}
 use Rattle.promise.specs.SaveKept as Swap
-use Rattle.promise.specs.Deeds.{Deed, does, tells, saves, swaps, restores, thenDeed, thenDeeds, IsClaimed, Claimed, deeds-kept}
+use Rattle.promise.specs.Deeds.{Deed, does, tells, saves, swaps, moves, restores, thenDeed, thenDeeds, IsClaimed, Claimed, deeds-kept}
 use Rattle.memory.specs.Memory.{cardOf}
 use Rattle.card_lookups.specs.Feed.{feedIn}
-use Rattle.promise_kept.specs.Contracts.{Call, Called, made, Telling, Told, told, Started, began, Saved, wrote, Restored, read, LookedUp, looked-up, NameLookedUp, name-looked-up, Counted, counted}
+use Rattle.promise_kept.specs.Contracts.{Call, Called, made, Telling, Told, told, Started, began, Saved, wrote, Restored, read, Moving, shifted, LookedUp, looked-up, NameLookedUp, name-looked-up, Counted, counted}
 
 -- ---- a run of calls
 
--- What was done: an event, a notice, a save (the room that it had), a swap to a card with that memory, or a refused restore of those octets.
+-- What was done: an event, a notice, a save (its form, and the room that it had), a swap to a card with that memory, such a swap with a move from one form to the other on the way (with its room), or a refused restore of those octets.
 pub data Done : Type 0 where
   call : Call → Done
   tell : Telling → Done
-  keep : ℕ → Done
-  swap : List ℕ → List ℕ → Done
-  misread : List ℕ → Done
+  keep : Form → ℕ → Done
+  swap : Form → List ℕ → List ℕ → Done
+  forward : Form → Form → ℕ → List ℕ → List ℕ → Done
+  misread : Form → List ℕ → Done
 
 -- Memory that a start filled, and then what was done, the latest first, each by the contract of the function that was called. A start of memory that was in use before begins a new run.
 -- begins: the numbers, and any names.
 -- swaps: octets that a save of this memory gave, answered 0, are restored over another card's memory, with no call between.
+-- forwards: the same, where the octets are moved to the other form first, answered 0.
 -- misreads: a restore that is not answered 0.
 pub data Run (base : ℕ) : List Done → List ℕ → List ℕ → Type 0 where
   begins : {ns : List ℕ} → Started base ns → (os : List ℕ) → Run base [] ns os
   calls : {ks : List Done} {ns os : List ℕ} {k : Call} {ns′ os′ : List ℕ} → Run base ks ns os → Called ns os k ns′ os′ → Run base (call k ∷ ks) ns′ os′
   notifies : {ks : List Done} {ns os : List ℕ} {t : Telling} {ns′ : List ℕ} → Run base ks ns os → Told ns t ns′ → Run base (tell t ∷ ks) ns′ os
-  keeps : {ks : List Done} {ns os : List ℕ} {room answer : ℕ} {octets : List ℕ} → Run base ks ns os → Saved ns os room answer octets → Run base (keep room ∷ ks) ns os
-  exchanges : {ks : List Done} {ns os : List ℕ} {room : ℕ} {octets ms ps : List ℕ} {answer : ℕ} {ns′ os′ : List ℕ} → Run base ks ns os → Saved ns os room 0 octets → Restored ms ps octets answer ns′ os′ → Run base (swap ms ps ∷ ks) ns′ os′
-  misreads : {ks : List Done} {ns os : List ℕ} {octets : List ℕ} {answer : ℕ} {ns′ os′ : List ℕ} → Run base ks ns os → Restored ns os octets answer ns′ os′ → (answer ≡ 0 → ⊥) → Run base (misread octets ∷ ks) ns′ os′
+  keeps : {ks : List Done} {ns os : List ℕ} {f : Form} {room answer : ℕ} {octets : List ℕ} → Run base ks ns os → Saved f ns os room answer octets → Run base (keep f room ∷ ks) ns os
+  exchanges : {ks : List Done} {ns os : List ℕ} {f : Form} {room : ℕ} {octets ms ps : List ℕ} {answer : ℕ} {ns′ os′ : List ℕ} → Run base ks ns os → Saved f ns os room 0 octets → Restored f ms ps octets answer ns′ os′ → Run base (swap f ms ps ∷ ks) ns′ os′
+  forwards : {ks : List Done} {ns os : List ℕ} {f g : Form} {room lent : ℕ} {octets part ms ps : List ℕ} {answer : ℕ} {ns′ os′ : List ℕ} → Run base ks ns os → Saved f ns os room 0 octets → Moving f g octets lent 0 part → Restored g ms ps part answer ns′ os′ → Run base (forward f g lent ms ps ∷ ks) ns′ os′
+  misreads : {ks : List Done} {ns os : List ℕ} {f : Form} {octets : List ℕ} {answer : ℕ} {ns′ os′ : List ℕ} → Run base ks ns os → Restored f ns os octets answer ns′ os′ → (answer ≡ 0 → ⊥) → Run base (misread f octets ∷ ks) ns′ os′
 
 -- ---- what the calls said, by their answers and the octets that they handed back
 
@@ -53,17 +56,19 @@ unfoldable pub liveBy : List Done → List Given
 liveBy [] = []
 liveBy (call k ∷ ks) = noteAll (recordsIn (k .part)) (liveFor k (liveBy ks))
 liveBy (tell t ∷ ks) = noteAll (recordsIn (t .part)) (liveBy ks)
-liveBy (keep room ∷ ks) = liveBy ks
-liveBy (swap ms ps ∷ ks) = liveBy ks
-liveBy (misread octets ∷ ks) = liveBy ks
+liveBy (keep f room ∷ ks) = liveBy ks
+liveBy (swap f ms ps ∷ ks) = liveBy ks
+liveBy (forward f g room ms ps ∷ ks) = liveBy ks
+liveBy (misread f octets ∷ ks) = liveBy ks
 
 unfoldable pub acceptedBy : List Done → List Event
 acceptedBy [] = []
 acceptedBy (call k ∷ ks) = pick (eqb (k .answer) 0) (k .does ∷ acceptedBy ks) (acceptedBy ks)
 acceptedBy (tell t ∷ ks) = acceptedBy ks
-acceptedBy (keep room ∷ ks) = acceptedBy ks
-acceptedBy (swap ms ps ∷ ks) = acceptedBy ks
-acceptedBy (misread octets ∷ ks) = acceptedBy ks
+acceptedBy (keep f room ∷ ks) = acceptedBy ks
+acceptedBy (swap f ms ps ∷ ks) = acceptedBy ks
+acceptedBy (forward f g room ms ps ∷ ks) = acceptedBy ks
+acceptedBy (misread f octets ∷ ks) = acceptedBy ks
 
 -- ---- the promise, after what was done left the memory ns, os; k is any call of an event after it
 
@@ -99,9 +104,10 @@ stepOf k = record { room = k .room; does = k .does }
 abbrev pub deedOf : Done → Deed
 deedOf (call k) = does (stepOf k)
 deedOf (tell t) = tells (t .room) (t .neighbour) (t .number) (t .octets)
-deedOf (keep room) = saves room
-deedOf (swap ms ps) = swaps (cardOf ms ps)
-deedOf (misread octets) = restores octets
+deedOf (keep f room) = saves f room
+deedOf (swap f ms ps) = swaps f (cardOf ms ps)
+deedOf (forward f g room ms ps) = moves f g room (cardOf ms ps)
+deedOf (misread f octets) = restores f octets
 
 -- the oldest first
 unfoldable pub deedsOf : List Done → List Deed
@@ -126,19 +132,19 @@ claimed-last p [] d h k = (k, tt)
 claimed-last p (x ∷ ds) d h k = (h .0, claimed-last (thenDeed p x) ds d (h .1) k)
 
 -- a save that is answered 0 is the table's
-saved-is : (room : ℕ) (c d : Card) (o : List ℕ) → Hands (save room c) 0 o d → o ≡ saved c
+saved-is : (f : Form) (room : ℕ) (c d : Card) (o : List ℕ) → Hands (save f room c) 0 o d → o ≡ saved f c
 unfolding save refuse
-saved-is room c d o m =
-    by-test (fitsSave c)
-    (λ s. by-test (roomShort room (saved c))
+saved-is f room c d o m =
+    by-test (fitsSave f c)
+    (λ s. by-test (roomShort room (saved f c))
     (λ e. let z : 0 ≡ 16 = rw (s, e) at (m .answers) in absurd (omega arith))
     (λ e. rw (s, e) at (m .hands)))
     (λ s. let z : 0 ≡ 19 = rw s at (m .answers) in absurd (omega arith))
 
-saved-fits : (room : ℕ) (c d : Card) (o : List ℕ) → Hands (save room c) 0 o d → fitsSave c ≡ true
+saved-fits : (f : Form) (room : ℕ) (c d : Card) (o : List ℕ) → Hands (save f room c) 0 o d → fitsSave f c ≡ true
 unfolding save refuse
-saved-fits room c d o m =
-    by-test (fitsSave c)
+saved-fits f room c d o m =
+    by-test (fitsSave f c)
     (λ s. s)
     (λ s. let z : 0 ≡ 19 = rw s at (m .answers) in absurd (omega arith))
 
@@ -152,17 +158,31 @@ module _ (ks : List Done) (ns os : List ℕ) where
   unfolding pastOf liveBy acceptedBy thenDeed
   told-deed t ns′ m = rw (← told m os .hands, ← told m os .leaves) refl
 
-  kept-deed : (room answer : ℕ) (octets : List ℕ) → Saved ns os room answer octets → pastOf (keep room ∷ ks) ns os ≡ thenDeed (pastOf ks ns os) (saves room)
+  kept-deed : (f : Form) (room answer : ℕ) (octets : List ℕ) → Saved f ns os room answer octets → pastOf (keep f room ∷ ks) ns os ≡ thenDeed (pastOf ks ns os) (saves f room)
   unfolding pastOf liveBy acceptedBy thenDeed
-  kept-deed room answer octets m = rw (← wrote m .leaves) refl
+  kept-deed f room answer octets m = rw (← wrote m .leaves) refl
 
-  swapped-deed : (room answer : ℕ) (octets ms ps ns′ os′ : List ℕ) → Saved ns os room 0 octets → Restored ms ps octets answer ns′ os′ → pastOf (swap ms ps ∷ ks) ns′ os′ ≡ thenDeed (pastOf ks ns os) (swaps (cardOf ms ps))
-  unfolding pastOf liveBy acceptedBy thenDeed Swap.swapped
-  swapped-deed room answer octets ms ps ns′ os′ m w = rw (read w .1, saved-is room (cardOf ns os) (cardOf ns os) octets (wrote m), saved-fits room (cardOf ns os) (cardOf ns os) octets (wrote m)) refl
+  module _ (f : Form) (room : ℕ) (octets : List ℕ) (m : Saved f ns os room 0 octets) (answer : ℕ) (ms ps ns′ os′ : List ℕ) where
+    is-save : octets ≡ saved f (cardOf ns os)
+    is-save = saved-is f room (cardOf ns os) (cardOf ns os) octets (wrote m)
 
-  misread-deed : (answer : ℕ) (octets ns′ os′ : List ℕ) → Restored ns os octets answer ns′ os′ → pastOf (misread octets ∷ ks) ns′ os′ ≡ thenDeed (pastOf ks ns os) (restores octets)
+    has-room : fitsSave f (cardOf ns os) ≡ true
+    has-room = saved-fits f room (cardOf ns os) (cardOf ns os) octets (wrote m)
+
+    swapped-deed : Restored f ms ps octets answer ns′ os′ → pastOf (swap f ms ps ∷ ks) ns′ os′ ≡ thenDeed (pastOf ks ns os) (swaps f (cardOf ms ps))
+    unfolding pastOf liveBy acceptedBy thenDeed Swap.swapped
+    swapped-deed w = rw (read w .1, is-save, has-room) refl
+
+    moved-deed : (g : Form) (lent : ℕ) (part : List ℕ) → Moving f g octets lent 0 part → Restored g ms ps part answer ns′ os′ → pastOf (forward f g lent ms ps ∷ ks) ns′ os′ ≡ thenDeed (pastOf ks ns os) (moves f g lent (cardOf ms ps))
+    unfolding pastOf liveBy acceptedBy thenDeed Swap.movedOver
+    moved-deed g lent part h w =
+        let taken : move f g lent (saved f (cardOf ns os)) .answer ≡ 0 = sym (shifted h .answers ∙ ap (λ (o : List ℕ). move f g lent o .answer) is-save) in
+        let given : part ≡ move f g lent (saved f (cardOf ns os)) .octets = shifted h .hands ∙ ap (λ (o : List ℕ). move f g lent o .octets) is-save in
+        rw (read w .1, given, has-room, taken) refl
+
+  misread-deed : (f : Form) (answer : ℕ) (octets ns′ os′ : List ℕ) → Restored f ns os octets answer ns′ os′ → pastOf (misread f octets ∷ ks) ns′ os′ ≡ thenDeed (pastOf ks ns os) (restores f octets)
   unfolding pastOf liveBy acceptedBy thenDeed
-  misread-deed answer octets ns′ os′ m = rw (read m .1) refl
+  misread-deed f answer octets ns′ os′ m = rw (read m .1) refl
 
 next-past : (base : ℕ) (ks : List Done) (k : Done) (p : Past) → p ≡ pastBy base (deedsOf ks) → thenDeed p (deedOf k) ≡ pastBy base (deedsOf (k ∷ ks))
 unfolding pastBy deedsOf
@@ -173,9 +193,10 @@ pub run-past : (base : ℕ) (ks : List Done) (ns os : List ℕ) → Run base ks 
 run-past base ks ns os (begins h _) = unfold pastOf pastBy deedsOf liveBy acceptedBy thenDeeds in λ i. record { card = began h os i; live = []; accepted = [] }
 run-past base (call k ∷ ks) ns os (calls r m) = called-deed ks _ _ k ns os m ∙ next-past base ks (call k) _ (run-past base ks _ _ r)
 run-past base (tell t ∷ ks) ns os (notifies r m) = told-deed ks _ os t ns m ∙ next-past base ks (tell t) _ (run-past base ks _ os r)
-run-past base (keep room ∷ ks) ns os (keeps r m) = kept-deed ks ns os room _ _ m ∙ next-past base ks (keep room) _ (run-past base ks ns os r)
-run-past base (swap ms ps ∷ ks) ns os (exchanges r m w) = swapped-deed ks _ _ _ _ _ ms ps ns os m w ∙ next-past base ks (swap ms ps) _ (run-past base ks _ _ r)
-run-past base (misread octets ∷ ks) ns os (misreads r m z) = misread-deed ks _ _ _ octets ns os m ∙ next-past base ks (misread octets) _ (run-past base ks _ _ r)
+run-past base (keep f room ∷ ks) ns os (keeps r m) = kept-deed ks ns os f room _ _ m ∙ next-past base ks (keep f room) _ (run-past base ks ns os r)
+run-past base (swap f ms ps ∷ ks) ns os (exchanges r m w) = swapped-deed ks _ _ f _ _ m _ ms ps ns os w ∙ next-past base ks (swap f ms ps) _ (run-past base ks _ _ r)
+run-past base (forward f g lent ms ps ∷ ks) ns os (forwards r m h w) = moved-deed ks _ _ f _ _ m _ ms ps ns os g lent _ h w ∙ next-past base ks (forward f g lent ms ps) _ (run-past base ks _ _ r)
+run-past base (misread f octets ∷ ks) ns os (misreads r m z) = misread-deed ks _ _ f _ octets ns os m ∙ next-past base ks (misread f octets) _ (run-past base ks _ _ r)
 
 next-claimed : (base : ℕ) (ks : List Done) (k : Done) (p : Past) → p ≡ pastBy base (deedsOf ks) → Claimed (begun base) (deedsOf ks) → IsClaimed p (deedOf k) → Claimed (begun base) (deedsOf (k ∷ ks))
 unfolding pastBy deedsOf
@@ -187,9 +208,10 @@ unfolding IsClaimed pastOf
 run-claimed base ks ns os (begins h _) = unfold deedsOf Claimed in tt
 run-claimed base (call k ∷ ks) ns os (calls r m) = next-claimed base ks (call k) _ (run-past base ks _ _ r) (run-claimed base ks _ _ r) tt
 run-claimed base (tell t ∷ ks) ns os (notifies r m) = next-claimed base ks (tell t) _ (run-past base ks _ os r) (run-claimed base ks _ os r) tt
-run-claimed base (keep room ∷ ks) ns os (keeps r m) = next-claimed base ks (keep room) _ (run-past base ks ns os r) (run-claimed base ks ns os r) tt
-run-claimed base (swap ms ps ∷ ks) ns os (exchanges r m w) = next-claimed base ks (swap ms ps) _ (run-past base ks _ _ r) (run-claimed base ks _ _ r) tt
-run-claimed base (misread octets ∷ ks) ns os (misreads r m z) = next-claimed base ks (misread octets) _ (run-past base ks _ _ r) (run-claimed base ks _ _ r) (λ e. z (read m .0 ∙ e))
+run-claimed base (keep f room ∷ ks) ns os (keeps r m) = next-claimed base ks (keep f room) _ (run-past base ks ns os r) (run-claimed base ks ns os r) tt
+run-claimed base (swap f ms ps ∷ ks) ns os (exchanges r m w) = next-claimed base ks (swap f ms ps) _ (run-past base ks _ _ r) (run-claimed base ks _ _ r) tt
+run-claimed base (forward f g lent ms ps ∷ ks) ns os (forwards r m h w) = next-claimed base ks (forward f g lent ms ps) _ (run-past base ks _ _ r) (run-claimed base ks _ _ r) tt
+run-claimed base (misread f octets ∷ ks) ns os (misreads r m z) = next-claimed base ks (misread f octets) _ (run-past base ks _ _ r) (run-claimed base ks _ _ r) (λ e. z (read m .0 ∙ e))
 
 -- What a call after a run answers, hands back and leaves is what the definition says after that history.
 pub call-is : (base : ℕ) (ks : List Done) (ns os : List ℕ) → Run base ks ns os → {k : Call} {ns′ os′ : List ℕ} → Called ns os k ns′ os′

@@ -40,6 +40,10 @@ use Rattle.notice_reader.proofs.read_notice.Reads as read-notice-reads
 use Rattle.save_writer.proofs.save.Reads as save-reads
 use Rattle.save_writer.proofs.save_core.Reads as save-core-reads
 use Rattle.save_reader.proofs.restore.Reads as restore-reads
+use Rattle.save_mover.specs.Moves.{moves-one, gives-one}
+use Rattle.save_mover.proofs.newer.Reads as newer-reads
+use Rattle.save_mover.proofs.older.Reads as older-reads
+use Rattle.save_mover.proofs.move_core.Reads as move-core-reads
 use Rattle.firmware_events.proofs.card_start.Reads as card-start-reads
 use Rattle.firmware_events.proofs.card_receive.Reads as card-receive-reads
 use Rattle.firmware_events.proofs.card_join.Reads as card-join-reads
@@ -52,7 +56,11 @@ use Rattle.firmware_lookups.proofs.card_free_labels.Reads as card-free-labels-r
 use Rattle.firmware_notices.proofs.card_notice.Reads as card-notice-reads
 use Rattle.firmware_notices.proofs.card_read_notice.Reads as card-read-notice-reads
 use Rattle.firmware_saves.proofs.card_save.Reads as card-save-reads
+use Rattle.firmware_saves.proofs.card_save2.Reads as card-save2-reads
 use Rattle.firmware_saves.proofs.card_restore.Reads as card-restore-reads
+use Rattle.firmware_saves.proofs.card_restore2.Reads as card-restore2-reads
+use Rattle.firmware_saves.proofs.card_newer.Reads as card-newer-reads
+use Rattle.firmware_saves.proofs.card_older.Reads as card-older-reads
 
 -- ---- sixteen places are told by their feed
 
@@ -189,17 +197,40 @@ card-read-notice-one κs a r r′ s s′ h h′ = (h .0 ∙ sym (h′ .0), h .1 
 
 -- ---- saves: the card is lent to be read alone; a restore
 
-pub save-one : (κs : _) (a : _) (r r′ : _) (s s′ : _) → save-reads.Learnt κs a r s → save-reads.Learnt κs a r′ s′ → (now (s .1 .1 .1 .0) ≡ now (s′ .1 .1 .1 .0)) × (now r ≡ now r′)
+pub save-one : (κs : _) (a : _) (r r′ : _) (s s′ : _) → save-reads.Learnt κs a r s → save-reads.Learnt κs a r′ s′ → (now (s .1 .1 .1 .1 .0) ≡ now (s′ .1 .1 .1 .1 .0)) × (now r ≡ now r′)
 save-one κs a r r′ s s′ h h′ = let o = hands-one _ _ _ _ _ _ _ (h .0) (h′ .0) in (o .0, o .1)
 
-pub save-core-one : (κs : _) (a : _) (r r′ : _) (s s′ : _) → save-core-reads.Learnt κs a r s → save-core-reads.Learnt κs a r′ s′ → (now (s .1 .1 .1 .0) ≡ now (s′ .1 .1 .1 .0)) × (r ≡ r′) × (now (s .1 .1 .0) ≡ now (s′ .1 .1 .0))
+pub save-core-one : (κs : _) (a : _) (r r′ : _) (s s′ : _) → save-core-reads.Learnt κs a r s → save-core-reads.Learnt κs a r′ s′ → (now (s .1 .1 .1 .1 .0) ≡ now (s′ .1 .1 .1 .1 .0)) × (r ≡ r′) × (now (s .1 .1 .1 .0) ≡ now (s′ .1 .1 .1 .0))
 save-core-one κs a r r′ s s′ h h′ = let o = does-one _ _ _ _ _ _ _ _ _ _ h h′ in (o .0, o .1, o .2)
 
 pub card-save-one : (κs : _) (a : _) (r r′ : _) (s s′ : _) → card-save-reads.Learnt κs a r s → card-save-reads.Learnt κs a r′ s′ → (now (s .1 .1 .1 .0) ≡ now (s′ .1 .1 .1 .0)) × (r ≡ r′) × (now (s .1 .1 .0) ≡ now (s′ .1 .1 .0))
 card-save-one κs a r r′ s s′ h h′ = let o = does-one _ _ _ _ _ _ _ _ _ _ h h′ in (o .0, o .1, o .2)
+
+pub card-save2-one : (κs : _) (a : _) (r r′ : _) (s s′ : _) → card-save2-reads.Learnt κs a r s → card-save2-reads.Learnt κs a r′ s′ → (now (s .1 .1 .1 .0) ≡ now (s′ .1 .1 .1 .0)) × (r ≡ r′) × (now (s .1 .1 .0) ≡ now (s′ .1 .1 .0))
+card-save2-one κs a r r′ s s′ h h′ = let o = does-one _ _ _ _ _ _ _ _ _ _ h h′ in (o .0, o .1, o .2)
 
 pub restore-one : (κs : _) (a : _) (r r′ : _) (s s′ : _) → restore-reads.Learnt κs a r s → restore-reads.Learnt κs a r′ s′ → (r ≡ r′) × (cardOf (now (s .0)) (now (s .1 .0)) ≡ cardOf (now (s′ .0)) (now (s′ .1 .0)))
 restore-one κs a r r′ s s′ h h′ = (h .0 ∙ sym (h′ .0), h .1 ∙ sym (h′ .1))
 
 pub card-restore-one : (κs : _) (a : _) (r r′ : _) (s s′ : _) → card-restore-reads.Learnt κs a r s → card-restore-reads.Learnt κs a r′ s′ → (r ≡ r′) × (cardOf (now (s .0)) (now (s .1 .0)) ≡ cardOf (now (s′ .0)) (now (s′ .1 .0)))
 card-restore-one κs a r r′ s s′ h h′ = (h .0 ∙ sym (h′ .0), h .1 ∙ sym (h′ .1))
+
+pub card-restore2-one : (κs : _) (a : _) (r r′ : _) (s s′ : _) → card-restore2-reads.Learnt κs a r s → card-restore2-reads.Learnt κs a r′ s′ → (r ≡ r′) × (cardOf (now (s .0)) (now (s .1 .0)) ≡ cardOf (now (s′ .0)) (now (s′ .1 .0)))
+card-restore2-one κs a r r′ s s′ h h′ = (h .0 ∙ sym (h′ .0), h .1 ∙ sym (h′ .1))
+
+-- ---- moves: there is no card
+
+pub newer-one : (κs : _) (a : _) (r r′ : _) (s s′ : _) → newer-reads.Learnt κs a r s → newer-reads.Learnt κs a r′ s′ → (now (s .1 .1 .1 .1 .1 .0) ≡ now (s′ .1 .1 .1 .1 .1 .0)) × (now r ≡ now r′)
+newer-one κs a r r′ s s′ h h′ = gives-one _ _ _ _ _ (h .0) (h′ .0)
+
+pub older-one : (κs : _) (a : _) (r r′ : _) (s s′ : _) → older-reads.Learnt κs a r s → older-reads.Learnt κs a r′ s′ → (now (s .1 .1 .1 .1 .1 .0) ≡ now (s′ .1 .1 .1 .1 .1 .0)) × (now r ≡ now r′)
+older-one κs a r r′ s s′ h h′ = gives-one _ _ _ _ _ (h .0) (h′ .0)
+
+pub move-core-one : (κs : _) (a : _) (r r′ : _) (s s′ : _) → move-core-reads.Learnt κs a r s → move-core-reads.Learnt κs a r′ s′ → (now (s .1 .1 .1 .1 .1 .1 .0) ≡ now (s′ .1 .1 .1 .1 .1 .1 .0)) × (r ≡ r′) × (now (s .1 .1 .1 .1 .1 .0) ≡ now (s′ .1 .1 .1 .1 .1 .0))
+move-core-one κs a r r′ s s′ h h′ = moves-one _ _ _ _ _ _ _ _ h h′
+
+pub card-newer-one : (κs : _) (a : _) (r r′ : _) (s s′ : _) → card-newer-reads.Learnt κs a r s → card-newer-reads.Learnt κs a r′ s′ → (now (s .1 .1 .1 .1 .1 .0) ≡ now (s′ .1 .1 .1 .1 .1 .0)) × (r ≡ r′) × (now (s .1 .1 .1 .1 .0) ≡ now (s′ .1 .1 .1 .1 .0))
+card-newer-one κs a r r′ s s′ h h′ = moves-one _ _ _ _ _ _ _ _ h h′
+
+pub card-older-one : (κs : _) (a : _) (r r′ : _) (s s′ : _) → card-older-reads.Learnt κs a r s → card-older-reads.Learnt κs a r′ s′ → (now (s .1 .1 .1 .1 .1 .0) ≡ now (s′ .1 .1 .1 .1 .1 .0)) × (r ≡ r′) × (now (s .1 .1 .1 .1 .0) ≡ now (s′ .1 .1 .1 .1 .0))
+card-older-one κs a r r′ s s′ h h′ = moves-one _ _ _ _ _ _ _ _ h h′
