@@ -3,6 +3,7 @@
 use crate::card::{Card, Found, MOST_TREES};
 use crate::refusal::Refusal;
 use crate::save::LONGEST_SAVE;
+use crate::save_two::{self, LONGEST_SAVE_TWO};
 use crate::wire::LONGEST_RECORD;
 use std::io::{self, BufRead, Write};
 
@@ -10,7 +11,8 @@ use std::io::{self, BufRead, Write};
 /// more.
 pub const WHOLE_BUFFER: usize = MOST_TREES * 2 * LONGEST_RECORD;
 pub const LONGEST_HEX: usize = 4096;
-pub const LONGEST_LINE: usize = 65536;
+/// A save of form two has up to 111334 digits.
+pub const LONGEST_LINE: usize = 131_072;
 
 #[derive(Clone, Debug, PartialEq, Eq)]
 pub enum Order {
@@ -27,6 +29,12 @@ pub enum Order {
     Notice(u32, u32, Vec<u8>),
     Save,
     Restore(Vec<u8>),
+    SaveTwo,
+    RestoreTwo(Vec<u8>),
+    /// Octets in form one, to be moved to form two.
+    Newer(Vec<u8>),
+    /// And back.
+    Older(Vec<u8>),
     /// A neighbour whose session is lost.
     Lost(u32),
 }
@@ -48,6 +56,10 @@ impl Order {
             }
             Order::Save => "save".to_string(),
             Order::Restore(octets) => format!("restore {}", hex_word(octets)),
+            Order::SaveTwo => "save2".to_string(),
+            Order::RestoreTwo(octets) => format!("restore2 {}", hex_word(octets)),
+            Order::Newer(octets) => format!("newer {}", hex_word(octets)),
+            Order::Older(octets) => format!("older {}", hex_word(octets)),
             Order::Lost(neighbour) => format!("lost {neighbour}"),
         }
     }
@@ -95,6 +107,10 @@ fn read_order(words: &[&[u8]]) -> Option<Order> {
         [b"save"] => Some(Order::Save),
         [b"lost", neighbour] => Some(Order::Lost(read_number(neighbour)?)),
         [b"restore", octets] => Some(Order::Restore(read_hex_to(octets, LONGEST_SAVE)?)),
+        [b"save2"] => Some(Order::SaveTwo),
+        [b"restore2", octets] => Some(Order::RestoreTwo(read_hex_to(octets, LONGEST_SAVE_TWO)?)),
+        [b"newer", octets] => Some(Order::Newer(read_hex_to(octets, LONGEST_SAVE)?)),
+        [b"older", octets] => Some(Order::Older(read_hex_to(octets, LONGEST_SAVE_TWO)?)),
         _ => None,
     }
 }
@@ -146,9 +162,8 @@ pub fn answer_number<T>(answer: &Result<T, Refusal>) -> u8 {
 pub fn written_number(line: &str) -> Option<u8> {
     let mut words = line.split(' ');
     match words.next()? {
-        "take" | "join" | "leave" | "route" | "notice" | "start" | "save" | "restore" | "lost" => {
-            words.next()?.parse().ok()
-        }
+        "take" | "join" | "leave" | "route" | "notice" | "start" | "save" | "restore" | "lost"
+        | "save2" | "restore2" | "newer" | "older" => words.next()?.parse().ok(),
         _ => None,
     }
 }
@@ -163,6 +178,15 @@ pub fn saved_octets(line: &str) -> Option<Vec<u8>> {
     read_hex_to(line.strip_prefix("save 0 ")?.as_bytes(), LONGEST_SAVE)
 }
 
+/// The octets of a save, of either form, on a line written for one.
+pub fn octets_of_form(line: &str) -> Option<Vec<u8>> {
+    let (word, hex) = line.split_once(" 0 ")?;
+    match word {
+        "save" | "older" | "save2" | "newer" => read_hex_to(hex.as_bytes(), LONGEST_SAVE_TWO),
+        _ => None,
+    }
+}
+
 /// The card on the bench and the room that its events and saves are lent, as
 /// far as their buffers have it.
 #[derive(Clone)]
@@ -175,7 +199,7 @@ impl Bench {
     pub fn new() -> Bench {
         Bench {
             card: Card::start(16).1,
-            room: LONGEST_SAVE,
+            room: LONGEST_SAVE_TWO,
         }
     }
 
@@ -198,6 +222,13 @@ impl Bench {
             Order::Restore(octets) => {
                 format!("restore {}", answer_number(&self.card.restore(octets)))
             }
+            Order::SaveTwo => event_line("save2", &self.card.save_two(self.room)),
+            Order::RestoreTwo(octets) => {
+                let answer = self.card.restore_two(octets);
+                format!("restore2 {}", answer_number(&answer))
+            }
+            Order::Newer(octets) => event_line("newer", &save_two::newer(octets, self.room)),
+            Order::Older(octets) => event_line("older", &save_two::older(octets, self.room)),
             event => {
                 let answer = event_answer(&mut self.card, event, self.room.min(WHOLE_BUFFER));
                 event_line(event_word(event), &answer)

@@ -72,6 +72,18 @@ const BAD_LINES: &[&[u8]] = &[
     b"restore 4c 53",
     b"restore 4g",
     b"Restore 4c",
+    b"save2 1",
+    b"save 2",
+    b"Save2",
+    b"restore2",
+    b"restore2 4c5",
+    b"restore 2 4c",
+    b"newer",
+    b"newer 4c 53",
+    b"Newer 4c",
+    b"older",
+    b"older 4g",
+    b"older 4c 4c",
     b"start -",
     b"lost",
     b"lost -",
@@ -193,6 +205,10 @@ fn orders_read_back_what_they_write() {
         Order::Notice(0, u32::MAX, vec![]),
         Order::Save,
         Order::Restore(vec![0x4c]),
+        Order::SaveTwo,
+        Order::RestoreTwo(vec![]),
+        Order::Newer(vec![0x4c]),
+        Order::Older(vec![0x53]),
         Order::Lost(15),
     ] {
         assert_eq!(
@@ -245,9 +261,34 @@ fn room_of_a_save() {
 }
 
 #[test]
-fn the_longest_restore() {
-    for (octets, written) in [(23343, "restore 19\n"), (23344, "? 1\n")] {
-        let line = format!("restore {}", "00".repeat(octets));
-        assert_eq!(output(line.as_bytes()), written);
+fn the_longest_saves() {
+    for (word, most) in [
+        ("restore", 23343),
+        ("restore2", 55667),
+        ("newer", 23343),
+        ("older", 55667),
+    ] {
+        let line = format!("{word} {}", "00".repeat(most));
+        assert_eq!(output(line.as_bytes()), format!("{word} 19\n"));
+        assert_eq!(output((line + "00").as_bytes()), "? 1\n");
     }
+}
+
+#[test]
+fn both_forms_of_an_empty_table() {
+    let (one, two) = (
+        "4c5301000000100000000100000000",
+        "4c530500000010000000010000000000000000",
+    );
+    let moved = format!(
+        "newer {one}\nolder {two}\nroom 18\nsave2\nnewer {one}\nolder {two}\n\
+         room 14\nolder {two}\nolder {one}\nrestore2 {one}\nrestore2 {two}\n"
+    );
+    assert_eq!(
+        output(moved.as_bytes()),
+        format!(
+            "newer 0 {two}\nolder 0 {one}\nroom 18\nsave2 16\nnewer 16\nolder 0 {one}\n\
+             room 14\nolder 16\nolder 19\nrestore2 19\nrestore2 0\n"
+        )
+    );
 }

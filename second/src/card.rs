@@ -366,6 +366,17 @@ impl Card {
         self.last_given
     }
 
+    /// A label of the block, or 0 for none, which a card has only while no
+    /// label is in use. None where the card cannot have given that one last.
+    pub fn set_last_given(&mut self, label: u32) -> Option<()> {
+        let none = label == 0 && self.free_labels() == LABELS as usize;
+        if !none && self.label_use(label).is_none() {
+            return None;
+        }
+        self.last_given = (!none).then_some(label);
+        Some(())
+    }
+
     /// The name of each tree and of each label in use.
     pub fn names(&self) -> impl Iterator<Item = &Name> {
         let trees = self.trees.iter().map(|tree| &tree.name);

@@ -28,6 +28,7 @@ mod save;
 mod save_cases;
 mod save_damage;
 mod save_rows;
+mod save_two;
 mod wire;
 mod world;
 

@@ -1,5 +1,6 @@
 //! The save of a card's table and the way back, as request [3] asks: records
-//! of fixed size, each behind a mark and its kind.
+//! of fixed size, each behind a mark and its kind. What another form of the
+//! save has otherwise is a parameter.
 
 use crate::card::{
     Card, LabelUse, Name, Route, Tree, HIGHEST_BASE, LABELS, LOWEST_BASE, MOST_ROOTS, MOST_TREES,
@@ -20,11 +21,32 @@ pub const LONGEST_SAVE: usize =
     HEAD + MOST_ROOTS * ROUTE + MOST_TREES * TREE + LABELS as usize * LABEL;
 
 const MARK: [u8; 2] = [0x4c, 0x53];
-const LONGEST_ROOT: usize = 16;
+pub const LONGEST_ROOT: usize = 16;
 /// The opaque values that this form has space for.
 pub const OPAQUE_SPACE: usize = 32;
 const MAPPED: u8 = 1;
 const AWAITING: u8 = 2;
+const ROUTE_KIND: u8 = 2;
+
+/// In what two forms of a save differ; their routes are alike.
+pub struct Form {
+    pub head: u8,
+    pub tree: u8,
+    pub label: u8,
+    /// Whether the head ends with the last label given.
+    pub has_last: bool,
+    pub write_name: fn(&mut Vec<u8>, &TreeName),
+    pub read_name: fn(&mut Reader) -> Option<Name>,
+}
+
+pub const FORM_ONE: Form = Form {
+    head: 1,
+    tree: 3,
+    label: 4,
+    has_last: false,
+    write_name: write_spaced_name,
+    read_name: |rest| rest.name(),
+};
 
 impl Card {
     /// The table as octets, where its names have space in this form and the
@@ -33,7 +55,7 @@ impl Card {
         if self.names().any(|name| name.opaque.len() > OPAQUE_SPACE) {
             return Err(Refusal::NoSave);
         }
-        let octets = write(self);
+        let octets = write(self, &FORM_ONE);
         if octets.len() > room {
             return Err(Refusal::Room);
         }
@@ -43,24 +65,27 @@ impl Card {
     /// The table that the octets carry takes the place of the standing one,
     /// if a table that keeps the rules would write just these octets.
     pub fn restore(&mut self, octets: &[u8]) -> Result<(), Refusal> {
-        *self = read(octets).ok_or(Refusal::NoSave)?;
+        *self = read(octets, &FORM_ONE).ok_or(Refusal::NoSave)?;
         Ok(())
     }
 }
 
-fn write(card: &Card) -> Vec<u8> {
+pub fn write(card: &Card, form: &Form) -> Vec<u8> {
     let used: Vec<(u32, &LabelUse)> = card
         .labels()
         .filter(|(_, held)| **held != LabelUse::Free)
         .collect();
-    let mut octets = begun(1);
+    let mut octets = begun(form.head);
     octets.extend(card.base().to_be_bytes());
     octets.extend(card.next_identifier().to_be_bytes());
     octets.push(card.routes_in_order().len() as u8);
     octets.push(card.trees().len() as u8);
     octets.extend((used.len() as u16).to_be_bytes());
+    if form.has_last {
+        octets.extend(card.last_given().unwrap_or(0).to_be_bytes());
+    }
     for (root, route) in card.routes_in_order() {
-        octets.extend(begun(2));
+        octets.extend(begun(ROUTE_KIND));
         octets.push(match route {
             Route::Neighbour(neighbour) => neighbour as u8,
             Route::ThisNode => THIS_NODE as u8,
@@ -68,8 +93,8 @@ fn write(card: &Card) -> Vec<u8> {
         write_spaced(&mut octets, root, LONGEST_ROOT);
     }
     for tree in card.trees() {
-        octets.extend(begun(3));
-        write_name(&mut octets, &tree.name);
+        octets.extend(begun(form.tree));
+        (form.write_name)(&mut octets, &tree.name);
         octets.push(u8::from(tree.leaf));
         for neighbour in 0..NEIGHBOURS {
             let label = tree.branches.get(&neighbour).copied().unwrap_or(0);
@@ -77,7 +102,7 @@ fn write(card: &Card) -> Vec<u8> {
         }
     }
     for (label, held) in used {
-        write_use(&mut octets, label, held);
+        write_use(&mut octets, form, label, held);
     }
     octets
 }
@@ -86,19 +111,19 @@ fn begun(kind: u8) -> Vec<u8> {
     vec![MARK[0], MARK[1], kind]
 }
 
-fn write_use(octets: &mut Vec<u8>, label: u32, held: &LabelUse) {
+fn write_use(octets: &mut Vec<u8>, form: &Form, label: u32, held: &LabelUse) {
     let (how, neighbour, name) = match held {
         LabelUse::Free => return,
         LabelUse::Mapped(to, name) => (MAPPED, to, name),
         LabelUse::Awaiting(from, name) => (AWAITING, from, name),
     };
-    octets.extend(begun(4));
+    octets.extend(begun(form.label));
     octets.extend(label.to_be_bytes());
     octets.extend([how, *neighbour as u8]);
-    write_name(octets, name);
+    (form.write_name)(octets, name);
 }
 
-fn write_name(octets: &mut Vec<u8>, name: &TreeName) {
+fn write_spaced_name(octets: &mut Vec<u8>, name: &TreeName) {
     write_spaced(octets, &name.root, LONGEST_ROOT);
     write_spaced(octets, &name.opaque, OPAQUE_SPACE);
 }
@@ -111,31 +136,39 @@ fn write_spaced(octets: &mut Vec<u8>, held: &[u8], space: usize) {
 }
 
 /// Field by field; None at the first that no table would have written.
-fn read(octets: &[u8]) -> Option<Card> {
+pub fn read(octets: &[u8], form: &Form) -> Option<Card> {
     let mut rest = Reader { octets };
-    rest.mark(1)?;
+    rest.mark(form.head)?;
     let base = rest.four()?;
     let next_identifier = rest.four()?;
     let counts = [rest.one()?.into(), rest.one()?.into(), rest.two()?.into()];
     let [routes, trees, labels]: [usize; 3] = counts;
+    let last = if form.has_last {
+        Some(rest.four()?)
+    } else {
+        None
+    };
     let base_taken = (LOWEST_BASE..=HIGHEST_BASE).contains(&base);
     if !base_taken || routes > MOST_ROOTS || trees > MOST_TREES || labels > LABELS as usize {
         return None;
     }
     let routes = read_routes(&mut rest, routes)?;
-    let trees = read_trees(&mut rest, trees)?;
-    let labels = read_labels(&mut rest, base, labels)?;
+    let trees = read_trees(&mut rest, form, trees)?;
+    let labels = read_labels(&mut rest, form, base, labels)?;
     if !rest.octets.is_empty() {
         return None;
     }
-    let card = Card::standing(base, next_identifier, routes, trees, labels);
+    let mut card = Card::standing(base, next_identifier, routes, trees, labels);
+    if let Some(last) = last {
+        card.set_last_given(last)?;
+    }
     labels_are_right(&card).then_some(card)
 }
 
 fn read_routes(rest: &mut Reader, count: usize) -> Option<Vec<(Vec<u8>, Route)>> {
     let mut seen = BTreeSet::new();
     let read_one = |_| {
-        rest.mark(2)?;
+        rest.mark(ROUTE_KIND)?;
         let route = match u32::from(rest.one()?) {
             THIS_NODE => Route::ThisNode,
             neighbour if neighbour < NEIGHBOURS => Route::Neighbour(neighbour),
@@ -147,11 +180,11 @@ fn read_routes(rest: &mut Reader, count: usize) -> Option<Vec<(Vec<u8>, Route)>>
     (0..count).map(read_one).collect()
 }
 
-fn read_trees(rest: &mut Reader, count: usize) -> Option<Vec<Tree>> {
+fn read_trees(rest: &mut Reader, form: &Form, count: usize) -> Option<Vec<Tree>> {
     let mut trees: Vec<Tree> = Vec::new();
     for _ in 0..count {
-        rest.mark(3)?;
-        let name = rest.name()?;
+        rest.mark(form.tree)?;
+        let name = (form.read_name)(rest)?;
         let leaf = match rest.one()? {
             0 => false,
             1 => true,
@@ -186,11 +219,11 @@ fn read_branches(rest: &mut Reader) -> Option<BTreeMap<u32, u32>> {
 }
 
 /// The block's uses; labels stand by rising number.
-fn read_labels(rest: &mut Reader, base: u32, count: usize) -> Option<Vec<LabelUse>> {
+fn read_labels(rest: &mut Reader, form: &Form, base: u32, count: usize) -> Option<Vec<LabelUse>> {
     let mut labels = vec![LabelUse::Free; LABELS as usize];
     let mut lowest = base;
     for _ in 0..count {
-        rest.mark(4)?;
+        rest.mark(form.label)?;
         let label = rest.four()?;
         if label < lowest {
             return None;
@@ -199,7 +232,7 @@ fn read_labels(rest: &mut Reader, base: u32, count: usize) -> Option<Vec<LabelUs
         lowest = label + 1;
         let how = rest.one()?;
         let neighbour = u32::from(rest.one()?);
-        let name = rest.name()?;
+        let name = (form.read_name)(rest)?;
         *place = match how {
             MAPPED if neighbour < NEIGHBOURS => LabelUse::Mapped(neighbour, name),
             AWAITING if neighbour < NEIGHBOURS => LabelUse::Awaiting(neighbour, name),
@@ -228,18 +261,18 @@ fn labels_are_right(card: &Card) -> bool {
 }
 
 /// What is not read yet.
-struct Reader<'a> {
+pub struct Reader<'a> {
     octets: &'a [u8],
 }
 
 impl<'a> Reader<'a> {
-    fn take(&mut self, count: usize) -> Option<&'a [u8]> {
+    pub fn take(&mut self, count: usize) -> Option<&'a [u8]> {
         let (taken, rest) = self.octets.split_at_checked(count)?;
         self.octets = rest;
         Some(taken)
     }
 
-    fn one(&mut self) -> Option<u8> {
+    pub fn one(&mut self) -> Option<u8> {
         Some(self.take(1)?[0])
     }
 
