@@ -2,7 +2,7 @@
 //! The maker runs the card beside, so that it knows what would suit.
 
 use crate::bench::{self, Bench, Order, Said};
-use crate::card::{Card, MOST_ROOTS, MOST_TREES};
+use crate::card::{Card, MOST_ROOTS, MOST_TREES, NO_ROUTE};
 use crate::damage;
 use crate::events::*;
 use crate::formed;
@@ -12,8 +12,12 @@ use crate::odd_lines;
 use crate::rng::Rng;
 use crate::save::LONGEST_SAVE;
 use crate::save_damage;
+use crate::save_two;
 use crate::wire;
 use crate::world::{World, ALL_LENGTHS, FEW_LONG, SAVED_LENGTHS};
+
+#[path = "forms_days.rs"]
+mod forms;
 
 pub struct Kind {
     pub name: &'static str,
@@ -22,7 +26,7 @@ pub struct Kind {
 }
 
 const DAMAGED: usize = 4;
-const MIXED: usize = 12;
+const MIXED: usize = 13;
 
 pub const KINDS: [Kind; MIXED + 1] = [
     kind("ordinary", open_ordinary, step_ordinary),
@@ -35,6 +39,7 @@ pub const KINDS: [Kind; MIXED + 1] = [
     kind("lines", open_ordinary, step_lines),
     kind("held", open_held, step_held),
     kind("saves", open_saves, step_saves),
+    kind("forms", forms::open, forms::step),
     kind("round", open_round, step_round),
     kind("lost", open_lost, step_lost),
     kind("mixed", open_ordinary, step_mixed),
@@ -181,9 +186,12 @@ pub struct Maker {
     whys: Rng,
     /// The last few saves that were written.
     saves: Vec<Vec<u8>>,
+    /// And those of either form, moved ones too.
+    forms: Vec<Vec<u8>>,
 }
 
 const SAVES_KEPT: usize = 4;
+const FORMS_KEPT: usize = 8;
 
 impl Maker {
     fn new(seed: u64) -> Maker {
@@ -196,6 +204,7 @@ impl Maker {
             releases_due: 0,
             whys: Rng::new(!seed),
             saves: Vec::new(),
+            forms: Vec::new(),
         }
     }
 
@@ -222,6 +231,11 @@ impl Maker {
             self.saves.push(octets);
             let over = self.saves.len().saturating_sub(SAVES_KEPT);
             self.saves.drain(..over);
+        }
+        if let Some(octets) = bench::octets_of_form(written) {
+            self.forms.push(octets);
+            let over = self.forms.len().saturating_sub(FORMS_KEPT);
+            self.forms.drain(..over);
         }
     }
 

@@ -29,6 +29,7 @@ mod save_cases;
 mod save_damage;
 mod save_rows;
 mod save_two;
+mod save_two_cases;
 mod wire;
 mod world;
 
@@ -53,7 +54,7 @@ const USAGE: &str = "usage: second run [FILE]
 
 /// Seeds and lines of each kind's part of the gate's standard input.
 const GATE_SEEDS: [u64; 2] = [1, 2];
-const GATE_LINES: [(&str, usize); 13] = [
+const GATE_LINES: [(&str, usize); 14] = [
     ("ordinary", 120),
     ("full", 240),
     ("moves", 120),
@@ -63,6 +64,7 @@ const GATE_LINES: [(&str, usize); 13] = [
     ("room", 140),
     ("held", 260),
     ("saves", 90),
+    ("forms", 110),
     ("round", 160),
     ("lost", 180),
     ("lines", 50),
@@ -192,6 +194,7 @@ fn write_gate_input(output: &mut impl Write) -> io::Result<()> {
         cases::notices(),
         held_cases::day(),
         save_cases::day(),
+        save_two_cases::day(),
         long_cases::day(),
         round_cases::day(),
         form_cases::day(),

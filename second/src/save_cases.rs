@@ -61,7 +61,7 @@ impl Page {
     }
 
     /// The card of docs/SAVE.md's example.
-    fn swapped(&mut self) {
+    pub fn swapped(&mut self) {
         self.fresh();
         self.tell(1, Kind::Mapping, &tree_a(), 100);
         self.order(Order::Join(wire::write_element(&tree_b())));
@@ -228,7 +228,7 @@ impl Page {
     }
 }
 
-fn kept_of(save: &[u8], kept: &[usize]) -> Vec<u8> {
+pub fn kept_of(save: &[u8], kept: &[usize]) -> Vec<u8> {
     let all = records(save);
     let mut some: Vec<Vec<u8>> = kept.iter().map(|place| all[*place].clone()).collect();
     counted(&mut some);

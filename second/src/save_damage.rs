@@ -1,9 +1,13 @@
-//! Saves that are no longer what a card wrote. Some of them another card
-//! might have written; most none.
+//! Saves of either form that are no longer what a card wrote. Some of them
+//! another card might have written; most none.
 
-use crate::damage::misform_opaque;
+use crate::damage::{misform_opaque, spoil_element};
 use crate::rng::Rng;
 use crate::save::{HEAD, LABEL, NAME, OPAQUE_SPACE, ROUTE, TREE};
+use crate::save_two::{HEAD_TWO, LABEL_TWO, TREE_TWO};
+use crate::wire;
+
+const LAST_GIVEN: usize = HEAD;
 
 /// `save` is one that a card wrote.
 pub fn spoil(rng: &mut Rng, save: &[u8]) -> Vec<u8> {
@@ -51,6 +55,9 @@ fn longer(rng: &mut Rng, save: &[u8]) -> Vec<u8> {
 
 /// Base, next identifier or a count.
 fn head_field(rng: &mut Rng, mut save: Vec<u8>) -> Vec<u8> {
+    if save[2] == 5 && rng.percent(50) {
+        return last_given(rng, save);
+    }
     match rng.below(6) {
         0 => save[3..7].copy_from_slice(&rng.number().to_be_bytes()),
         1 => {
@@ -66,6 +73,26 @@ fn head_field(rng: &mut Rng, mut save: Vec<u8>) -> Vec<u8> {
     save
 }
 
+/// The last label given: none, the ends of the block and what lies beyond
+/// them, any label of it.
+pub fn last_given(rng: &mut Rng, mut save: Vec<u8>) -> Vec<u8> {
+    let base = u32::from_be_bytes(save[3..7].try_into().expect("four"));
+    let any = rng.below(256) as u32;
+    let likely = [
+        0,
+        1,
+        base - 1,
+        base,
+        base + 255,
+        base + 256,
+        base + any,
+        any,
+    ];
+    let label = likely[rng.below(likely.len())];
+    save[LAST_GIVEN..HEAD_TWO].copy_from_slice(&label.to_be_bytes());
+    save
+}
+
 /// A field of a record, by another value that it may well have.
 fn field(rng: &mut Rng, save: &[u8]) -> Vec<u8> {
     let mut records = records(save);
@@ -74,15 +101,18 @@ fn field(rng: &mut Rng, save: &[u8]) -> Vec<u8> {
     match record[2] {
         2 if rng.percent(70) => record[3] = rng.below(19) as u8,
         2 => record[4] = [4, 16][rng.below(2)],
-        3 if rng.percent(30) => record[53] = rng.below(3) as u8,
-        3 => {
-            let branch = 54 + 4 * rng.below(16);
+        3 | 6 if rng.percent(30) => {
+            let leaf = name_end(record);
+            record[leaf] = rng.below(3) as u8;
+        }
+        3 | 6 => {
+            let branch = name_end(record) + 1 + 4 * rng.below(16);
             let label = [0u32, 15, 16, 100, 1_048_575, 1_048_576][rng.below(6)];
             record[branch..branch + 4].copy_from_slice(&label.to_be_bytes());
         }
-        4 if rng.percent(40) => record[7] = rng.below(4) as u8,
-        4 if rng.percent(50) => record[8] = rng.below(17) as u8,
-        4 => record[6] = rng.next() as u8,
+        4 | 7 if rng.percent(40) => record[7] = rng.below(4) as u8,
+        4 | 7 if rng.percent(50) => record[8] = rng.below(17) as u8,
+        4 | 7 => record[6] = rng.next() as u8,
         _ => record[10] = rng.next() as u8,
     }
     joined(&records)
@@ -94,17 +124,21 @@ fn renamed(rng: &mut Rng, save: &[u8]) -> Vec<u8> {
     let mut records = records(save);
     let names: Vec<Vec<u8>> = records
         .iter()
-        .filter_map(|record| Some(record[name_place(record)?..][..NAME].to_vec()))
+        .filter_map(|record| Some(record[name_place(record)?..name_end(record)].to_vec()))
         .collect();
     let Some(name) = rng.pick(&names) else {
         return one_octet(rng, save.to_vec());
     };
-    let other = misnamed(rng, &name);
+    let other = if save[2] == 1 {
+        misnamed(rng, &name)
+    } else {
+        misnamed_two(rng, &name)
+    };
     for record in &mut records {
         if let Some(place) = name_place(record) {
-            let part = &mut record[place..place + NAME];
-            if *part == *name {
-                part.copy_from_slice(&other);
+            let end = name_end(record);
+            if record[place..end] == *name {
+                record.splice(place..end, other.iter().copied());
             }
         }
     }
@@ -114,9 +148,19 @@ fn renamed(rng: &mut Rng, save: &[u8]) -> Vec<u8> {
 /// Where a tree's or a label's name stands in its record.
 fn name_place(record: &[u8]) -> Option<usize> {
     match record[2] {
-        3 => Some(3),
-        4 => Some(9),
+        3 | 6 => Some(3),
+        4 | 7 => Some(9),
         _ => None,
+    }
+}
+
+/// Where it ends; in form two its first octet counts the others.
+fn name_end(record: &[u8]) -> usize {
+    match record[2] {
+        3 => 3 + NAME,
+        4 => 9 + NAME,
+        6 => 4 + usize::from(record[3]),
+        _ => 10 + usize::from(record[9]),
     }
 }
 
@@ -130,6 +174,26 @@ fn misnamed(rng: &mut Rng, name: &[u8]) -> Vec<u8> {
     other.extend(opaque);
     other.resize(NAME, 0);
     other
+}
+
+/// The opaque value, the element or its length is another.
+fn misnamed_two(rng: &mut Rng, name: &[u8]) -> Vec<u8> {
+    let mut element = name[1..].to_vec();
+    match rng.below(5) {
+        0 => {
+            let step = if rng.percent(50) { 1 } else { 255 };
+            let length = name[0].wrapping_add(step);
+            return [&[length], &name[1..]].concat();
+        }
+        1 => spoil_element(rng, &mut element),
+        _ => {
+            let mut read = wire::read_element(&element).expect("a card wrote it");
+            misform_opaque(rng, &mut read.opaque);
+            element = wire::write_element(&read);
+        }
+    }
+    element.truncate(255);
+    [&[element.len() as u8], &element[..]].concat()
 }
 
 /// A record goes, comes twice or changes its place; the head counts them.
@@ -156,7 +220,15 @@ pub fn records(save: &[u8]) -> Vec<Vec<u8>> {
     let mut rest = save;
     let mut records = Vec::new();
     while let [_, _, kind, ..] = rest {
-        let length = [HEAD, ROUTE, TREE, LABEL][usize::from(*kind) - 1];
+        let length = match *kind {
+            1 => HEAD,
+            2 => ROUTE,
+            3 => TREE,
+            4 => LABEL,
+            5 => HEAD_TWO,
+            6 => TREE_TWO + usize::from(rest[3]),
+            _ => LABEL_TWO + usize::from(rest[9]),
+        };
         let (record, after) = rest.split_at(length);
         records.push(record.to_vec());
         rest = after;
@@ -166,8 +238,11 @@ pub fn records(save: &[u8]) -> Vec<Vec<u8>> {
 
 /// Sets the head's counts to what follows it.
 pub fn counted(records: &mut [Vec<u8>]) {
-    let count = |kind| records.iter().filter(|record| record[2] == kind).count() as u16;
-    let (routes, trees, labels) = (count(2), count(3), count(4));
+    let count = |kinds: [u8; 2]| {
+        let counted = records.iter().filter(|record| kinds.contains(&record[2]));
+        counted.count() as u16
+    };
+    let (routes, trees, labels) = (count([2, 2]), count([3, 6]), count([4, 7]));
     records[0][11..13].copy_from_slice(&[routes as u8, trees as u8]);
     records[0][13..15].copy_from_slice(&labels.to_be_bytes());
 }
