@@ -7,7 +7,7 @@
 #include <stdlib.h>
 #include <string.h>
 
-enum { LONGEST_LINE = 65536, LONGEST_HEX = 4096, MOST_WORDS = 4 };
+enum { LONGEST_LINE = 131072, LONGEST_HEX = 4096, MOST_WORDS = 4 };
 
 struct word {
     uint8_t *at;
