@@ -40,9 +40,12 @@ noRoute = 17
 abbrev pub nobody : ℕ
 nobody = noRoute
 
+-- standing: how many trees of the root stand; lone: how many of these have only one branch, held or not, and no leaf
 pub record Route : Type 0 where
   pub root : List ℕ
   pub via : ℕ
+  pub standing : ℕ
+  pub lone : ℕ
 
 -- name: the octets of its P2MP element
 -- branches: sixteen places, one for each neighbour, with the label that it gave; 0 for no branch (no label is under 16)
@@ -107,8 +110,11 @@ unfoldable pub routePlace : List ℕ → Card → ℕ
 routePlace r c = place (isFor r) (c .routes)
 
 -- a root without an entry has no route
+abbrev pub noEntry : List ℕ → Route
+noEntry r = record { root = r; via = noRoute; standing = 0; lone = 0 }
+
 unfoldable pub routeOf : List ℕ → Card → ℕ
-routeOf r c = getD (c .routes) (routePlace r c) (record { root = r; via = noRoute }) .via
+routeOf r c = getD (c .routes) (routePlace r c) (noEntry r) .via
 
 -- ---- trees
 
@@ -138,6 +144,10 @@ isBranch l = ltb 0 l
 
 unfoldable pub isEmpty : Tree → Bool
 isEmpty t = not (any isBranch (t .branches)) && not (t .leaf)
+
+-- one branch, held or not, and no leaf
+unfoldable pub isLone : Tree → Bool
+isLone t = eqb (count isBranch (t .branches)) 1 && not (t .leaf)
 
 -- A branch from the upstream is HELD: it stays in the table, and leads nowhere, since a feed would go back to whom it came from.
 -- These are the branches that are not held where u is the upstream (16 or 17: no neighbour is).

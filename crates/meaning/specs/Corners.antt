@@ -288,7 +288,7 @@ usedBy [] = replicate (labelCount - treeLimit) (awaiting 9 [])
 usedBy (t ∷ ts) = mapped 0 (t .name) ∷ usedBy ts
 
 unfoldable pub fullCard : Card
-fullCard = let ts = crowd treeLimit 0 in withTrees ts (withLabels (usedBy ts) firstCard)
+fullCard = let ts = crowd treeLimit 0 in withRoutes (record { root = rootIn A; via = 0; standing = treeLimit; lone = 0 } ∷ []) (withTrees ts (withLabels (usedBy ts) firstCard))
 
 unfoldable pub fullRows : List Row
 fullRows =
@@ -423,7 +423,7 @@ branched zero k = []
 branched (suc n) k = record { name = element 2 (replicate 16 32) (1 ∷ 0 ∷ 125 ∷ k ∷ replicate 124 0); branches = set (replicate 16 0) 1 100; leaf = false; label = 16 + k } ∷ branched n (suc k)
 
 unfoldable pub branchedAll : Card
-branchedAll = let ts = branched 64 0 in withTrees ts (withLabels (usedBy ts) (withRoutes (record { root = replicate 16 32; via = 0 } ∷ []) firstCard))
+branchedAll = let ts = branched 64 0 in withTrees ts (withLabels (usedBy ts) (withRoutes (record { root = replicate 16 32; via = 0; standing = 64; lone = 64 } ∷ []) firstCard))
 
 -- it writes 64 records of 174 octets, and leaves no tree; one octet less is too little room
 unfoldable pub mostLost : Bool
@@ -481,7 +481,7 @@ load (suc n) k = record { name = element 2 (replicate 16 32) (k ∷ (two 125 ++ 
 unfoldable pub loaded : Card
 loaded =
     let ts = load 64 0 in
-    withTrees ts (withLabels (take 64 (usedBy ts) ++ replicate 192 free) (withRoutes (record { root = replicate 16 32; via = 0 } ∷ []) firstCard))
+    withTrees ts (withLabels (take 64 (usedBy ts) ++ replicate 192 free) (withRoutes (record { root = replicate 16 32; via = 0; standing = 64; lone = 0 } ∷ []) firstCard))
 
 -- each tree gives one label up and is given another, in two records of 174 octets; one octet less is too little room
 unfoldable pub mostMoved : Bool

@@ -1,13 +1,13 @@
 -- What each event answers, writes and leaves.
 -- Assumes nothing.
-use Prim.Native.Nat.{ℕ, zero, suc, _+_, _-_}
+use Prim.Native.Nat.{ℕ, zero, suc, _+_, _-_, _%_}
 use mathlib.Core.Bool.{Bool, true, false, not, _&&_, _||_}
 use mathlib.Core.List.{List, [], _∷_, _++_}
 use lib.ListN.{getD, length, set}
 use lib.Dec.{eqb, leb, ltb}
-use Rattle.meaning.specs.Octets.{pick, same, put, cut, _when_else_}
+use Rattle.meaning.specs.Octets.{pick, place, same, put, cut, _when_else_}
 use Rattle.meaning.specs.Wire.{rootIn, elementRefusal, Message, messageIn, messageRefusal, mapping, withdraw, release, Sent, records, idsAfter}
-use Rattle.meaning.specs.Card.{noRoute, nobody, Route, Tree, Use, free, mapped, awaiting, Card, fresh, withNext, withRoutes, withTrees, withLabels, withBranch, withLeaf, withLabel, routePlace, routeOf, treePlace, treeOf, treeAt, stands, isEmpty, leadsOn, isAwaiting, useOf, heldFor, freeLabels, treeLimit, routeLimit, withLast, nextFree}
+use Rattle.meaning.specs.Card.{noRoute, nobody, noEntry, Route, Tree, Use, free, mapped, awaiting, Card, fresh, withNext, withRoutes, withTrees, withLabels, withBranch, withLeaf, withLabel, isFor, routePlace, routeOf, treePlace, treeOf, treeAt, stands, isEmpty, isLone, leadsOn, isAwaiting, useOf, heldFor, freeLabels, treeLimit, routeLimit, withLast, nextFree}
 
 -- ---- what an event hands back
 
@@ -129,6 +129,57 @@ upstream via = pick (ltb via 16) via nobody
 unfoldable pub holder : ℕ → Tree → ℕ
 holder u t = pick (leadsOn u t) u nobody
 
+-- ---- the counts of a root's trees
+
+unfoldable pub ofRoot : List ℕ → Tree → Bool
+ofRoot r t = same (rootIn (t .name)) r
+
+-- the sum of a number that each tree has
+unfoldable pub total : (Tree → ℕ) → List Tree → ℕ
+total f [] = 0
+total f (t ∷ ts) = f t + total f ts
+
+-- of the trees of root r only
+unfoldable pub inRoot : List ℕ → (Tree → ℕ) → Tree → ℕ
+inRoot r f t = pick (ofRoot r t) (f t) 0
+
+-- what one tree counts: 1 where it stands (an empty one doesn't), and 1 where it is lone
+unfoldable pub oneStanding : Tree → ℕ
+oneStanding t = pick (isEmpty t) 0 1
+
+unfoldable pub oneLone : Tree → ℕ
+oneLone t = pick (isLone t) 1 0
+
+-- the entry with its counts worked out
+unfoldable pub workedOut : List Tree → Route → Route
+workedOut ts x = record { root = x .root; via = x .via; standing = total (inRoot (x .root) oneStanding) ts; lone = total (inRoot (x .root) oneLone) ts }
+
+-- the root's entry; for a new one the counts are worked out
+unfoldable pub entryOf : List ℕ → Card → Route
+entryOf r c = getD (c .routes) (routePlace r c) (workedOut (c .trees) (noEntry r))
+
+-- A count is an octet and goes round, so that any number has a meaning; a true one is at most 64.
+abbrev pub countRange : ℕ
+countRange = 256
+
+-- the count n, where a tree counted `before` and is to count `after`
+unfoldable pub changed : ℕ → ℕ → ℕ → ℕ
+changed n before after = pick (eqb before after) n ((n + after + (countRange - before)) % countRange)
+
+-- an entry that counted the tree t, and counts s in its place
+unfoldable pub recountedFor : Tree → Tree → Route → Route
+recountedFor t s x = record { root = x .root; via = x .via; standing = changed (x .standing) (oneStanding t) (oneStanding s); lone = changed (x .lone) (oneLone t) (oneLone s) }
+
+-- the entry of the tree's root, where there is one, counts s in the place of t
+unfoldable pub recount : Tree → Tree → List Route → List Route
+recount t s rs =
+    let r = rootIn (s .name) in
+    let i = place (isFor r) rs in
+    set rs i (recountedFor t s (getD rs i (noEntry r)))
+
+unfoldable pub recounted : Tree → Tree → Card → Card
+recounted t s c = withRoutes (recount t s (c .routes)) c
+
 -- ---- an event of one tree
 
 -- for whom the tree is to hold a label by the route in force, which need not be for whom it holds one (`heldFor`)
@@ -150,12 +201,12 @@ treesFull c t = not (isEmpty t) && not (stands (t .name) c) && leb treeLimit (le
 unfoldable pub treeRefusal : Card → Tree → ℕ
 treeRefusal c t = 11 when treesFull c t else 12 when labelsShort c (need c t (holderOf c t)) else 0
 
--- The tree of t's name is t from now on, with the label that its state asks for. The messages `first` go before.
+-- The tree of t's name is t from now on, with the label that its state asks for, and is counted so. The messages `first` go before.
 unfoldable pub enter : Card → List Sent → Tree → Outcome
 enter c first t =
     let i = treePlace (t .name) c in
     let m = relabel i (holderOf c t) (entered c t) in
-    taken (first ++ m .sent) (swept i (m .card))
+    taken (first ++ m .sent) (recounted (treeOf (t .name) c) t (swept i (m .card)))
 
 unfoldable pub become : Card → List Sent → Tree → Outcome
 become c first t = unless (treeRefusal c t) (enter c first t)
@@ -224,9 +275,6 @@ onLeave c e =
 
 -- ---- the route order: for a root's octets, the route's number
 
-unfoldable pub ofRoot : List ℕ → Tree → Bool
-ofRoot r t = same (rootIn (t .name)) r
-
 -- the tree at place i, if it is of root r: its label was held for the old route, which is another
 unfoldable pub moveOne : List ℕ → ℕ → ℕ → Card → Moved
 moveOne r u i c = pick (ofRoot r (treeAt i c)) (moveLabel i (holder u (treeAt i c)) c) (still c)
@@ -252,8 +300,12 @@ sumFrom f (suc n) i c = f (treeAt i c) + sumFrom f n (suc i) c
 unfoldable pub needAll : List ℕ → ℕ → Card → ℕ
 needAll r u c = sumFrom (needOne r u) (length (c .trees)) 0 c
 
+-- the entry of root r with the route via: the counts of one that stands stay
+unfoldable pub entryWith : Card → List ℕ → ℕ → Route
+entryWith c r via = record { root = r; via = via; standing = entryOf r c .standing; lone = entryOf r c .lone }
+
 unfoldable pub routesWith : Card → List ℕ → ℕ → List Route
-routesWith c r via = pick (eqb via noRoute) (cut (c .routes) (routePlace r c)) (put (c .routes) (routePlace r c) (record { root = r; via = via }))
+routesWith c r via = pick (eqb via noRoute) (cut (c .routes) (routePlace r c)) (put (c .routes) (routePlace r c) (entryWith c r via))
 
 -- 1: the route is not 0 to 15, 16 or 17
 unfoldable pub notRoute : ℕ → Bool
@@ -267,8 +319,26 @@ notRoot r = not (eqb (length r) 4 || eqb (length r) 16)
 unfoldable pub routesFull : Card → List ℕ → ℕ → Bool
 routesFull c r via = eqb (routeOf r c) noRoute && not (eqb via noRoute) && leb routeLimit (length (c .routes))
 
+-- where no more trees of the root stand than labels are free, they suffice
+unfoldable pub quickYes : Card → List ℕ → Bool
+quickYes c r = leb (entryOf r c .standing) (freeLabels c)
+
+-- where those of them that are not lone are more than the free labels, and the new route is a neighbour, they don't: each of these leads on whatever neighbour is the upstream
+unfoldable pub quickNo : Card → List ℕ → ℕ → Bool
+quickNo c r via = ltb via 16 && ltb (freeLabels c + entryOf r c .lone) (entryOf r c .standing)
+
+-- 12 in a route order: only between the two are the trees walked
+unfoldable pub routeShort : Card → List ℕ → ℕ → Bool
+routeShort c r via =
+    let walked = labelsShort c (needAll r (upstream via) c) in
+    pick (quickYes c r) false (pick (quickNo c r via) true walked)
+
+-- 12 where the counts are false, as no history makes them: no order begins that would run out of labels, whatever the table holds. The walk that adds up the records for 16 sees it.
+unfoldable pub runsOut : Card → List ℕ → ℕ → Bool
+runsOut c r via = labelsShort c (needAll r (upstream via) c)
+
 unfoldable pub routeRefusal : Card → List ℕ → ℕ → ℕ
-routeRefusal c r via = 15 when routesFull c r via else 12 when labelsShort c (needAll r (upstream via) c) else 0
+routeRefusal c r via = 15 when routesFull c r via else 12 when routeShort c r via else 12 when runsOut c r via else 0
 
 unfoldable pub reRoute : Card → List ℕ → ℕ → Outcome
 reRoute c r via =
@@ -304,6 +374,11 @@ unfoldable pub treesWithout : ℕ → Card → List Tree → List Tree
 treesWithout n c [] = []
 treesWithout n c (t ∷ ts) = treeWithout n c t ∷ treesWithout n c ts
 
+-- each tree is counted without n's branch, oldest first
+unfoldable pub recountedWithout : ℕ → List Tree → List Route → List Route
+recountedWithout n [] rs = rs
+recountedWithout n (t ∷ ts) rs = recountedWithout n ts (recount t (withBranch n 0 t) rs)
+
 -- a route through n becomes "no route": its entry goes
 unfoldable pub routesWithout : ℕ → List Route → List Route
 routesWithout n [] = []
@@ -311,7 +386,7 @@ routesWithout n (r ∷ rs) = let later = routesWithout n rs in pick (eqb (r .via
 
 -- the table without all that is n's; nothing is sent for it
 unfoldable pub parted : ℕ → Card → Card
-parted n c = withRoutes (routesWithout n (c .routes)) (withTrees (treesWithout n c (c .trees)) (withLabels (usesWithout n (c .labels)) c))
+parted n c = withRoutes (routesWithout n (recountedWithout n (c .trees) (c .routes))) (withTrees (treesWithout n c (c .trees)) (withLabels (usesWithout n (c .labels)) c))
 
 -- the tree at place i gives up its label where it leads nowhere any more: no leaf is left, and no branch but that of the neighbour that the label is mapped to
 unfoldable pub shed : ℕ → Card → Moved

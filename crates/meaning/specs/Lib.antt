@@ -18,12 +18,14 @@ pub mod NoticeExamples
 pub mod NoticeLaws
 pub mod RoutesStay
 pub mod NextFree
+pub mod Counts
 pub mod Losses
 pub mod Save
 pub mod SaveExample
 pub mod SaveRows
 pub mod SaveFields
 pub mod SaveRules
+pub mod SaveCounts
 pub mod SaveLists
 pub mod SaveLaws
 pub mod SaveMoves

@@ -10,7 +10,7 @@ use lib.ListN.{getD, length, set, replicate, drop, length-drop, List·getD-eq-de
 use lib.Seq.{getD-drop}
 use lib.Dec.{eqb, ltb}
 use borrow.Author.Tests.{eqb-true, eq-eqb, ltb-true, ltb-false}
-use Rattle.meaning.specs.Octets.{pick, place, placeFrom, count, same, put, cut, _when_else_}
+use Rattle.meaning.specs.Octets.{pick, place, placeFrom, count, any, same, put, cut, _when_else_}
 
 -- a test, with what it tells
 pub by-test {ℓ} : {X : Type ℓ} (b : Bool) → (b ≡ true → X) → (b ≡ false → X) → X
@@ -258,6 +258,18 @@ pub set-replicate {ℓ} : {A : Type ℓ} (n u : ℕ) (x : A) → set (replicate 
 set-replicate zero u x = refl
 set-replicate (suc n) zero x = refl
 set-replicate (suc n) (suc u) x = ap (λ l. x ∷ l) (set-replicate n u x)
+
+-- ---- some, or none
+
+pub any-count {ℓ} : {A : Type ℓ} (t : A → Bool) (l : List A) → any t l ≡ false → count t l ≡ 0
+unfolding any count
+any-count t [] h = refl
+any-count t (x ∷ l) h = by-test (t x) (λ e. absurd (let z : true ≡ false = rw e at h in let z′ : _≡_ {A = ℕ} 0 1 = cc in omega arith)) (λ e. rw e (any-count t l (rw e at h)))
+
+pub count-any {ℓ} : {A : Type ℓ} (t : A → Bool) (l : List A) → count t l ≡ 0 → any t l ≡ false
+unfolding any count
+count-any t [] h = refl
+count-any t (x ∷ l) h = by-test (t x) (λ e. absurd (let z : suc (count t l) ≡ 0 = rw e at h in omega arith)) (λ e. rw e (count-any t l (rw e at h)))
 
 -- and read at any place
 pub getD-all {ℓ} : {A : Type ℓ} (n i : ℕ) (x : A) → getD (replicate n x) i x ≡ x

@@ -12,7 +12,7 @@ use lib.Dec.{eqb, leb}
 use borrow.Author.Tests.{eqb-true, eqb-false, ne-eqb, leb-true, lt-leb}
 use Rattle.meaning.specs.Octets.{pick, place, count, cut, two, four}
 use Rattle.meaning.specs.Wire.{recordSize, tlv, octetsOf, Sent, recordOf, nextId, records}
-use Rattle.meaning.specs.Card.{Tree, Route, Use, free, mapped, awaiting, Card, noRoute, withRoutes, withTrees, withLabels, withBranch, withLabel, named, bare, treePlace, treeOf, treeAt, notHeld, leadsOn, mappedTo, useOf, heldFor}
+use Rattle.meaning.specs.Card.{Tree, Route, Use, free, mapped, awaiting, Card, noRoute, noEntry, withRoutes, withTrees, withLabels, withBranch, withLabel, named, bare, treePlace, treeOf, treeAt, notHeld, leadsOn, mappedTo, useOf, heldFor}
 use Rattle.meaning.specs.Events.{Moved, still, followedBy, setUse, setLabel, giveUp, letGo, sumFrom, isOf, freedOf, usesWithout, treeWithout, treesWithout, routesWithout, parted, shed, shedFrom}
 use Rattle.meaning.specs.Lists.{by-test, picked, set-replicate, append-nil}
 
@@ -118,7 +118,7 @@ parted-held n c t none =
 unfoldable pub routesBelow : ℕ → ℕ → List Route → List Route
 routesBelow n zero rs = rs
 routesBelow n (suc k) rs =
-    let there : Route = getD rs k (record { root = []; via = noRoute }) in
+    let there : Route = getD rs k (noEntry []) in
     routesBelow n k (pick (eqb (there .via) n) (cut rs k) rs)
 
 routes-append : (n : ℕ) (xs ys : List Route) → routesWithout n (xs ++ ys) ≡ routesWithout n xs ++ routesWithout n ys
@@ -138,7 +138,7 @@ below-is : (n k : ℕ) (rs : List Route) → k ≤ length rs → routesBelow n k
 unfolding routesBelow
 below-is n zero rs h = unfold routesWithout in refl
 below-is n (suc k) rs h =
-    let d : Route = record { root = []; via = noRoute } in
+    let d : Route = noEntry [] in
     let last-one : take (suc k) rs ≡ take k rs ++ (getD rs k d ∷ []) = take-suc rs k d h in
     let rest : drop k rs ≡ getD rs k d ∷ drop (suc k) rs = drop-cons rs k d h in
     by-test (eqb (getD rs k d .via) n)

@@ -11,7 +11,7 @@ use Rattle.meaning.specs.Octets.{pick, any, twoAt, _when_else_}
 use Rattle.meaning.specs.Lists.{by-test}
 use Rattle.meaning.specs.Wire.{isElement, isOpaque, isFilled, opaqueIn, elementRefusal, isOverrun, tlvs, mapping, withdraw, release, Message, bodyOf, fecOf, labelOf, must, isSized, isKind, isOrdered, isLabel, messageRefusal, messageIn, Sent, records}
 use Rattle.meaning.specs.Card.{Tree, Card, withBranch, withLeaf, treeOf, routeOf}
-use Rattle.meaning.specs.Events.{Out, Outcome, refused, taken, unless, refuse, accept, roomShort, finish, tell, labelsShort, need, upstream, holderOf, treesFull, treeRefusal, enter, become, otherLabel, onMapping, lessBranch, onWithdraw, notAwaited, onRelease, onMessage, noNeighbour, onOctets, onJoin, notLeaf, onLeave, needAll, notRoute, notRoot, routesFull, routeRefusal, reRoute, onRoute, Event, receive, join, leave, route, outcome, event, part, onLost, lost}
+use Rattle.meaning.specs.Events.{Out, Outcome, refused, taken, unless, refuse, accept, roomShort, finish, tell, labelsShort, need, holderOf, treesFull, treeRefusal, enter, become, otherLabel, onMapping, lessBranch, onWithdraw, notAwaited, onRelease, onMessage, noNeighbour, onOctets, onJoin, notLeaf, onLeave, routeShort, runsOut, notRoute, notRoot, routesFull, routeRefusal, reRoute, onRoute, Event, receive, join, leave, route, outcome, event, part, onLost, lost}
 
 -- a refusal's number, and whether its test applies
 pub record Test : Type 0 where
@@ -142,7 +142,7 @@ module _ (room : ℕ) (c : Card) where
   eventTests (route r via) =
       (1 if notRoute via) ∷ (6 if notRoot r)
       ∷ pick (eqb (routeOf r c) via) []
-      ((15 if routesFull c r via) ∷ (12 if labelsShort c (needAll r (upstream via) c)) ∷ roomTest room c (reRoute c r via))
+      ((15 if routesFull c r via) ∷ (12 if routeShort c r via) ∷ (12 if runsOut c r via) ∷ roomTest room c (reRoute c r via))
   eventTests (lost n) = (1 if noNeighbour n) ∷ roomTest room c (part c n)
 
   one : (n : ℕ) (b : Bool) (us : List Test) (o : Outcome) → answer o ≡ firstOf us → answer (unless (suc n when b else 0) o) ≡ firstOf ((suc n if b) ∷ us)
@@ -183,19 +183,19 @@ module _ (room : ℕ) (c : Card) where
       t : Tree
       t = withLeaf false (treeOf e c)
 
-  move-answer : (r : List ℕ) (via : ℕ) → answer (unless (routeRefusal c r via) (reRoute c r via)) ≡ firstOf ((15 if routesFull c r via) ∷ (12 if labelsShort c (needAll r (upstream via) c)) ∷ roomTest room c (reRoute c r via))
+  move-answer : (r : List ℕ) (via : ℕ) → answer (unless (routeRefusal c r via) (reRoute c r via)) ≡ firstOf ((15 if routesFull c r via) ∷ (12 if routeShort c r via) ∷ (12 if runsOut c r via) ∷ roomTest room c (reRoute c r via))
   unfolding routeRefusal
   move-answer r via =
       ap (λ (k : ℕ). answer (unless k (reRoute c r via))) both-is
-      ∙ unless-answer ((15 if routesFull c r via) ∷ (12 if labelsShort c (needAll r (upstream via) c)) ∷ []) _ _ (more (more none)) moved
+      ∙ unless-answer ((15 if routesFull c r via) ∷ (12 if routeShort c r via) ∷ (12 if runsOut c r via) ∷ []) _ _ (more (more (more none))) moved
     where
       moved : answer (reRoute c r via) ≡ firstOf (roomTest room c (reRoute c r via))
       moved = unfold reRoute in taken-answer _ _
 
-      both-is : (15 when routesFull c r via else 12 when labelsShort c (needAll r (upstream via) c) else 0) ≡ firstOf ((15 if routesFull c r via) ∷ (12 if labelsShort c (needAll r (upstream via) c)) ∷ [])
+      both-is : (15 when routesFull c r via else 12 when routeShort c r via else 12 when runsOut c r via else 0) ≡ firstOf ((15 if routesFull c r via) ∷ (12 if routeShort c r via) ∷ (12 if runsOut c r via) ∷ [])
       both-is = unfold firstOf in refl
 
-  route-answer : (r : List ℕ) (via : ℕ) → answer (onRoute c r via) ≡ firstOf ((1 if notRoute via) ∷ (6 if notRoot r) ∷ pick (eqb (routeOf r c) via) [] ((15 if routesFull c r via) ∷ (12 if labelsShort c (needAll r (upstream via) c)) ∷ roomTest room c (reRoute c r via)))
+  route-answer : (r : List ℕ) (via : ℕ) → answer (onRoute c r via) ≡ firstOf ((1 if notRoute via) ∷ (6 if notRoot r) ∷ pick (eqb (routeOf r c) via) [] ((15 if routesFull c r via) ∷ (12 if routeShort c r via) ∷ (12 if runsOut c r via) ∷ roomTest room c (reRoute c r via)))
   unfolding onRoute
   route-answer r via =
       ap (λ (k : ℕ). answer (unless k rest)) both-is
@@ -207,7 +207,7 @@ module _ (room : ℕ) (c : Card) where
       both-is : (1 when notRoute via else 6 when notRoot r else 0) ≡ firstOf ((1 if notRoute via) ∷ (6 if notRoot r) ∷ [])
       both-is = unfold firstOf in refl
 
-      rest-answer : answer rest ≡ firstOf (pick (eqb (routeOf r c) via) [] ((15 if routesFull c r via) ∷ (12 if labelsShort c (needAll r (upstream via) c)) ∷ roomTest room c (reRoute c r via)))
+      rest-answer : answer rest ≡ firstOf (pick (eqb (routeOf r c) via) [] ((15 if routesFull c r via) ∷ (12 if routeShort c r via) ∷ (12 if runsOut c r via) ∷ roomTest room c (reRoute c r via)))
       rest-answer =
           by-test (eqb (routeOf r c) via)
           (λ e. rw e quiet)

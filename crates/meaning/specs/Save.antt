@@ -12,7 +12,7 @@ use lib.Dec.{eqb, leb, ltb}
 use Rattle.meaning.specs.Octets.{pick, place, count, any, same, two, four, twoAt, fourAt, _when_else_, all}
 use Rattle.meaning.specs.Wire.{rootIn, opaqueIn, elementRefusal, element, rootLimit, nameLimit}
 use Rattle.meaning.specs.Card.{Route, Tree, Use, free, mapped, awaiting, Card, withLabel, treeLimit, routeLimit, labelCount, isFor, named, isEmpty, isFree, heldFor, useOf, treeOf, freeLabels, neighbourCount, withLast}
-use Rattle.meaning.specs.Events.{Out, roomShort, refuse, baseOutside, notRoot, holderOf}
+use Rattle.meaning.specs.Events.{Out, roomShort, refuse, baseOutside, notRoot, workedOut, holderOf}
 
 -- ---- the two forms, and where they differ: the kinds of three records, a name, and the last label given
 
@@ -178,8 +178,9 @@ abbrev pub extent : Form → List ℕ → ℕ
 extent old o = spacedName
 extent new o = suc (getD o 0 0)
 
+-- (its counts are worked out when the trees are read)
 unfoldable pub routeRead : List ℕ → Route
-routeRead o = record { root = spacedIn rootLimit (drop 4 o); via = getD o 3 0 }
+routeRead o = record { root = spacedIn rootLimit (drop 4 o); via = getD o 3 0; standing = 0; lone = 0 }
 
 unfoldable pub foursIn : ℕ → List ℕ → List ℕ
 foursIn zero o = []
@@ -260,6 +261,11 @@ unfoldable pub lastIn : Form → List ℕ → ℕ → List Use → ℕ
 lastIn old o base us = highestUsed base us
 lastIn new o base us = fourAt o lastPlace
 
+-- Nor does it carry the counts: they are worked out.
+unfoldable pub allWorkedOut : List Tree → List Route → List Route
+allWorkedOut ts [] = []
+allWorkedOut ts (x ∷ xs) = workedOut ts x ∷ allWorkedOut ts xs
+
 -- the table in the octets, whatever they are
 unfoldable pub tableIn : Form → List ℕ → Card
 tableIn f o =
@@ -268,7 +274,8 @@ tableIn f o =
     let trees = getD o 12 0 in
     let afterRoutes = drop (headSize f + routes * routeSize) o in
     let us = usesRead f base (twoAt o 13) (treesEnd f trees afterRoutes) (replicate labelCount free) in
-    record { base = base; next = fourAt o 7; routes = routesRead routes (drop (headSize f) o); trees = allLabelled base us (treesRead f trees afterRoutes); labels = us; last = lastIn f o base us }
+    let ts = allLabelled base us (treesRead f trees afterRoutes) in
+    record { base = base; next = fourAt o 7; routes = allWorkedOut ts (routesRead routes (drop (headSize f) o)); trees = ts; labels = us; last = lastIn f o base us }
 
 -- ---- the rules in force
 
@@ -320,11 +327,19 @@ carriesOwn c t = eqb (t .label) 0 || isMappedFor (t .name) (useOf (t .label) c)
 unfoldable pub holdsRight : Card → Tree → Bool
 holdsRight c t = eqb (heldFor c t) (holderOf c t)
 
-unfoldable pub keepsRules : Card → Bool
-keepsRules c =
+-- the counts of every root that has a route are true
+unfoldable pub isCounted : List Tree → Route → Bool
+isCounted ts x = eqb (x .standing) (workedOut ts x .standing) && eqb (x .lone) (workedOut ts x .lone)
+
+unfoldable pub countsRight : Card → Bool
+countsRight c = all (isCounted (c .trees)) (c .routes)
+
+-- all rules but that; a table that is read keeps it in any case, since its counts were worked out (`read-rules`)
+unfoldable pub keepsRows : Card → Bool
+keepsRows c =
     -- base and identifier
     not (baseOutside (c .base)) && ltb (c .next) 4294967296
-    -- counts
+    -- sizes
     && leb (length (c .routes)) routeLimit && leb (length (c .trees)) treeLimit && eqb (length (c .labels)) labelCount
     -- each well-formed, roots and names once, no tree empty
     && all isRoute (c .routes) && onceEach sameRoot (c .routes)
@@ -332,6 +347,9 @@ keepsRules c =
     && all isUse (c .labels)
     -- trees and labels agree
     && allCarried c (c .base) (c .labels) && all (carriesOwn c) (c .trees) && all (holdsRight c) (c .trees)
+
+unfoldable pub keepsRules : Card → Bool
+keepsRules c = keepsRows c && countsRight c
 
 -- The last label given is of the block, and none only while no label is in use.
 unfoldable pub lastRight : Card → Bool

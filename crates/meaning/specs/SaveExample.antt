@@ -12,11 +12,11 @@ use Rattle.meaning.specs.Card.{Card, free, mapped, fresh, withLabels, wi
 use Rattle.meaning.specs.Events.{Out, Event, join, leave, route, event, start}
 use Rattle.meaning.specs.Computing.{computing}
 use Rattle.meaning.specs.Examples.{enough, A, wide, heard}
-use Rattle.meaning.specs.Save.{old, padded, spaced, nameSaved, marked, lastSaved, headSaved, routeSaved, foursOf, treeSaved, useSaved, routesSaved, treesSaved, usesSaved, saved, isShort, isShortTree, isShortUse, fitsSave, save, spacedIn, nameIn, routeRead, foursIn, treeRead, useRead, routesRead, treesRead, usesRead, isMappedFor, labelled, allLabelled, tableIn, isName, onceEach, isRoute, sameRoot, isBranchLabel, isTree, sameName, isUse, isCarried, allCarried, carriesOwn, holdsRight, keepsRules, isSave, restore, highestUsed, settled, carriedBy, lastIn, treeEnd, treesEnd, useEnd, lastRight, ruled, Moved, notMoved, move, newer, older}
+use Rattle.meaning.specs.Save.{old, padded, spaced, nameSaved, marked, lastSaved, headSaved, routeSaved, foursOf, treeSaved, useSaved, routesSaved, treesSaved, usesSaved, saved, isShort, isShortTree, isShortUse, fitsSave, save, spacedIn, nameIn, routeRead, foursIn, treeRead, useRead, routesRead, treesRead, usesRead, isMappedFor, labelled, allLabelled, allWorkedOut, tableIn, isName, onceEach, isRoute, sameRoot, isBranchLabel, isTree, sameName, isUse, isCarried, allCarried, carriesOwn, holdsRight, isCounted, countsRight, keepsRows, keepsRules, isSave, restore, highestUsed, settled, carriedBy, lastIn, treeEnd, treesEnd, useEnd, lastRight, ruled, Moved, notMoved, move, newer, older}
 
 -- as `computing`, for the definitions of saves
 unfoldable pub computingSaves : ℕ
-unfolding computing padded spaced nameSaved marked lastSaved headSaved routeSaved foursOf treeSaved useSaved routesSaved treesSaved usesSaved saved isShort isShortTree isShortUse fitsSave save spacedIn nameIn routeRead foursIn treeRead useRead routesRead treesRead usesRead isMappedFor labelled allLabelled tableIn all isName onceEach isRoute sameRoot isBranchLabel isTree sameName isUse isCarried allCarried carriesOwn holdsRight keepsRules isSave restore highestUsed settled carriedBy lastIn treeEnd treesEnd useEnd lastRight ruled notMoved move newer older
+unfolding computing padded spaced nameSaved marked lastSaved headSaved routeSaved foursOf treeSaved useSaved routesSaved treesSaved usesSaved saved isShort isShortTree isShortUse fitsSave save spacedIn nameIn routeRead foursIn treeRead useRead routesRead treesRead usesRead isMappedFor labelled allLabelled allWorkedOut tableIn all isName onceEach isRoute sameRoot isBranchLabel isTree sameName isUse isCarried allCarried carriesOwn holdsRight isCounted countsRight keepsRows keepsRules isSave restore highestUsed settled carriedBy lastIn treeEnd treesEnd useEnd lastRight ruled notMoved move newer older
 computingSaves = 0
 
 -- ---- one whole example

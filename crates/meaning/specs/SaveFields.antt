@@ -14,6 +14,7 @@ use Rattle.meaning.specs.Octets.{pick, two, four, fourAt, twoAt, all}
 use Rattle.meaning.specs.Lists.{by-test, positive}
 use Rattle.meaning.specs.Wire.{addressLength, familyIn, rootLength, rootIn, opaqueIn, elementRefusal, element, rootLimit, nameLimit}
 use Rattle.meaning.specs.Card.{Route, Tree, mapped, awaiting, withLabel}
+use Rattle.meaning.specs.Counts.{plain}
 use Rattle.meaning.specs.WireLaws.{element-family}
 use Rattle.meaning.specs.RoundTrip.{both, Whole, whole, root-size, element-parts, name-fits}
 use Rattle.meaning.specs.NoticeLaws.{four-back}
@@ -141,9 +142,9 @@ unfolding routeSaved marked
 route-length r = omega (arith, spaced-length rootLimit (r .root))
 
 -- (via is written modulo 256, so that a card which keeps no rule is written in octets too)
-pub route-back : (r : Route) → length (r .root) ≤ rootLimit → r .via < 256 → (rest : List ℕ) → routeRead (routeSaved r ++ rest) ≡ r
-unfolding routeRead routeSaved marked
-route-back r fits low rest = let same-via : r .via % 256 ≡ r .via = omega arith in λ i. record { root = spaced-back rootLimit (r .root) fits rest i; via = same-via i }
+pub route-back : (r : Route) → length (r .root) ≤ rootLimit → r .via < 256 → (rest : List ℕ) → routeRead (routeSaved r ++ rest) ≡ plain r
+unfolding routeRead routeSaved marked plain
+route-back r fits low rest = let same-via : r .via % 256 ≡ r .via = omega arith in λ i. record { root = spaced-back rootLimit (r .root) fits rest i; via = same-via i; standing = 0; lone = 0 }
 
 -- ---- branches: four octets each
 

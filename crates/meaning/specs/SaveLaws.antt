@@ -17,9 +17,13 @@ use Rattle.meaning.specs.Card.{Tree, Use, free, mapped, awaiting, Card, 
 use Rattle.meaning.specs.Events.{refuse, roomShort, holderOf}
 use Rattle.meaning.specs.RoundTrip.{both, two-back}
 use Rattle.meaning.specs.NoticeLaws.{four-back}
-use Rattle.meaning.specs.Save.{Form, old, new, headSize, routeSize, treeBeside, useBeside, spacedName, saveLimit, lastPlace, isShortTree, isShortUse, fitsSave, marked, lastSaved, headSaved, routesSaved, treesSaved, usesSaved, saved, save, routesRead, treesRead, treesEnd, usesRead, isMappedFor, allLabelled, highestUsed, settled, carriedBy, lastIn, lastRight, tableIn, isCarried, allCarried, isTree, carriesOwn, holdsRight, keepsRules, ruled, isSave, restore}
+use Rattle.meaning.specs.Save.{Form, old, new, headSize, routeSize, treeBeside, useBeside, spacedName, saveLimit, lastPlace, isShortTree, isShortUse, fitsSave, marked, lastSaved, headSaved, routesSaved, treesSaved, usesSaved, saved, save, routesRead, treesRead, treesEnd, usesRead, isMappedFor, allLabelled, highestUsed, settled, carriedBy, lastIn, lastRight, tableIn, isCarried, allCarried, isTree, carriesOwn, holdsRight, keepsRules, ruled, isSave, restore, allWorkedOut, countsRight, keepsRows}
 use Rattle.meaning.specs.SaveRules.{all-at, Rules, rules}
 use Rattle.meaning.specs.SaveLists.{either, tree-ok, routes-length, routes-back, treesSize, trees-length, trees-old, trees-new, trees-fit, trees-back, trees-after, labelFor, labels-back, inUse, used-free, usesSize, uses-length, uses-old, uses-new, uses-fit, free-fit, trees-any, uses-any, uses-back}
+use Rattle.meaning.specs.SaveFields.{all-cons}
+use native.Mathlib.Nat.{le-of-suc-le-suc, not-suc-le-zero}
+use Rattle.meaning.specs.Counts.{plains}
+use Rattle.meaning.specs.SaveCounts.{plains-worked, worked-same}
 
 -- ---- a tree's label is that which is mapped for it
 
@@ -175,7 +179,7 @@ module _ (f : Form) (c : Card) (R : Rules c) where
 
   -- ---- the three lists
 
-  its-routes : routesRead (length (c .routes)) (drop (headSize f) (saved f c)) ≡ c .routes
+  its-routes : routesRead (length (c .routes)) (drop (headSize f) (saved f c)) ≡ plains (c .routes)
   its-routes = ap (routesRead (length (c .routes))) (after-head f c) ∙ routes-back (c .routes) (treesSaved f (c .trees) ++ usesSaved f (c .base) (c .labels)) (R .routes)
 
   its-labels : fitsSave f c ≡ true → usesRead f (c .base) (count inUse (c .labels)) (usesSaved f (c .base) (c .labels)) (replicate labelCount free) ≡ c .labels
@@ -190,10 +194,13 @@ module _ (f : Form) (c : Card) (R : Rules c) where
       ap (allLabelled (c .base) (c .labels)) (trees-back f (c .trees) (usesSaved f (c .base) (c .labels)) (R .trees) (values-fit f c room .0))
       ∙ labels-back (c .base) (c .labels) (c .trees) (unfold treeAt in label-given c R)
 
+  its-counts : allWorkedOut (c .trees) (plains (c .routes)) ≡ c .routes
+  its-counts = plains-worked (c .trees) (c .routes) ∙ worked-same (c .trees) (c .routes) (unfold countsRight in R .counts)
+
   table-back : ruled f c ≡ true → fitsSave f c ≡ true → tableIn f (saved f c) ≡ carriedBy f c
   unfolding tableIn
   table-back h room =
-      rw (head-base, head-next, head-routes, head-trees, head-labels, after-routes, trees-after f (c .trees) (usesSaved f (c .base) (c .labels)) (R .trees), its-labels room, its-routes, its-trees room, last-back f c h)
+      rw (head-base, head-next, head-routes, head-trees, head-labels, after-routes, trees-after f (c .trees) (usesSaved f (c .base) (c .labels)) (R .trees), its-labels room, its-routes, its-trees room, its-counts, last-back f c h)
       (carried-is f c)
 
 -- ---- the highest label in use
@@ -260,7 +267,7 @@ carried-settled c l (u ∷ us) = ap₂ (λ (a b : Bool). pick a b false) (one u)
     one (awaiting n a) = unfold isCarried in refl
 
 pub settled-rules : (c : Card) → keepsRules (settled c) ≡ keepsRules c
-unfolding keepsRules
+unfolding keepsRules keepsRows countsRight
 settled-rules c = rw carried-settled (unfold settled withLast carriesOwn holdsRight useOf heldFor holderOf routeOf routePlace in refl)
 
 -- What is read back has settled.

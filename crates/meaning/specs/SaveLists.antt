@@ -15,6 +15,7 @@ use Rattle.meaning.specs.Lists.{by-test, picked}
 use Rattle.meaning.specs.Wire.{elementRefusal, rootLimit, nameLimit}
 use Rattle.meaning.specs.Card.{Route, Tree, Use, free, mapped, awaiting, withLabel, bare, isFree, isEmpty}
 use Rattle.meaning.specs.Events.{notRoot}
+use Rattle.meaning.specs.Counts.{plains}
 use Rattle.meaning.specs.RoundTrip.{both}
 use Rattle.meaning.specs.Save.{Form, old, new, spacedName, routeSize, treeBeside, useBeside, isShort, isShortTree, isShortUse, routeSaved, treeSaved, useSaved, routesSaved, treesSaved, usesSaved, treeRead, treeEnd, useRead, useEnd, routesRead, treesRead, treesEnd, usesRead, isMappedFor, labelled, allLabelled, isName, isRoute, isBranchLabel, isTree, isUse}
 use Rattle.meaning.specs.SaveFields.{all-cons, nameSize, name-most, name-room, route-length, route-back, tree-length, tree-after, tree-back, useRecord, use-length, use-label, use-after, use-back}
@@ -67,8 +68,8 @@ unfolding routesSaved
 routes-length [] = refl
 routes-length (r ∷ rs) = length-append (routeSaved r) (routesSaved rs) ∙ omega (arith, route-length r, routes-length rs)
 
-pub routes-back : (rs : List Route) (rest : List ℕ) → all isRoute rs ≡ true → routesRead (length rs) (routesSaved rs ++ rest) ≡ rs
-unfolding routesSaved routesRead
+pub routes-back : (rs : List Route) (rest : List ℕ) → all isRoute rs ≡ true → routesRead (length rs) (routesSaved rs ++ rest) ≡ plains rs
+unfolding routesSaved routesRead plains
 routes-back [] rest h = refl
 routes-back (r ∷ rs) rest h =
     let p = all-cons isRoute r rs h in

@@ -10,11 +10,11 @@ use lib.ListN.{getD, length}
 use lib.Dec.{eqb, leb, ltb}
 use borrow.Author.Tests.{eqb-true, leb-true, ltb-true, eq-eqb, le-leb, lt-ltb, not-true, not-false}
 use Rattle.meaning.specs.Octets.{count, any, same, all}
-use Rattle.meaning.specs.Lists.{by-test, picked, same-eq, same-refl}
+use Rattle.meaning.specs.Lists.{by-test, picked, same-eq, same-refl, any-count, count-any}
 use Rattle.meaning.specs.Card.{Route, Tree, Use, free, Card, treeLimit, routeLimit, labelCount, isFor, named, bare, treeAt, heldFor}
 use Rattle.meaning.specs.Events.{baseOutside, holderOf}
 use Rattle.meaning.specs.RoundTrip.{both}
-use Rattle.meaning.specs.Save.{onceEach, isRoute, sameRoot, isTree, sameName, isUse, isCarried, allCarried, carriesOwn, holdsRight, keepsRules}
+use Rattle.meaning.specs.Save.{onceEach, isRoute, sameRoot, isTree, sameName, isUse, isCarried, allCarried, carriesOwn, holdsRight, countsRight, keepsRows, keepsRules}
 use Rattle.meaning.specs.SaveFields.{all-cons}
 
 -- ---- every element
@@ -46,16 +46,6 @@ carried-of c l (u ∷ us) h =
     rw first (carried-of c (suc l) us (λ i k. subst (λ (n : ℕ). isCarried c n (getD us i free) ≡ true) (omega arith) (h (suc i) (suc-le-suc k))))
 
 -- ---- no two alike: by a key, as the root of a route and the name of a tree
-
-any-count {ℓ} : {A : Type ℓ} (t : A → Bool) (l : List A) → any t l ≡ false → count t l ≡ 0
-unfolding any count
-any-count t [] h = refl
-any-count t (x ∷ l) h = by-test (t x) (λ e. absurd (let z : true ≡ false = rw e at h in let z′ : _≡_ {A = ℕ} 0 1 = cc in omega arith)) (λ e. rw e (any-count t l (rw e at h)))
-
-count-any {ℓ} : {A : Type ℓ} (t : A → Bool) (l : List A) → count t l ≡ 0 → any t l ≡ false
-unfolding any count
-count-any t [] h = refl
-count-any t (x ∷ l) h = by-test (t x) (λ e. absurd (let z : suc (count t l) ≡ 0 = rw e at h in omega arith)) (λ e. rw e (count-any t l (rw e at h)))
 
 module _ {A : Type 0} (key : A → List ℕ) where
   abbrev alike : A → A → Bool
@@ -99,6 +89,7 @@ pub record Rules (c : Card) : Type 0 where
   pub carried : (i : ℕ) → i < length (c .labels) → isCarried c (c .base + i) (getD (c .labels) i free) ≡ true
   pub own : (i : ℕ) → i < length (c .trees) → carriesOwn c (treeAt i c) ≡ true
   pub held : (i : ℕ) → i < length (c .trees) → heldFor c (treeAt i c) ≡ holderOf c (treeAt i c)
+  pub counts : countsRight c ≡ true
 
 module _ (c : Card) where
   roots-once : onceEach sameRoot (c .routes) ≡ true → (r : List ℕ) → count (isFor r) (c .routes) ≤ 1
@@ -134,9 +125,10 @@ module _ (c : Card) where
   held-of h = all-of (holdsRight c) (c .trees) (bare []) (λ i k. eq-eqb _ _ (h i k))
 
   pub rules : keepsRules c ≡ true → Rules c
-  unfolding keepsRules baseOutside
+  unfolding keepsRules keepsRows baseOutside
   rules h =
-      let m = both _ (all (holdsRight c) (c .trees)) h in
+      let n = both _ (countsRight c) h in
+      let m = both _ (all (holdsRight c) (c .trees)) (n .0) in
       let l = both _ (all (carriesOwn c) (c .trees)) (m .0) in
       let k = both _ (allCarried c (c .base) (c .labels)) (l .0) in
       let j = both _ (all isUse (c .labels)) (k .0) in
@@ -164,10 +156,11 @@ module _ (c : Card) where
         carried = carried-at c (c .base) (c .labels) (k .1);
         own = own-at (l .1);
         held = held-at (m .1);
+        counts = n .1;
       }
 
   pub rules-kept : Rules c → keepsRules c ≡ true
-  unfolding keepsRules baseOutside
+  unfolding keepsRules keepsRows baseOutside
   rules-kept R =
       rw (
         le-leb 16 (c .base) (R .low),
@@ -184,4 +177,5 @@ module _ (c : Card) where
         carried-of c (c .base) (c .labels) (R .carried),
         own-of (R .own),
         held-of (R .held),
+        R .counts,
       ) refl

@@ -30,9 +30,9 @@ Follows c (r ∷ rs) = (event (r .room) c (r .does) ≡ r .gives) × Follows (r 
 unfoldable pub card : ℕ → List Route → List Tree → List Use → ℕ → Card
 card next routes trees labels last = record { base = 16; next = next; routes = routes; trees = trees; labels = labels; last = last }
 
--- A's root by that route alone
-unfoldable pub by : ℕ → List Route
-by via = record { root = rootIn A; via = via } ∷ []
+-- A's root by that route alone, and its counts
+unfoldable pub by : ℕ → ℕ → ℕ → List Route
+by via standing lone = record { root = rootIn A; via = via; standing = standing; lone = lone } ∷ []
 
 -- A alone, with branches, leaf and label
 unfoldable pub onlyA : List ℕ → Bool → ℕ → List Tree
@@ -57,25 +57,25 @@ row e n w c = record { room = enough; does = e; gives = record { answer = n; oct
 unfoldable pub rows : List Row
 rows =
     -- a route order for a root of no tree
-    row (route (rootIn A) 0) 0 [] (card 1 (by 0) [] (replicate 256 free) 0) ∷
+    row (route (rootIn A) 0) 0 [] (card 1 (by 0 0 0) [] (replicate 256 free) 0) ∷
     -- a Mapping: a new tree, and a label for the upstream
-    row (heard 1 mapping A 100) 0 case1 (card 2 (by 0) (onlyA (branches 100 0) false 16) (first (mapped 0 A)) 16) ∷
+    row (heard 1 mapping A 100) 0 case1 (card 2 (by 0 1 1) (onlyA (branches 100 0) false 16) (first (mapped 0 A)) 16) ∷
     -- a refused one: nothing of the card changes
-    row (heard 1 mapping A 101) 10 [] (card 2 (by 0) (onlyA (branches 100 0) false 16) (first (mapped 0 A)) 16) ∷
+    row (heard 1 mapping A 101) 10 [] (card 2 (by 0 1 1) (onlyA (branches 100 0) false 16) (first (mapped 0 A)) 16) ∷
     -- a Mapping of the last neighbour: one place more
-    row (heard 15 mapping A 200) 0 [] (card 2 (by 0) (onlyA (branches 100 200) false 16) (first (mapped 0 A)) 16) ∷
+    row (heard 15 mapping A 200) 0 [] (card 2 (by 0 1 0) (onlyA (branches 100 200) false 16) (first (mapped 0 A)) 16) ∷
     -- a Withdraw: its branch goes, and no other
-    row (heard 15 withdraw A 200) 0 (wrote 2 15 release 200) (card 3 (by 0) (onlyA (branches 100 0) false 16) (first (mapped 0 A)) 16) ∷
+    row (heard 15 withdraw A 200) 0 (wrote 2 15 release 200) (card 3 (by 0 1 1) (onlyA (branches 100 0) false 16) (first (mapped 0 A)) 16) ∷
     -- a leaf joins
-    row (join A) 0 [] (card 3 (by 0) (onlyA (branches 100 0) true 16) (first (mapped 0 A)) 16) ∷
+    row (join A) 0 [] (card 3 (by 0 1 0) (onlyA (branches 100 0) true 16) (first (mapped 0 A)) 16) ∷
     -- another route: the old label awaits release from whom it was given to, branches and leaf stay
-    row (route (rootIn A) 3) 0 (wrote 3 0 withdraw 16 ++ wrote 4 3 mapping 17) (card 5 (by 3) (onlyA (branches 100 0) true 17) (firstTwo (awaiting 0 A) (mapped 3 A)) 17) ∷
+    row (route (rootIn A) 3) 0 (wrote 3 0 withdraw 16 ++ wrote 4 3 mapping 17) (card 5 (by 3 1 0) (onlyA (branches 100 0) true 17) (firstTwo (awaiting 0 A) (mapped 3 A)) 17) ∷
     -- the leaf leaves
-    row (leave A) 0 [] (card 5 (by 3) (onlyA (branches 100 0) false 17) (firstTwo (awaiting 0 A) (mapped 3 A)) 17) ∷
+    row (leave A) 0 [] (card 5 (by 3 1 1) (onlyA (branches 100 0) false 17) (firstTwo (awaiting 0 A) (mapped 3 A)) 17) ∷
     -- a Release: that label is free
-    row (heard 0 release A 16) 0 [] (card 5 (by 3) (onlyA (branches 100 0) false 17) (firstTwo free (mapped 3 A)) 17) ∷
+    row (heard 0 release A 16) 0 [] (card 5 (by 3 1 1) (onlyA (branches 100 0) false 17) (firstTwo free (mapped 3 A)) 17) ∷
     -- the last branch goes, and the tree; its label awaits
-    row (heard 1 withdraw A 100) 0 (wrote 5 1 release 100 ++ wrote 6 3 withdraw 17) (card 7 (by 3) [] (firstTwo free (awaiting 3 A)) 17) ∷
+    row (heard 1 withdraw A 100) 0 (wrote 5 1 release 100 ++ wrote 6 3 withdraw 17) (card 7 (by 3 0 0) [] (firstTwo free (awaiting 3 A)) 17) ∷
     -- no route: the root's entry goes
     row (route (rootIn A) 17) 0 [] (card 7 [] [] (firstTwo free (awaiting 3 A)) 17) ∷
     []

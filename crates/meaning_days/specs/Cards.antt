@@ -6,6 +6,7 @@ use Rattle.meaning.specs.Octets.{pick, same}
 use Rattle.meaning.specs.Card.{Card, Route, Tree, Use, free, mapped, awaiting}
 use Rattle.meaning.specs.Events.{event}
 use Rattle.meaning.specs.Examples.{Row, agrees}
+use Rattle.meaning.specs.Save.{allWorkedOut}
 
 -- a row of the examples, and every field of the card that its event leaves
 pub record Whole : Type 0 where
@@ -15,11 +16,12 @@ pub record Whole : Type 0 where
 abbrev pub leaves : Row → Card → Whole
 leaves r c = record { row = r; left = c }
 
+-- (request [10]: the counts of a root are those that its trees give)
 abbrev pub card : ℕ → ℕ → ℕ → List Route → List Tree → List Use → Card
-card b n l rs ts us = record { base = b; next = n; routes = rs; trees = ts; labels = us; last = l }
+card b n l rs ts us = record { base = b; next = n; routes = allWorkedOut ts rs; trees = ts; labels = us; last = l }
 
 abbrev pub by : List ℕ → ℕ → Route
-by r v = record { root = r; via = v }
+by r v = record { root = r; via = v; standing = 0; lone = 0 }
 
 abbrev pub tree : List ℕ → List ℕ → Bool → ℕ → Tree
 tree a bs b l = record { name = a; branches = bs; leaf = b; label = l }
@@ -37,7 +39,7 @@ unfoldable pub sameRoutes : List Route → List Route → Bool
 sameRoutes [] [] = true
 sameRoutes [] (s ∷ ss) = false
 sameRoutes (r ∷ rs) [] = false
-sameRoutes (r ∷ rs) (s ∷ ss) = same (r .via ∷ r .root) (s .via ∷ s .root) && sameRoutes rs ss
+sameRoutes (r ∷ rs) (s ∷ ss) = same (r .via ∷ r .standing ∷ r .lone ∷ r .root) (s .via ∷ s .standing ∷ s .lone ∷ s .root) && sameRoutes rs ss
 
 unfoldable pub sameTree : Tree → Tree → Bool
 sameTree t u = same (t .name) (u .name) && same (pick (t .leaf) 1 0 ∷ t .label ∷ t .branches) (pick (u .leaf) 1 0 ∷ u .label ∷ u .branches)
@@ -72,5 +74,5 @@ wrong n c (w ∷ ws) =
     pick (agrees (w .row) out && sameCard (out .card) (w .left)) later here
 
 unfoldable pub comparing : ℕ
-unfolding none at sameRoutes sameTree sameTrees used sameUses sameCard wrong
+unfolding allWorkedOut none at sameRoutes sameTree sameTrees used sameUses sameCard wrong
 comparing = 0

@@ -12,7 +12,7 @@ use Rattle.meaning.specs.Card.{Route, Tree, Use, mapped, awaiting, Card, fresh,
 use Rattle.meaning.specs.Corners.{load}
 use Rattle.meaning.specs.Computing.{computing}
 use Rattle.meaning.specs.Examples.{NoneWrong}
-use Rattle.meaning.specs.Save.{old, new, saved, save, keepsRules, lastRight}
+use Rattle.meaning.specs.Save.{allWorkedOut, old, new, saved, save, keepsRules, lastRight}
 use Rattle.meaning.specs.SaveExample.{computingSaves, headOf, routeA, treeA, treeB, label16, label17, example}
 use Rattle.meaning_saves.specs.NewExample.{headNew, treeNewA, treeNewB, labelNew16, labelNew17, exampleNew}
 use Rattle.meaning.specs.SaveRows.{Row, takes, refuses, right, wrong}
@@ -259,14 +259,14 @@ notOld =
 -- The longest save of the new form: 32 routes of 16-octet roots, 64 trees, and 256 labels, each with a name of 150 octets.
 unfoldable pub manyRoutes : ℕ → List Route
 manyRoutes zero = []
-manyRoutes (suc n) = record { root = replicate 15 32 ++ (suc n ∷ []); via = 0 } ∷ manyRoutes n
+manyRoutes (suc n) = record { root = replicate 15 32 ++ (suc n ∷ []); via = 0; standing = 0; lone = 0 } ∷ manyRoutes n
 
 unfoldable pub usedLong : List Tree → List Use
 usedLong [] = replicate 192 (awaiting 9 (long 128))
 usedLong (t ∷ ts) = mapped 0 (t .name) ∷ usedLong ts
 
 unfoldable pub heaviest : Card
-heaviest = let ts = load 64 0 in withLast 271 (withTrees ts (withLabels (usedLong ts) (withRoutes (manyRoutes 32) (fresh 16))))
+heaviest = let ts = load 64 0 in withLast 271 (withTrees ts (withLabels (usedLong ts) (withRoutes (allWorkedOut ts (manyRoutes 32)) (fresh 16))))
 
 unfoldable pub mostSaved : Bool
 mostSaved =

@@ -12,6 +12,7 @@ use Rattle.meaning.specs.Events.{Out, refuse, accept, roomShort, noNeighbour, h
 use Rattle.meaning.specs.Save.{Form, saved, save, ruled, isSave, restore, fitsSave}
 use Rattle.meaning.specs.Notice.{noticeDue, noticeRecord, notice}
 use Rattle.meaning.specs.Lists.{picked}
+use Rattle.meaning.specs.Counts.{Counted, counted-same}
 use Rattle.meaning.specs.NoticeLaws.{spread, record-spread}
 use Rattle.promise.specs.Promise.{Given, noteSent, noteAll, Step, Past, thenStep, begun, Promise}
 use Rattle.promise.specs.LabelLaws.{spent-eq}
@@ -81,7 +82,7 @@ unfolding renumbered withNext treeOf treePlace useOf freeLabels
 renumbered-upheld id p u = record {
   sound = record { tidy = u .sound .tidy; low = u .sound .low; high = u .sound .high; many = u .sound .many; linked = u .sound .linked; books = u .sound .books; sum = u .sound .sum; last = spent-eq (p .card) _ refl refl (λ e. e) (u .sound .last) };
   reads = u .reads;
-  ruled = unfold treeAt heldFor holderOf routeOf routePlace in record { roots = u .ruled .roots; full = u .ruled .full; held = u .ruled .held; trees = u .ruled .trees; routes = u .ruled .routes };
+  ruled = unfold treeAt heldFor holderOf routeOf routePlace in record { roots = u .ruled .roots; full = u .ruled .full; held = u .ruled .held; trees = u .ruled .trees; routes = u .ruled .routes; counts = λ q. counted-same (p .card) _ refl refl q (u .ruled .counts q) };
   routed = λ q. unfold routeOf routePlace in u .routed q;
 }
 
@@ -151,3 +152,7 @@ deeds-upheld p (d ∷ ds) u w k = deeds-upheld (thenDeed p d) ds (deed-upheld p 
 -- DEMAND 3, after all that is done with a card that was started.
 pub deeds-kept : (base : ℕ) (ds : List Deed) → Claimed (begun base) ds → Promise (thenDeeds (begun base) ds)
 deeds-kept base ds k = kept _ (deeds-upheld _ ds (started base) (start-writable base) k)
+
+-- And the counts of every root are true, swaps included.
+pub deeds-counted : (base : ℕ) (ds : List Deed) → Claimed (begun base) ds → (r : List ℕ) → Counted r (thenDeeds (begun base) ds .card)
+deeds-counted base ds k r = deeds-upheld _ ds (started base) (start-writable base) k .ruled .counts r

@@ -1,6 +1,6 @@
 -- Every event keeps the table sound, and makes of each tree what it says.
 -- Assumes nothing.
-use Prim.Native.Nat.{ℕ, zero, suc, _-_, _≤_, _<_, suc-le-suc}
+use Prim.Native.Nat.{ℕ, zero, suc, _+_, _-_, _≤_, _<_, suc-le-suc}
 use native.Mathlib.Omega.{arith}
 use mathlib.Core.Path.{_≡_, refl, sym, ap, ap₂, _∙_, subst}
 use mathlib.Core.Bool.{Bool, true, false}
@@ -10,16 +10,18 @@ use lib.Dec.{eqb, ltb}
 use borrow.Author.Tests.{eqb-true, eqb-false, eq-eqb, ne-eqb, ltb-true, ltb-false, leb-false, not-false}
 use Rattle.meaning.specs.Octets.{pick, place, same, put}
 use Rattle.meaning.specs.Wire.{isKind, mapping, withdraw, release, Message, messageIn, elementRefusal, Sent}
-use Rattle.meaning.specs.Card.{Tree, Use, free, mapped, awaiting, Card, nobody, withRoutes, withTrees, withLabels, withBranch, withLeaf, treeLimit, named, bare, treePlace, treeOf, treeAt, stands, isEmpty, isFree, isAwaiting, mappedTo, useOf, heldFor, freeLabels, routeOf}
-use Rattle.meaning.specs.Events.{Outcome, refused, taken, unless, Moved, tell, setUse, relabel, need, labelsShort, upstream, holderOf, entered, swept, treesFull, treeRefusal, enter, become, branch, otherLabel, onMapping, lessBranch, onWithdraw, notAwaited, onRelease, onMessage, noNeighbour, onOctets, onJoin, onLeave, moveAll, needAll, routesWith, routeRefusal, reRoute, onRoute, Event, receive, join, leave, route, outcome, part, onLost, lost}
+use Rattle.meaning.specs.Card.{Tree, Use, free, mapped, awaiting, Card, nobody, withRoutes, withTrees, withLabels, withBranch, withLeaf, treeLimit, named, bare, treePlace, treeOf, treeAt, stands, isEmpty, isFree, isAwaiting, mappedTo, useOf, heldFor, freeLabels, routeOf, Route, noEntry, routePlace}
+use Rattle.meaning.specs.Events.{Outcome, refused, taken, unless, Moved, tell, setUse, relabel, need, labelsShort, upstream, holderOf, entered, swept, treesFull, treeRefusal, enter, become, branch, otherLabel, onMapping, lessBranch, onWithdraw, notAwaited, onRelease, onMessage, noNeighbour, onOctets, onJoin, onLeave, moveAll, needAll, routesWith, routeRefusal, reRoute, onRoute, Event, receive, join, leave, route, outcome, part, onLost, lost, total, inRoot, workedOut, entryOf, recounted}
 use Rattle.promise.specs.Promise.{Given, remove, noteSent, noteAll, noteTaken, NoneLive, AllMapped, useBut, Untouched, without}
 use Rattle.meaning.specs.Lists.{by-test, picked, same-eq, count-new, no-when}
 use Rattle.meaning.specs.RoundTrip.{Heard, heard, AllSendable, sendable-append}
+use Rattle.meaning.specs.Counts.{plains, plain-length, plain-count, recount-plain, counted-same, enough-labels}
+use Rattle.promise.specs.CountLaws.{Tally, found, same-shapes, with-another, one-true, counted-of}
 use Rattle.promise.specs.LiveLaws.{linked-eq, upd, free-linked, books-eq, books-remove, books-removed}
 use Rattle.promise.specs.CardLaws.{use-after, in-block, shape, Proper, tree-name, tree-sized, entered-is, entered-tidy, put-within, swept-use, swept-routes, untouched-then, entered-untouched, swept-untouched, used-untouched}
 use Rattle.promise.specs.RuleLaws.{empty-asked, Ruled, shape-empty, holder-same, route-ruled, put-in, put-more, cut-in, put-other-at, swept-at}
 use Rattle.promise.specs.LabelLaws.{shape-name, own-awaiting, holder-near, at-other, held-other, relabel-own, Sound, Fine, relabel-fine, relabel-none, none-append, mapped-append, note-append, Kept, all-kept, use-place, spent-eq}
-use Rattle.promise.specs.LossLaws.{one-swept-tree, one-swept-sound, loss-kept, loss-swept, loss-shapes, loss-ruled}
+use Rattle.promise.specs.LossLaws.{one-swept-tree, one-swept-sound, loss-kept, loss-swept, loss-shapes, loss-ruled, swept-total}
 
 -- ---- what an event that is taken makes of the tree named a
 
@@ -98,6 +100,19 @@ upstream-near via =
 with-near : (c : Card) (t : Tree) → eqb (holderOf c t) nobody ≡ false → holderOf c t < 16
 unfolding holderOf
 with-near c t = holder-near _ t (upstream-near _)
+
+-- nothing of this depends on the routes
+routes-sound : (c : Card) (gs : List Given) → Sound c gs → (rs : List Route) → Sound (withRoutes rs c) gs
+routes-sound c gs S rs = record {
+  tidy = unfold withRoutes in S .tidy;
+  low = unfold withRoutes in S .low;
+  high = unfold withRoutes in S .high;
+  many = unfold withRoutes in S .many;
+  linked = unfold withRoutes treeOf treePlace useOf in S .linked;
+  books = unfold withRoutes useOf in S .books;
+  sum = unfold withRoutes freeLabels in S .sum;
+  last = spent-eq c (withRoutes rs c) (unfold withRoutes in refl) (unfold withRoutes in refl) (λ e. unfold withRoutes freeLabels in e) (S .last);
+}
 
 -- ---- one tree's event
 
@@ -219,7 +234,7 @@ module _ (c : Card) (gs : List Given) (S : Sound c gs) (a : List ℕ) (good : el
     here-held =
         let own : heldFor (relabelled .card) (treeAt its-place (relabelled .card)) ≡ holderOf c its = unfold relabelled in relabel-own (entered c its) gs entered-sound its-place its-within (holderOf c its) (with-near c its) entered-enough in
         own
-        ∙ holder-same c end its (treeAt its-place (relabelled .card)) (sym end-routes) (sym (fine .at its-place ∙ ap shape its-at))
+        ∙ holder-same c end its (treeAt its-place (relabelled .card)) (ap plains (sym end-routes)) (sym (fine .at its-place ∙ ap shape its-at))
 
     -- the trees are no more than before, but for one that is new
     size-after : length (relabelled .card .trees) ≡ length (put (c .trees) its-place its)
@@ -237,20 +252,57 @@ module _ (c : Card) (gs : List Given) (S : Sound c gs) (a : List ℕ) (good : el
         (λ k. rw (put-in (c .trees) its-place its (ltb-true _ _ k)) few)
         (λ k. let left = leb-false treeLimit (length (c .trees)) (rw (e, k) at full) in omega arith))))
 
-    ruled-after : treesFull c its ≡ false → Ruled c → Ruled (swept its-place (relabelled .card))
+    end-full : Ruled c → (j : ℕ) → j < length (end .trees) → isEmpty (treeAt j end) ≡ false
+    end-full R j h =
+        let r = swept-at (relabelled .card) its-place j h in
+        rw (r .2) (by-test (eqb its-place (r .0))
+        (λ e. r .3 (eqb-true _ _ e))
+        (λ e. let o = else-at (r .0) (r .1) (eqb-false _ _ e) in rw (o .1) (R .full (r .0) (o .0))))
+
+    end-right : Ruled c → (j : ℕ) → j < length (end .trees) → heldFor end (treeAt j end) ≡ holderOf end (treeAt j end)
+    end-right R j h =
+        let r = swept-at (relabelled .card) its-place j h in
+        rw (r .2) (end-held (treeAt (r .0) (relabelled .card)) ∙ by-test (eqb its-place (r .0))
+        (λ e. subst (λ (k : ℕ). heldFor (relabelled .card) (treeAt k (relabelled .card)) ≡ holderOf end (treeAt k (relabelled .card))) (eqb-true its-place (r .0) e) here-held)
+        (λ e. let o = else-at (r .0) (r .1) (eqb-false _ _ e) in
+        rw (o .1) (o .2 ∙ R .held (r .0) (o .0) ∙ holder-same c end (treeAt (r .0) c) (treeAt (r .0) c) (ap plains (sym end-routes)) refl)))
+
+    -- and the tree is counted as it is now
+    abbrev final : Card
+    final = recounted (treeOf (its .name) c) its end
+
+    final-plain : plains (final .routes) ≡ plains (c .routes)
+    unfolding recounted withRoutes
+    final-plain = recount-plain (treeOf (its .name) c) its (end .routes) ∙ ap plains end-routes
+
+    final-right : Ruled c → (j : ℕ) → j < length (final .trees) → heldFor final (treeAt j final) ≡ holderOf final (treeAt j final)
+    final-right R j h = held ∙ end-right R j (unfold recounted withRoutes in h) ∙ holder-same end final (treeAt j end) (treeAt j final) (ap plains end-routes ∙ sym final-plain) (ap shape at)
+      where
+        at : treeAt j end ≡ treeAt j final
+        at = unfold recounted withRoutes treeAt in refl
+
+        held : heldFor final (treeAt j final) ≡ heldFor end (treeAt j end)
+        held = unfold recounted withRoutes treeAt heldFor useOf in refl
+
+    end-total : (get : Route → ℕ) (w : Tree → ℕ) → Tally get w → (q : List ℕ) → total (inRoot q w) (end .trees) + inRoot q w (treeOf (its .name) c) ≡ total (inRoot q w) (c .trees) + inRoot q w its
+    end-total get w T q =
+        ap (λ (k : ℕ). k + inRoot q w (treeOf (its .name) c)) (swept-total (relabelled .card) its-place get w T q ∙ same-shapes get w T q (relabelled .card .trees) (entered c its .trees) (fine .size) (unfold treeAt in fine .at))
+        ∙ unfold treeOf entered withTrees treePlace in with-another get w T q (named (its .name)) (c .trees) its (its .name)
+
+    final-true : Ruled c → (get : Route → ℕ) (w : Tree → ℕ) → Tally get w → (q : List ℕ) → get (found q (workedOut (final .trees) (noEntry q)) (final .routes)) ≡ total (inRoot q w) (final .trees)
+    unfolding recounted withRoutes entryOf routePlace
+    final-true R get w T q =
+        let now : get (entryOf q c) ≡ total (inRoot q w) (c .trees) = T .counted c q (R .counts q) in
+        rw end-routes (one-true get w T (treeOf (its .name) c) its (c .routes) q (c .trees) (end .trees) (tree-name (its .name) c) (R .trees) (end-total get w T) now)
+
+    ruled-after : treesFull c its ≡ false → Ruled c → Ruled final
     ruled-after full R = record {
-      trees = few-after full (R .trees);
-      routes = rw end-routes (R .routes);
-      roots = λ r. rw end-routes (R .roots r);
-      full = λ j h. let r = swept-at (relabelled .card) its-place j h in
-          rw (r .2) (by-test (eqb its-place (r .0))
-          (λ e. r .3 (eqb-true _ _ e))
-          (λ e. let o = else-at (r .0) (r .1) (eqb-false _ _ e) in rw (o .1) (R .full (r .0) (o .0))));
-      held = λ j h. let r = swept-at (relabelled .card) its-place j h in
-          rw (r .2) (end-held (treeAt (r .0) (relabelled .card)) ∙ by-test (eqb its-place (r .0))
-          (λ e. subst (λ (k : ℕ). heldFor (relabelled .card) (treeAt k (relabelled .card)) ≡ holderOf end (treeAt k (relabelled .card))) (eqb-true its-place (r .0) e) here-held)
-          (λ e. let o = else-at (r .0) (r .1) (eqb-false _ _ e) in
-          rw (o .1) (o .2 ∙ R .held (r .0) (o .0) ∙ holder-same c end (treeAt (r .0) c) (treeAt (r .0) c) (sym end-routes) refl)));
+      trees = unfold recounted withRoutes in few-after full (R .trees);
+      routes = rw (plain-length (final .routes) (c .routes) final-plain) (R .routes);
+      roots = λ r. rw (plain-count (final .routes) (c .routes) final-plain r) (R .roots r);
+      full = unfold recounted withRoutes treeAt in end-full R;
+      held = final-right R;
+      counts = counted-of final (final-true R);
     }
 
     -- the place is that of a, from its entry to its sweep
@@ -264,17 +316,20 @@ module _ (c : Card) (gs : List Given) (S : Sound c gs) (a : List ℕ) (good : el
         (subst (λ (x : List ℕ). Untouched x (entered c its) (relabelled .card)) start-name (fine .apart)))
         (subst (λ (x : List ℕ). Untouched x (relabelled .card) end) end-name (swept-untouched (relabelled .card) its-place))
 
-    entered-follows : treesFull c its ≡ false → (first : List Sent) → Quiet gs first → Follows c gs (onlyFor a f) (Untouched a c) (first ++ relabelled .sent) (swept its-place (relabelled .card))
+    entered-follows : treesFull c its ≡ false → (first : List Sent) → Quiet gs first → Follows c gs (onlyFor a f) (Untouched a c) (first ++ relabelled .sent) final
     unfolding Quiet
     entered-follows full first q = record {
-      sound = rw (note-append first (relabelled .sent) gs, q .0) swept-sound;
+      sound = rw (note-append first (relabelled .sent) gs, q .0) (unfold recounted in routes-sound end _ swept-sound _);
       fair = none-append first (relabelled .sent) gs (q .1) (rw (q .0) (fine .fair));
       ends = mapped-append first (relabelled .sent) gs (q .3) (rw (q .0) (fine .ends));
       said = sendable-append first (relabelled .sent) (q .2) (fine .said);
-      shapes = λ b. ap shape (swept-tree b) ∙ fine .shapes b ∙ ap shape (entered-tree b);
-      apart = all-apart;
+      shapes = λ b. ap shape (final-tree b ∙ swept-tree b) ∙ fine .shapes b ∙ ap shape (entered-tree b);
+      apart = record { trees = unfold recounted withRoutes in all-apart .trees; uses = unfold recounted withRoutes useOf in all-apart .uses };
       ruled = ruled-after full;
     }
+      where
+        final-tree : (b : List ℕ) → treeOf b final ≡ treeOf b end
+        final-tree b = unfold recounted withRoutes treeOf treePlace in refl
 
   pub enter-keeps : (first : List Sent) → Quiet gs first → treeRefusal c (f (treeOf a c)) ≡ 0 → Keeps c gs (onlyFor a f) (Untouched a c) (enter c first (f (treeOf a c)))
   unfolding treeRefusal labelsShort its enter Keeps relabelled its-place
@@ -362,7 +417,8 @@ module _ (c : Card) (gs : List Given) (S : Sound c gs) where
     trees = unfold setUse withLabels in R .trees;
     routes = unfold setUse withLabels in R .routes;
     full = unfold setUse withLabels treeAt in R .full;
-    held = λ j h. ap (heldFor (setUse l free c)) (freed-at j) ∙ freed-held n a l w j (unfold setUse withLabels in h) ∙ R .held j (unfold setUse withLabels in h) ∙ holder-same c (setUse l free c) (treeAt j c) (treeAt j (setUse l free c)) (unfold setUse withLabels in refl) (ap shape (sym (freed-at j)));
+    counts = λ q. counted-same c (setUse l free c) (unfold setUse withLabels in refl) (unfold setUse withLabels in refl) q (R .counts q);
+    held = λ j h. ap (heldFor (setUse l free c)) (freed-at j) ∙ freed-held n a l w j (unfold setUse withLabels in h) ∙ R .held j (unfold setUse withLabels in h) ∙ holder-same c (setUse l free c) (treeAt j c) (treeAt j (setUse l free c)) (ap plains (unfold setUse withLabels in refl)) (ap shape (sym (freed-at j)));
   }
     where
       freed-at : (j : ℕ) → treeAt j (setUse l free c) ≡ treeAt j c
@@ -413,16 +469,7 @@ module _ (c : Card) (gs : List Given) (S : Sound c gs) where
 
   routed : (r : List ℕ) (via : ℕ) (m : Moved) → Kept c gs m → (Ruled c → Ruled (withRoutes (routesWith c r via) (m .card))) → Follows c gs (λ b x. x) (λ _. Unit {0}) (m .sent) (withRoutes (routesWith c r via) (m .card))
   routed r via m k rl = record {
-    sound = record {
-      tidy = unfold withRoutes in k .sound .tidy;
-      low = unfold withRoutes in k .sound .low;
-      high = unfold withRoutes in k .sound .high;
-      many = unfold withRoutes in k .sound .many;
-      linked = unfold withRoutes treeOf treePlace useOf in k .sound .linked;
-      books = unfold withRoutes useOf in k .sound .books;
-      sum = unfold withRoutes freeLabels in k .sound .sum;
-      last = spent-eq (m .card) (withRoutes (routesWith c r via) (m .card)) (unfold withRoutes in refl) (unfold withRoutes in refl) (λ e. unfold withRoutes freeLabels in e) (k .sound .last);
-    };
+    sound = routes-sound (m .card) _ (k .sound) (routesWith c r via);
     fair = k .fair;
     ends = k .ends;
     said = k .said;
@@ -432,10 +479,10 @@ module _ (c : Card) (gs : List Given) (S : Sound c gs) where
   }
 
   moved-keeps : (r : List ℕ) (via : ℕ) → routeRefusal c r via ≡ 0 → Keeps c gs (λ b x. x) (λ _. Unit {0}) (reRoute c r via)
-  unfolding reRoute Keeps routeRefusal labelsShort
+  unfolding reRoute Keeps routeRefusal
   moved-keeps r via e =
       let full = no-when 14 _ _ e in
-      let enough : needAll r (upstream via) c ≤ freeLabels c = ltb-false _ _ (no-when 11 _ 0 (full .1) .0) in
+      let enough : needAll r (upstream via) c ≤ freeLabels c = enough-labels c r via e in
       routed r via (moveAll r (upstream via) c) (all-kept r (upstream via) (upstream-near via) c gs S enough) (λ R. route-ruled c gs S R r via (upstream-near via) enough (full .0))
 
   route-keeps : (r : List ℕ) (via : ℕ) → Keeps c gs (λ b x. x) (λ _. Unit {0}) (onRoute c r via)

@@ -1,6 +1,7 @@
 pub mod Promise
 pub mod LiveLaws
 pub mod CardLaws
+pub mod CountLaws
 pub mod LabelLaws
 pub mod RuleLaws
 pub mod PartedLaws
@@ -9,6 +10,7 @@ pub mod EventLaws
 pub mod RouteLaws
 pub mod PromiseProof
 pub mod RulesKept
+pub mod CountsKept
 pub mod Sizes
 pub mod NoWayBack
 pub mod LossKept

@@ -153,7 +153,7 @@ lost-gone c n near = record {
   so = refl;
   silent = shed-all-silent n near (length (c .trees)) 0 (parted n c) (parted-none n c);
   labels = swept-none n (length (c .trees)) _ (shed-all-none n (length (c .trees)) 0 (parted n c) (parted-none n c));
-  routes = rw (part-routes n c) (unfold parted withTrees withLabels withRoutes in routes-none n (c .routes));
+  routes = rw (part-routes n c) (unfold parted withTrees withLabels withRoutes in routes-none n _);
 }
 
 -- After any history, no tree has a branch of n.

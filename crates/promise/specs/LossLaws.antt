@@ -11,8 +11,8 @@ use lib.Dec.{eqb, ltb}
 use borrow.Author.Tests.{eqb-true, eqb-false, ne-eqb, ltb-false}
 use Rattle.meaning.specs.Octets.{pick, any, cut}
 use Rattle.meaning.specs.Wire.{rootIn}
-use Rattle.meaning.specs.Card.{Tree, Card, noRoute, withRoutes, withTrees, withLabels, withBranch, withLabel, routeOf, bare, treeOf, treeAt, isBranch, isEmpty, notHeld, leadsOn, mappedTo, heldFor, freeLabels}
-use Rattle.meaning.specs.Events.{Moved, still, followedBy, letGo, upstream, holder, holderOf, swept, treeWithout, parted, shed, shedFrom, sweptBelow}
+use Rattle.meaning.specs.Card.{Tree, Card, noRoute, withRoutes, withTrees, withLabels, withBranch, withLabel, routeOf, bare, treeOf, treeAt, isBranch, isEmpty, notHeld, leadsOn, mappedTo, heldFor, freeLabels, Route, noEntry}
+use Rattle.meaning.specs.Events.{Moved, still, followedBy, letGo, upstream, holder, holderOf, swept, treeWithout, parted, shed, shedFrom, sweptBelow, total, inRoot, workedOut, recountedWithout, treesWithout}
 use Rattle.meaning.specs.Lists.{by-test, picked}
 use Rattle.meaning.specs.RoundTrip.{AllSendable}
 use Rattle.meaning.specs.Losses.{without-name, parted-held, parted-tree, parted-at, parted-size}
@@ -20,7 +20,9 @@ use Rattle.promise.specs.Promise.{Given, noteAll, NoneLive, AllMapped, w
 use Rattle.promise.specs.LiveLaws.{linked-eq, books-eq}
 use Rattle.promise.specs.CardLaws.{shape, swept-is, swept-tidy, swept-use, swept-labels, swept-base, swept-last, swept-routes}
 use Rattle.promise.specs.LabelLaws.{Sound, spent-eq, Fine, Kept, still-fine, let-go-fine, let-go-none, none-held, held-none, then-kept, at-other, held-other}
-use Rattle.promise.specs.RuleLaws.{Ruled, holder-same, shape-empty, empty-leads, any-set-two, neither, cut-in, swept-at}
+use Rattle.meaning.specs.Counts.{empty-leads, plains, plain-length, plain-count, without-plain}
+use Rattle.promise.specs.CountLaws.{Tally, found, same-shapes, without-empty, lost-true, counted-of}
+use Rattle.promise.specs.RuleLaws.{Ruled, holder-same, shape-empty, any-set-two, neither, cut-in, swept-at}
 use Rattle.promise.specs.PartedLaws.{parted-sound, parted-route, routes-fewer, roots-fewer, without-shape}
 
 -- ---- one tree
@@ -125,7 +127,7 @@ swept-held : (c : Card) (i : ℕ) → Held c → Held (swept i c)
 unfolding Held
 swept-held c i H j h =
     let r = swept-at c i j h in
-    rw (r .2) (same-held (treeAt (r .0) c) ∙ H (r .0) (r .1) ∙ holder-same c (swept i c) (treeAt (r .0) c) (treeAt (r .0) c) (sym (swept-routes c i)) refl)
+    rw (r .2) (same-held (treeAt (r .0) c) ∙ H (r .0) (r .1) ∙ holder-same c (swept i c) (treeAt (r .0) c) (treeAt (r .0) c) (ap plains (sym (swept-routes c i))) refl)
   where
     same-held : (t : Tree) → heldFor (swept i c) t ≡ heldFor c t
     same-held t = unfold heldFor in ap mappedTo (swept-use c i (t .label))
@@ -173,10 +175,16 @@ pub record Swept (c : Card) (gs : List Given) (d : Card) : Type 0 where
   pub full : FullFrom 0 d
   pub routes : d .routes ≡ c .routes
   pub size : length (d .trees) ≤ length (c .trees)
+  -- an empty tree counts nothing
+  pub totals : (get : Route → ℕ) (w : Tree → ℕ) → Tally get w → (q : List ℕ) → total (inRoot q w) (d .trees) ≡ total (inRoot q w) (c .trees)
+
+pub swept-total : (c : Card) (i : ℕ) (get : Route → ℕ) (w : Tree → ℕ) → Tally get w → (q : List ℕ) → total (inRoot q w) (swept i c .trees) ≡ total (inRoot q w) (c .trees)
+unfolding swept withTrees treeAt
+swept-total c i get w T q = picked (λ (x : Card). total (inRoot q w) (x .trees) ≡ total (inRoot q w) (c .trees)) (isEmpty (treeAt i c)) (without-empty get w T q (c .trees) i) (λ _. refl)
 
 pub sweep : (n : ℕ) (c : Card) (gs : List Given) → Sound c gs → Loose c → n ≤ length (c .trees) → FullFrom n c → Swept c gs (sweptBelow n c)
 unfolding sweptBelow
-sweep zero c gs S L h F = record { sound = S; trees = λ b. refl; held = λ H. H; full = F; routes = refl; size = le-refl _ }
+sweep zero c gs S L h F = record { sound = S; trees = λ b. refl; held = λ H. H; full = F; routes = refl; size = le-refl _; totals = λ get w T q. refl }
 sweep (suc n) c gs S L h F =
     let none : isEmpty (treeAt n c) ≡ true → treeAt n c .label ≡ 0 = bare-of c L n h in
     let size = swept-size c n h in
@@ -188,6 +196,7 @@ sweep (suc n) c gs S L h F =
       full = r .full;
       routes = r .routes ∙ swept-routes c n;
       size = le-trans (r .size) (size .1);
+      totals = λ get w T q. r .totals get w T q ∙ swept-total c n get w T q;
     }
 
 -- ---- the rule of labels without n
@@ -244,7 +253,7 @@ module _ (n : ℕ) (near : n < 16) (c : Card) (gs : List Given) (S : Sound c gs)
       ∙ ap (λ (x : ℕ). holder x (treeWithout n c t)) (sym (parted-held n c t (S .linked .zero-free))))
     where
       now : (t : Tree) → holderOf (parted n c) (treeWithout n c t) ≡ holder (upstream (pick (eqb (routeOf (rootIn (t .name)) c) n) noRoute (routeOf (rootIn (t .name)) c))) (treeWithout n c t)
-      now t = unfold holderOf in ap (λ (x : ℕ). holder (upstream x) (treeWithout n c t)) (ap (λ (a : List ℕ). routeOf (rootIn a) (parted n c)) (without-name n c t) ∙ parted-route n near c (rootIn (t .name)) (R .roots (rootIn (t .name))))
+      now t = unfold holderOf in ap (λ (x : ℕ). holder (upstream x) (treeWithout n c t)) (ap (λ (a : List ℕ). routeOf (rootIn a) (parted n c)) (without-name n c t) ∙ parted-route n c (rootIn (t .name)) (R .roots (rootIn (t .name))))
 
 -- ---- the loss
 
@@ -287,14 +296,28 @@ module _ (n : ℕ) (c : Card) (gs : List Given) (S : Sound c gs) where
 
   pub loss-ruled : n < 16 → Ruled c → Ruled ending
   loss-ruled near R = record {
-    roots = λ r. rw loss-routes (unfold parted withRoutes withTrees withLabels in le-trans (roots-fewer n r (c .routes)) (R .roots r));
+    roots = λ r. rw loss-routes (unfold parted withRoutes withTrees withLabels in le-trans (roots-fewer n r _) (rw (plain-count counted (c .routes) but r) (R .roots r)));
     full = full-of ending (loss-swept .full);
     held = unfold Held in loss-swept .held (unfold Held in holding);
     trees = le-trans (loss-swept .size) (rw loss-size (R .trees));
-    routes = rw loss-routes (unfold parted withRoutes withTrees withLabels in le-trans (routes-fewer n (c .routes)) (R .routes));
+    routes = rw loss-routes (unfold parted withRoutes withTrees withLabels in le-trans (routes-fewer n _) (rw (plain-length counted (c .routes) but) (R .routes)));
+    counts = counted-of ending true-now;
   }
     where
+      counted : List Route
+      counted = recountedWithout n (c .trees) (c .routes)
+
+      but : plains counted ≡ plains (c .routes)
+      but = without-plain n (c .trees) (c .routes)
+
+      -- each tree counts what it counts without n's branch, and those that go count nothing
+      now-total : (get : Route → ℕ) (w : Tree → ℕ) → Tally get w → (q : List ℕ) → total (inRoot q w) (ending .trees) ≡ total (inRoot q w) (treesWithout n c (c .trees))
+      now-total get w T q = loss-swept .totals get w T q ∙ same-shapes get w T q (shedding .card .trees) (parted n c .trees) (loss-kept .size) (unfold treeAt in loss-kept .at) ∙ unfold parted withRoutes withTrees withLabels in refl
+
+      true-now : (get : Route → ℕ) (w : Tree → ℕ) → Tally get w → (q : List ℕ) → get (found q (workedOut (ending .trees) (noEntry q)) (ending .routes)) ≡ total (inRoot q w) (ending .trees)
+      true-now get w T q = rw loss-routes (unfold parted withRoutes withTrees withLabels in lost-true get w T n c q (ending .trees) (R .roots q) (R .trees) (now-total get w T q) (T .counted c q (R .counts q)))
+
       holding : (j : ℕ) → j < length (shedding .card .trees) → heldFor (shedding .card) (treeAt j (shedding .card)) ≡ holderOf (shedding .card) (treeAt j (shedding .card))
       holding j h =
           let k : j < length (c .trees) = subst (λ (x : ℕ). j < x) loss-size h in
-          loss-held j k ∙ sym (parted-asked n near c gs S R j k) ∙ holder-same (parted n c) (shedding .card) (treeAt j (parted n c)) (treeAt j (shedding .card)) (sym (loss-kept .routes)) (sym (loss-kept .at j))
+          loss-held j k ∙ sym (parted-asked n near c gs S R j k) ∙ holder-same (parted n c) (shedding .card) (treeAt j (parted n c)) (treeAt j (shedding .card)) (ap plains (sym (loss-kept .routes))) (sym (loss-kept .at j))

@@ -4,17 +4,18 @@ use Prim.Native.Nat.{ℕ, suc, _+_, _-_, _≤_, _<_, zero-le}
 use native.Mathlib.Nat.{le-of-suc-le-suc, le-refl, le-trans}
 use native.Mathlib.Omega.{arith}
 use mathlib.Core.Path.{_≡_, refl, sym, ap, _∙_, subst}
-use mathlib.Core.Bool.{true, false}
+use mathlib.Core.Bool.{Bool, true, false}
 use mathlib.Core.List.{List, [], _∷_}
 use lib.ListN.{getD, length}
 use lib.Dec.{eqb, leb}
 use borrow.Author.Tests.{eqb-true, eqb-false, eq-eqb, ne-eqb, le-leb, lt-leb, leb-true, leb-false}
 use Rattle.meaning.specs.Octets.{pick, place, count}
 use Rattle.meaning.specs.Wire.{elementRefusal}
-use Rattle.meaning.specs.Card.{Tree, Route, Use, free, mapped, awaiting, Card, noRoute, withRoutes, withTrees, withLabels, withBranch, withLabel, isFor, routePlace, routeOf, treeOf, isFree, mappedTo, useOf, heldFor, freeLabels}
-use Rattle.meaning.specs.Events.{isOf, freedOf, treeWithout, treesWithout, routesWithout, parted}
+use Rattle.meaning.specs.Card.{Tree, Route, Use, free, mapped, awaiting, Card, noRoute, noEntry, withRoutes, withTrees, withLabels, withBranch, withLabel, isFor, routePlace, routeOf, treeOf, isFree, mappedTo, useOf, heldFor, freeLabels}
+use Rattle.meaning.specs.Events.{isOf, freedOf, treeWithout, treesWithout, recountedWithout, routesWithout, parted}
 use Rattle.meaning.specs.Lists.{by-test, picked, found-none}
 use Rattle.meaning.specs.Losses.{freed-free, uses-length, parted-use, without-name, without-size, trees-count, parted-tree}
+use Rattle.meaning.specs.Counts.{plains, plain-count, plain-route, without-plain}
 use Rattle.promise.specs.Promise.{Given, ofLabel, without}
 use Rattle.promise.specs.LiveLaws.{isMapped, stray, Linked, linked-eq, only, givens, Books, books-eq}
 use Rattle.promise.specs.CardLaws.{shape, Proper, AllProper, Tidy}
@@ -234,22 +235,32 @@ module _ (n : ℕ) where
       (λ e. rw e (le-trans rest (picked (λ (k : ℕ). count (isFor q) rs ≤ k) (isFor q r) (λ _. omega arith) (λ _. omega arith))))
       (λ e. rw e (by-test (isFor q r) (λ k. rw k (omega arith)) (λ k. rw k rest)))
 
-  -- a root's route without n
-  route-found : n < 16 → (q : List ℕ) (rs : List Route) → count (isFor q) rs ≤ 1
-      → getD (routesWithout n rs) (place (isFor q) (routesWithout n rs)) (record { root = q; via = noRoute }) .via
-      ≡ pick (eqb (getD rs (place (isFor q) rs) (record { root = q; via = noRoute }) .via) n) noRoute (getD rs (place (isFor q) rs) (record { root = q; via = noRoute }) .via)
+  -- a root's entry without n; where there is none, d
+  pub route-found : (q : List ℕ) (d : Route) (rs : List Route) → count (isFor q) rs ≤ 1
+      → getD (routesWithout n rs) (place (isFor q) (routesWithout n rs)) d ≡ pick (eqb (getD rs (place (isFor q) rs) d .via) n) d (getD rs (place (isFor q) rs) d)
   unfolding routesWithout place count
-  route-found near q [] once = picked (λ (x : ℕ). 17 ≡ x) (eqb 17 n) (λ _. refl) (λ _. refl)
-  route-found near q (r ∷ rs) once =
+  route-found q d [] once = picked (λ (x : Route). d ≡ x) (eqb (d .via) n) (λ _. refl) (λ _. refl)
+  route-found q d (r ∷ rs) once =
       by-test (isFor q r)
       (λ f. let none : count (isFor q) rs ≤ 0 = le-of-suc-le-suc (rw f at once) in
       by-test (eqb (r .via) n)
-      (λ e. rw (f, e) (ap (λ (x : Route). x .via) (found-none (isFor q) (routesWithout n rs) (record { root = q; via = noRoute }) (le-trans (roots-fewer q rs) none))))
+      (λ e. rw (f, e) (found-none (isFor q) (routesWithout n rs) d (le-trans (roots-fewer q rs) none)))
       (λ e. rw (f, e) (rw f refl)))
       (λ f. by-test (eqb (r .via) n)
-      (λ e. rw (f, e) (route-found near q rs (rw f at once)))
-      (λ e. rw (f, e) (rw f (route-found near q rs (rw f at once)))))
+      (λ e. rw (f, e) (route-found q d rs (rw f at once)))
+      (λ e. rw (f, e) (rw f (route-found q d rs (rw f at once)))))
 
-  pub parted-route : n < 16 → (c : Card) (q : List ℕ) → count (isFor q) (c .routes) ≤ 1 → routeOf q (parted n c) ≡ pick (eqb (routeOf q c) n) noRoute (routeOf q c)
+  -- its routes are those of c without n, but for the counts
+  pub parted-route : (c : Card) (q : List ℕ) → count (isFor q) (c .routes) ≤ 1 → routeOf q (parted n c) ≡ pick (eqb (routeOf q c) n) noRoute (routeOf q c)
   unfolding routeOf routePlace parted withRoutes withTrees withLabels
-  parted-route near c q once = route-found near q (c .routes) once
+  parted-route c q once =
+      let rs : List Route = recountedWithout n (c .trees) (c .routes) in
+      let but : plains rs ≡ plains (c .routes) = without-plain n (c .trees) (c .routes) in
+      let via-same : routeOf q (withRoutes rs c) ≡ routeOf q c = plain-route (withRoutes rs c) c (unfold withRoutes in but) q in
+      ap (λ (x : Route). x .via) (route-found q (noEntry q) rs (rw (plain-count rs (c .routes) but q) once))
+      ∙ either (eqb (routeOf q (withRoutes rs c)) n) (getD rs (place (isFor q) rs) (noEntry q))
+      ∙ ap (λ (v : ℕ). pick (eqb v n) noRoute v) via-same
+    where
+      either : (b : Bool) (x : Route) → pick b (noEntry q) x .via ≡ pick b noRoute (x .via)
+      either true x = refl
+      either false x = refl

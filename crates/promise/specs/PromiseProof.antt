@@ -16,6 +16,7 @@ use Rattle.meaning.specs.Card.{Tree, Use, free, mapped, awaiting, Card, fresh, 
 use Rattle.meaning.specs.Events.{Out, Outcome, refused, taken, refuse, accept, roomShort, finish, upstream, holder, holderOf, branch, lessBranch, Event, receive, join, leave, route, outcome, event, baseOutside, start, otherLabel, lost}
 use Rattle.promise.specs.Promise.{Given, ofLabel, isAbout, isWithdrawn, Demand3, noteAll, noteTaken, leafBy, branchesBy, routeBy, feedBy, Step, Past, answerTo, sends, thenStep, thenSteps, history, Each, NoneLive, AllMapped, Leads, Promise, saidBy, branchesSaid, branchesTo, isTaken, liveAt, acceptedAt, Untouched, begun, withoutLabel}
 use Rattle.meaning.specs.Lists.{getD-same, by-test, picked, place-finds, place-count, same-eq, same-refl, getD-out, getD-all, count-some, set-replicate}
+use Rattle.meaning.specs.Counts.{counted-same, new-counted}
 use Rattle.meaning.specs.RoundTrip.{both, AllSendable, records-back}
 use Rattle.meaning.specs.Refusals.{refusal-keeps}
 use Rattle.meaning.specs.Standing.{standing-at, not-standing}
@@ -182,7 +183,7 @@ module _ (c : Card) (gs : List Given) (es : List Event) (e : Event) where
       (λ t. rw t (unfold withNext treeOf treePlace useOf freeLabels in record {
         sound = record { tidy = k .sound .tidy; low = k .sound .low; high = k .sound .high; many = k .sound .many; linked = k .sound .linked; books = k .sound .books; sum = k .sound .sum; last = spent-eq after _ refl refl (λ e. e) (k .sound .last) };
         reads = λ a. reads-shape a (e ∷ es) _ _ (k .shapes a) (became-reads c (u .sound .tidy) a es (u .reads a) e g);
-        ruled = unfold treeAt heldFor holderOf routeOf routePlace in record { roots = k .ruled (u .ruled) .roots; full = k .ruled (u .ruled) .full; held = k .ruled (u .ruled) .held; trees = k .ruled (u .ruled) .trees; routes = k .ruled (u .ruled) .routes };
+        ruled = unfold treeAt heldFor holderOf routeOf routePlace in record { roots = k .ruled (u .ruled) .roots; full = k .ruled (u .ruled) .full; held = k .ruled (u .ruled) .held; trees = k .ruled (u .ruled) .trees; routes = k .ruled (u .ruled) .routes; counts = λ q. counted-same after _ refl refl q (k .ruled (u .ruled) .counts q) };
         routed = λ q. unfold routeOf routePlace in w q ∙ ap (routeNow e q) (u .routed q) ∙ sym (route-by e q es);
       }))
 
@@ -284,7 +285,7 @@ fresh-upheld b low high = record {
     last = unfold freeLabels fresh count isFree in record { none = λ _. refl; block = λ z. absurd (z refl) };
   };
   reads = λ a. unfold treeOf treePlace place fresh bare branchesSaid leafBy in record { name = refl; said = λ n. sym (ap listed (getD-all 16 n 0) ∙ unfold listed isBranch in refl); leaf = refl };
-  ruled = unfold fresh count in record { roots = λ r. zero-le; full = λ j h. absurd (not-suc-le-zero h); held = λ j h. absurd (not-suc-le-zero h); trees = zero-le; routes = zero-le };
+  ruled = unfold fresh count in record { roots = λ r. zero-le; full = λ j h. absurd (not-suc-le-zero h); held = λ j h. absurd (not-suc-le-zero h); trees = zero-le; routes = zero-le; counts = λ q. unfold fresh in new-counted (fresh b) q (unfold fresh in zero-le) };
   routed = λ q. unfold routeOf routePlace place fresh routeBy in refl;
 }
 

@@ -7,10 +7,11 @@ use lib.Dec.{eqb}
 use borrow.Author.Tests.{eqb-true, ltb-false}
 use Rattle.meaning.specs.Octets.{pick, same}
 use Rattle.meaning.specs.Wire.{Message, messageIn, mapping, withdraw, release, Sent}
-use Rattle.meaning.specs.Card.{noRoute, Tree, Card, free, withRoutes, withTrees, withLabels, routeOf, routePlace, treePlace, freeLabels}
-use Rattle.meaning.specs.Events.{Outcome, refused, taken, unless, Moved, setUse, relabel, labelsShort, upstream, holderOf, entered, swept, enter, become, onMapping, onWithdraw, onRelease, onMessage, onOctets, onJoin, onLeave, moveAll, needAll, routesWith, routeRefusal, reRoute, onRoute, Event, receive, join, leave, route, outcome, noNeighbour, parted, part, onLost, lost}
+use Rattle.meaning.specs.Card.{noRoute, Tree, Card, free, withRoutes, withTrees, withLabels, routeOf, routePlace, treePlace, freeLabels, treeOf}
+use Rattle.meaning.specs.Events.{Outcome, refused, taken, unless, Moved, setUse, relabel, upstream, holderOf, entered, swept, enter, become, onMapping, onWithdraw, onRelease, onMessage, onOctets, onJoin, onLeave, moveAll, needAll, routesWith, routeRefusal, reRoute, onRoute, Event, receive, join, leave, route, outcome, noNeighbour, parted, part, onLost, lost, recounted}
 use Rattle.meaning.specs.Lists.{by-test, picked, same-eq, no-when}
 use Rattle.meaning.specs.RoutesStay.{relabel-routes}
+use Rattle.meaning.specs.Counts.{plains, plain-route, recount-plain, enough-labels}
 use Rattle.promise.specs.Promise.{Given}
 use Rattle.promise.specs.CardLaws.{swept-routes}
 use Rattle.promise.specs.LabelLaws.{Sound}
@@ -44,11 +45,12 @@ same-route c d q e = rw e refl
 
 module _ (c : Card) (e : Event) (plain : (q : List ℕ) (before : ℕ) → routeNow e q before ≡ before) where
   enter-routed : (first : List Sent) (t : Tree) → Routed c e (enter c first t)
-  unfolding enter Routed
+  unfolding enter Routed recounted withRoutes
   enter-routed first t q =
       let i : ℕ = treePlace (t .name) c in
       let m : Moved = relabel i (holderOf c t) (entered c t) in
-      same-route (swept i (m .card)) c q (swept-routes (m .card) i ∙ relabel-routes i (holderOf c t) (entered c t) ∙ unfold entered withTrees in refl) ∙ sym (plain q _)
+      let old : swept i (m .card) .routes ≡ c .routes = swept-routes (m .card) i ∙ relabel-routes i (holderOf c t) (entered c t) ∙ unfold entered withTrees in refl in
+      plain-route (recounted (treeOf (t .name) c) t (swept i (m .card))) c (recount-plain (treeOf (t .name) c) t (swept i (m .card) .routes) ∙ ap plains old) q ∙ sym (plain q _)
 
   become-routed : (first : List Sent) (t : Tree) → Routed c e (become c first t)
   unfolding become
@@ -71,9 +73,9 @@ module _ (c : Card) (e : Event) (plain : (q : List ℕ) (before : ℕ) → route
 
 module _ (c : Card) (gs : List Given) (S : Sound c gs) (R : Ruled c) where
   moved-routed : (r : List ℕ) (via : ℕ) → routeRefusal c r via ≡ 0 → Routed c (route r via) (reRoute c r via)
-  unfolding reRoute Routed routeNow routeRefusal labelsShort
+  unfolding reRoute Routed routeNow
   moved-routed r via e q =
-      let enough : needAll r (upstream via) c ≤ freeLabels c = ltb-false _ _ (no-when 11 _ 0 (no-when 14 _ _ e .1) .0) in
+      let enough : needAll r (upstream via) c ≤ freeLabels c = enough-labels c r via e in
       by-test (same r q)
       (λ k. rw k (ap (λ (x : List ℕ). routeOf x (withRoutes (routesWith c r via) (moveAll r (upstream via) c .card))) (sym (same-eq r q k)) ∙ own-route c gs S R r via (upstream-near via) enough))
       (λ k. rw k (other-route c gs S R r via (upstream-near via) enough q k))
@@ -88,7 +90,7 @@ module _ (c : Card) (gs : List Given) (S : Sound c gs) (R : Ruled c) where
 
   lost-routed : (n : ℕ) → n < 16 → Routed c (lost n) (part c n)
   unfolding part Routed routeNow
-  lost-routed n near q = same-route (ending n c gs S) (parted n c) q (loss-routes n c gs S) ∙ parted-route n near c q (R .roots q)
+  lost-routed n near q = same-route (ending n c gs S) (parted n c) q (loss-routes n c gs S) ∙ parted-route n c q (R .roots q)
 
   pub event-routed : (e : Event) → Routed c e (outcome c e)
   unfolding outcome onOctets onJoin onLeave onLost noNeighbour routeNow

@@ -3,20 +3,22 @@
 use Prim.Native.Nat.{ℕ, zero, suc, _≤_, _<_, suc-le-suc, zero-le}
 use native.Mathlib.Nat.{le-of-suc-le-suc, not-suc-le-zero, le-trans}
 use native.Mathlib.Omega.{arith}
-use mathlib.Core.Path.{_≡_, refl, sym, ap, _∙_, subst}
+use mathlib.Core.Path.{_≡_, refl, sym, ap, _∙_, subst, ap₂}
 use mathlib.Core.Bool.{Bool, true, false, _||_}
 use mathlib.Core.List.{List, [], _∷_}
 use lib.ListN.{getD, length, set, length-append, length-take, length-drop}
 use lib.Dec.{eqb, ltb}
-use borrow.Author.Tests.{eqb-true, eqb-false, ltb-true, ltb-false, leb-false, not-true}
+use borrow.Author.Tests.{eqb-true, eqb-false, ltb-true, ltb-false, leb-false}
 use Rattle.meaning.specs.Octets.{pick, place, count, any, same, put, cut}
 use Rattle.meaning.specs.Wire.{rootIn}
-use Rattle.meaning.specs.Card.{Tree, Route, free, Card, noRoute, nobody, withRoutes, withTrees, withLabel, treeLimit, routeLimit, isFor, routePlace, routeOf, bare, treePlace, treeOf, treeAt, isBranch, isEmpty, notHeld, leadsOn, mappedTo, useOf, heldFor, freeLabels}
-use Rattle.meaning.specs.Events.{upstream, holder, holderOf, swept, ofRoot, moveAll, needAll, routesWith, routesFull}
+use Rattle.meaning.specs.Card.{Tree, Route, free, Card, noRoute, nobody, withRoutes, withTrees, withLabel, treeLimit, routeLimit, isFor, routePlace, routeOf, bare, treePlace, treeOf, treeAt, isBranch, isEmpty, notHeld, leadsOn, mappedTo, useOf, heldFor, freeLabels, noEntry}
+use Rattle.meaning.specs.Events.{upstream, holder, holderOf, swept, ofRoot, moveAll, needAll, routesWith, routesFull, total, inRoot, workedOut, entryWith}
 use Rattle.meaning.specs.Standing.{standing-at, not-standing}
 use Rattle.promise.specs.Promise.{Given}
-use Rattle.meaning.specs.Lists.{by-test, same-eq, same-refl, same-flip, getD-out, found-put, found-cut, other-put, other-cut, count-put, count-cut, count-other-put}
+use Rattle.meaning.specs.Lists.{by-test, same-eq, same-refl, same-flip, getD-out, found-put, found-cut, other-put, other-cut, count-put, count-cut, count-other-put, getD-same}
+use Rattle.meaning.specs.Counts.{any-set-zero, empty-leads, Counted, plains, plain-route}
 use Rattle.promise.specs.CardLaws.{shape}
+use Rattle.promise.specs.CountLaws.{Tally, found, same-shapes, routed-true, counted-of}
 use Rattle.promise.specs.LabelLaws.{Sound, Kept, all-kept, all-held, shape-name}
 
 pub record Ruled (c : Card) : Type 0 where
@@ -25,6 +27,7 @@ pub record Ruled (c : Card) : Type 0 where
   pub held : (j : ℕ) → j < length (c .trees) → heldFor c (treeAt j c) ≡ holderOf c (treeAt j c)
   pub trees : length (c .trees) ≤ treeLimit
   pub routes : length (c .routes) ≤ routeLimit
+  pub counts : (r : List ℕ) → Counted r c
 
 pub shape-empty : (t s : Tree) → shape t ≡ shape s → isEmpty t ≡ isEmpty s
 unfolding isEmpty shape withLabel
@@ -34,10 +37,10 @@ pub shape-holder : (u : ℕ) (t s : Tree) → shape t ≡ shape s → holder u t
 unfolding holder leadsOn notHeld shape withLabel
 shape-holder u t s e = ap (λ (x : Tree). holder u x) e
 
--- for whom a tree is to hold a label depends on the routes, and on all of the tree but its label
-pub holder-same : (c d : Card) (t s : Tree) → c .routes ≡ d .routes → shape t ≡ shape s → holderOf c t ≡ holderOf d s
-unfolding holderOf routeOf routePlace holder leadsOn notHeld
-holder-same c d t s e k = rw (e, shape-name t s k) (shape-holder _ t s k)
+-- for whom a tree is to hold a label depends on the routes, not on their counts, and on all of the tree but its label
+pub holder-same : (c d : Card) (t s : Tree) → plains (c .routes) ≡ plains (d .routes) → shape t ≡ shape s → holderOf c t ≡ holderOf d s
+unfolding holderOf
+holder-same c d t s e k = ap₂ (λ (a : List ℕ) (x : Tree). holder (upstream (routeOf (rootIn a) c)) x) (shape-name t s k) refl ∙ ap (λ (v : ℕ). holder (upstream v) t) (plain-route c d e (rootIn (s .name))) ∙ shape-holder _ t s k
 
 pub bare-empty : (a : List ℕ) → isEmpty (bare a) ≡ true
 unfolding isEmpty bare any isBranch
@@ -48,12 +51,6 @@ unfolding heldFor bare mappedTo
 bare-held c a z = ap mappedTo z
 
 -- ---- an empty tree leads nowhere, and holds no label
-
-pub any-set-zero : (bs : List ℕ) (n : ℕ) → any isBranch bs ≡ false → any isBranch (set bs n 0) ≡ false
-unfolding any isBranch
-any-set-zero [] n h = refl
-any-set-zero (b ∷ bs) zero h = by-test (ltb 0 b) (λ e. let z : true ≡ false = rw e at h in cc) (λ e. rw e at h)
-any-set-zero (b ∷ bs) (suc n) h = by-test (ltb 0 b) (λ e. let z : true ≡ false = rw e at h in cc) (λ e. rw e (any-set-zero bs n (rw e at h)))
 
 pub any-set-two : (bs : List ℕ) (n u : ℕ) → any isBranch (set bs u 0) ≡ false → any isBranch (set (set bs n 0) u 0) ≡ false
 unfolding any isBranch
@@ -66,13 +63,6 @@ any-set-two (b ∷ bs) (suc n) (suc u) h = by-test (ltb 0 b) (λ e. let z : true
 pub neither : (x y : Bool) → (x || y) ≡ false → (x ≡ false) × (y ≡ false)
 neither true y e = absurd (let z : _≡_ {A = ℕ} 0 1 = cc in omega arith)
 neither false y e = (refl, e)
-
-pub empty-leads : (u : ℕ) (t : Tree) → isEmpty t ≡ true → leadsOn u t ≡ false
-unfolding isEmpty leadsOn notHeld
-empty-leads u t e =
-    by-test (any isBranch (t .branches))
-    (λ k. let z : false ≡ true = rw k at e in cc)
-    (λ k. rw (any-set-zero (t .branches) u k) (not-true (t .leaf) (rw k at e)))
 
 pub empty-asked : (c : Card) (t : Tree) → isEmpty t ≡ true → holderOf c t ≡ nobody
 unfolding holderOf holder
@@ -112,27 +102,27 @@ root-apart : (r q : List ℕ) → same r q ≡ false → (x : Route) → isFor r
 unfolding isFor
 root-apart r q n x e = rw (same-eq (x .root) r e) n
 
-own-for : (r : List ℕ) (via : ℕ) → isFor r (record { root = r; via = via }) ≡ true
-unfolding isFor
-own-for r via = same-refl r
+own-for : (c : Card) (r : List ℕ) (via : ℕ) → isFor r (entryWith c r via) ≡ true
+unfolding isFor entryWith
+own-for c r via = same-refl r
 
 module _ (c : Card) (gs : List Given) (S : Sound c gs) (R : Ruled c) (r : List ℕ) (via : ℕ) (near : eqb (upstream via) nobody ≡ false → upstream via < 16) (enough : needAll r (upstream via) c ≤ freeLabels c) where
   abbrev pub routed : Card
   routed = withRoutes (routesWith c r via) (moveAll r (upstream via) c .card)
 
   pub own-route : routeOf r routed ≡ via
-  unfolding routeOf routePlace routesWith withRoutes
+  unfolding routeOf routePlace routesWith entryWith withRoutes
   own-route =
       by-test (eqb via noRoute)
-      (λ e. rw e (ap (λ (x : Route). x .via) (found-cut (isFor r) (c .routes) (record { root = r; via = noRoute }) (R .roots r)) ∙ sym (eqb-true via noRoute e)))
-      (λ e. rw e (ap (λ (x : Route). x .via) (found-put (isFor r) (c .routes) (record { root = r; via = via }) (record { root = r; via = noRoute }) (own-for r via))))
+      (λ e. rw e (ap (λ (x : Route). x .via) (found-cut (isFor r) (c .routes) (noEntry r) (R .roots r)) ∙ sym (eqb-true via noRoute e)))
+      (λ e. rw e (ap (λ (x : Route). x .via) (found-put (isFor r) (c .routes) (entryWith c r via) (noEntry r) (own-for c r via))))
 
   pub other-route : (q : List ℕ) → same r q ≡ false → routeOf q routed ≡ routeOf q c
   unfolding routeOf routePlace routesWith withRoutes
   other-route q n =
       by-test (eqb via noRoute)
-      (λ e. rw e (ap (λ (x : Route). x .via) (other-cut (isFor r) (isFor q) (root-apart r q n) (c .routes) (record { root = q; via = noRoute }))))
-      (λ e. rw e (ap (λ (x : Route). x .via) (other-put (isFor r) (isFor q) (root-apart r q n) (c .routes) (record { root = r; via = via }) (record { root = q; via = noRoute }) (root-apart r q n _ (own-for r via)))))
+      (λ e. rw e (ap (λ (x : Route). x .via) (other-cut (isFor r) (isFor q) (root-apart r q n) (c .routes) (noEntry q))))
+      (λ e. rw e (ap (λ (x : Route). x .via) (other-put (isFor r) (isFor q) (root-apart r q n) (c .routes) (entryWith c r via) (noEntry q) (root-apart r q n _ (own-for c r via)))))
 
   new-roots : (q : List ℕ) → count (isFor q) (routesWith c r via) ≤ 1
   unfolding routesWith routePlace
@@ -140,8 +130,8 @@ module _ (c : Card) (gs : List Given) (S : Sound c gs) (R : Ruled c) (r : List �
       by-test (eqb via noRoute)
       (λ e. rw e (le-trans (count-cut (isFor q) (c .routes) _) (R .roots q)))
       (λ e. rw e (by-test (same r q)
-      (λ k. subst (λ (x : List ℕ). count (isFor x) (put (c .routes) (place (isFor r) (c .routes)) (record { root = r; via = via })) ≤ 1) (same-eq r q k) (count-put (isFor r) (c .routes) _ (R .roots r)))
-      (λ k. rw (count-other-put (isFor r) (isFor q) (root-apart r q k) (c .routes) (record { root = r; via = via }) (root-apart r q k _ (own-for r via))) (R .roots q))))
+      (λ k. subst (λ (x : List ℕ). count (isFor x) (put (c .routes) (place (isFor r) (c .routes)) (entryWith c r via)) ≤ 1) (same-eq r q k) (count-put (isFor r) (c .routes) _ (R .roots r)))
+      (λ k. rw (count-other-put (isFor r) (isFor q) (root-apart r q k) (c .routes) (entryWith c r via) (root-apart r q k _ (own-for c r via))) (R .roots q))))
 
   -- a root with a route has its place
   placed : eqb (routeOf r c) noRoute ≡ false → routePlace r c < length (c .routes)
@@ -149,7 +139,7 @@ module _ (c : Card) (gs : List Given) (S : Sound c gs) (R : Ruled c) (r : List �
   placed e =
       by-test (ltb (routePlace r c) (length (c .routes)))
       (λ k. ltb-true _ _ k)
-      (λ k. absurd (eqb-false _ _ e (ap (λ (x : Route). x .via) (getD-out (c .routes) (routePlace r c) (record { root = r; via = noRoute }) (ltb-false _ _ k)))))
+      (λ k. absurd (eqb-false _ _ e (ap (λ (x : Route). x .via) (getD-out (c .routes) (routePlace r c) (noEntry r) (ltb-false _ _ k)))))
 
   few-routes : routesFull c r via ≡ false → length (routesWith c r via) ≤ routeLimit
   unfolding routesFull routesWith
@@ -157,8 +147,8 @@ module _ (c : Card) (gs : List Given) (S : Sound c gs) (R : Ruled c) (r : List �
       by-test (eqb via noRoute)
       (λ e. rw e (omega (arith, cut-less (c .routes) (routePlace r c), R .routes)))
       (λ e. rw e (by-test (eqb (routeOf r c) noRoute)
-      (λ k. let left = leb-false routeLimit (length (c .routes)) (rw (k, e) at full) in omega (arith, put-more (c .routes) (routePlace r c) (record { root = r; via = via })))
-      (λ k. rw (put-in (c .routes) (routePlace r c) (record { root = r; via = via }) (placed k)) (R .routes))))
+      (λ k. let left = leb-false routeLimit (length (c .routes)) (rw (k, e) at full) in omega (arith, put-more (c .routes) (routePlace r c) (entryWith c r via)))
+      (λ k. rw (put-in (c .routes) (routePlace r c) (entryWith c r via) (placed k)) (R .routes))))
 
   moved-now : Kept c gs (moveAll r (upstream via) c)
   moved-now = all-kept r (upstream via) near c gs S enough
@@ -189,7 +179,11 @@ module _ (c : Card) (gs : List Given) (S : Sound c gs) (R : Ruled c) (r : List �
     held = λ j h. held-same j ∙ all-held r (upstream via) near c gs S enough j (within j h) ∙ asked j (within j h) ∙ holder-same routed routed (treeAt j c) (treeAt j routed) refl (sym (at-same j));
     trees = unfold withRoutes in rw (moved-now .size) (R .trees);
     routes = unfold withRoutes in few-routes full;
+    counts = counted-of routed true-now;
   }
+    where
+      true-now : (get : Route → ℕ) (w : Tree → ℕ) → Tally get w → (q : List ℕ) → get (found q (workedOut (routed .trees) (noEntry q)) (routed .routes)) ≡ total (inRoot q w) (routed .trees)
+      true-now get w T q = unfold withRoutes in routed-true get w T c r via (R .roots r) (moveAll r (upstream via) c .card .trees) (λ x. same-shapes get w T x _ (c .trees) (moved-now .size) (unfold treeAt in moved-now .at)) (λ x. T .counted c x (R .counts x)) q
 
 -- ---- places after `put` and `cut`
 

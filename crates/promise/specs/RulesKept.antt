@@ -11,14 +11,15 @@ use borrow.Author.Tests.{eq-eqb, ne-eqb, ltb-true, ltb-false, le-ltb}
 use Rattle.meaning.specs.Octets.{count, any, _when_else_}
 use Rattle.meaning.specs.Wire.{rootIn, elementRefusal, mapping, withdraw, release, Message, messageIn, messageRefusal, Sent}
 use Rattle.meaning.specs.Card.{withTrees, named, treeAt, useOf, routeOf, Tree, Card, nobody, withBranch, withLeaf, isFor, treePlace, treeOf, stands, bare, isBranch, isEmpty, notHeld, leadsOn, heldFor, freeLabels}
-use Rattle.meaning.specs.Events.{taken, unless, Moved, still, upstream, holder, tell, relabel, entered, swept, needMove, need, labelsShort, holderOf, treesFull, treeRefusal, enter, become, branch, lessBranch, onWithdraw, onMessage, noNeighbour, onOctets, notLeaf, onLeave, receive, leave, outcome}
+use Rattle.meaning.specs.Events.{taken, unless, Moved, still, upstream, holder, tell, relabel, entered, swept, needMove, need, labelsShort, holderOf, treesFull, treeRefusal, enter, become, branch, lessBranch, onWithdraw, onMessage, noNeighbour, onOctets, notLeaf, onLeave, receive, leave, outcome, recounted}
 use Rattle.meaning.specs.Standing.{standing-at, not-standing}
 use Rattle.promise.specs.Promise.{Given, Step, history}
 use Rattle.meaning.specs.Lists.{by-test, picked}
 use Rattle.meaning.specs.RoundTrip.{both}
 use Rattle.promise.specs.CardLaws.{tree-name}
 use Rattle.promise.specs.LabelLaws.{Sound}
-use Rattle.promise.specs.RuleLaws.{Ruled, held-named, bare-empty, any-set-zero, any-set-two, neither}
+use Rattle.meaning.specs.Counts.{any-set-zero}
+use Rattle.promise.specs.RuleLaws.{Ruled, held-named, bare-empty, any-set-two, neither}
 use Rattle.promise.specs.EventLaws.{getD-put, less-name, less-label}
 use Rattle.promise.specs.PromiseProof.{history-upheld}
 
@@ -163,7 +164,7 @@ unfolding enter
 enter-taken c first t =
     let i : ℕ = treePlace (t .name) c in
     let m : Moved = relabel i (holderOf c t) (entered c t) in
-    (m .sent, swept i (m .card), refl)
+    (m .sent, recounted (treeOf (t .name) c) t (swept i (m .card)), refl)
 
 -- After any history, a Withdraw that 1 to 9 and 18 pass is answered by the Release that it names, whatever stands.
 pub withdraw-answered : (base : ℕ) (steps : List Step) (n : ℕ) (s : List ℕ) → noNeighbour n ≡ false → messageRefusal s ≡ 0 → messageIn s .kind ≡ withdraw

@@ -20,6 +20,8 @@ use Rattle.meaning.specs.RoundTrip.{both}
 use Rattle.meaning.specs.SaveRules.{all-of, Rules, rules-kept}
 use Rattle.meaning.specs.SaveLaws.{fits-any, read-back, save-taken, restored, highest-none, highest-block}
 use Rattle.meaning.specs.SaveMoves.{Taken, move-taken, moved-restored}
+use Rattle.meaning.specs.Counts.{counted-same}
+use Rattle.meaning.specs.SaveCounts.{counted-right}
 use Rattle.promise.specs.Promise.{Given, ofLabel, withoutLabel, saidBy, branchesSaid, Step, Past, thenSteps, begun, history, Each, Promise, branchesBy}
 use Rattle.promise.specs.LiveLaws.{isMapped, only, givens, Books}
 use Rattle.promise.specs.CardLaws.{Proper, at-proper, at-named}
@@ -145,6 +147,7 @@ module _ (p : Past) (u : Upheld p) (w : Writable p) where
     carried = λ i _. carried-good i;
     own = own-good;
     held = u .ruled .held;
+    counts = counted-right (p .card) (u .ruled .roots) (u .ruled .counts);
   }
 
   pub past-keeps-rules : keepsRules (p .card) ≡ true
@@ -232,7 +235,7 @@ unfolding carried carriedBy settled withLast treeOf treePlace useOf freeLabels
 carried-upheld old p u = record {
   sound = record { tidy = u .sound .tidy; low = u .sound .low; high = u .sound .high; many = u .sound .many; linked = u .sound .linked; books = u .sound .books; sum = u .sound .sum; last = unfold settled withLast in settled-spent (p .card) (u .sound .low) (u .sound .many) };
   reads = u .reads;
-  ruled = unfold treeAt heldFor holderOf routeOf routePlace in record { roots = u .ruled .roots; full = u .ruled .full; held = u .ruled .held; trees = u .ruled .trees; routes = u .ruled .routes };
+  ruled = unfold treeAt heldFor holderOf routeOf routePlace in record { roots = u .ruled .roots; full = u .ruled .full; held = u .ruled .held; trees = u .ruled .trees; routes = u .ruled .routes; counts = λ q. counted-same (p .card) _ refl refl q (u .ruled .counts q) };
   routed = λ q. unfold routeOf routePlace in u .routed q;
 }
 carried-upheld new p u = u

@@ -2,18 +2,19 @@
 -- Assumes nothing.
 use Prim.Native.Nat.{ℕ, zero, suc, _+_, _%_, _≤_, _<_, suc-le-suc}
 use native.Mathlib.Omega.{arith}
-use mathlib.Core.Path.{_≡_, refl, _∙_}
+use mathlib.Core.Path.{_≡_, refl, _∙_, sym, ap}
 use mathlib.Core.Bool.{Bool, true, false}
 use mathlib.Core.List.{List, [], _∷_}
 use lib.Dec.{eqb}
 use borrow.Author.Tests.{eqb-true, eqb-false, le-leb, ltb-false}
 use Rattle.meaning.specs.Octets.{put, cut, all}
 use Rattle.meaning.specs.Wire.{mapping, withdraw, release, Message, messageIn, elementRefusal, Sent, records, nextId, idsAfter}
-use Rattle.meaning.specs.Card.{noRoute, Route, Tree, free, Card, withNext, withRoutes, withTrees, withLabels, treePlace, routeOf, routePlace}
-use Rattle.meaning.specs.Events.{Out, Outcome, refused, taken, unless, refuse, accept, roomShort, finish, Moved, setUse, relabel, holderOf, entered, swept, enter, become, onMapping, onWithdraw, onRelease, onMessage, noNeighbour, onOctets, onJoin, onLeave, routesWith, notRoute, notRoot, reRoute, onRoute, Event, receive, join, leave, route, outcome, event, routesWithout, parted, part, onLost, lost}
+use Rattle.meaning.specs.Card.{noRoute, Route, Tree, free, Card, withNext, withRoutes, withTrees, withLabels, treePlace, routeOf, routePlace, treeOf}
+use Rattle.meaning.specs.Events.{Out, Outcome, refused, taken, unless, refuse, accept, roomShort, finish, Moved, setUse, relabel, holderOf, entered, swept, enter, become, onMapping, onWithdraw, onRelease, onMessage, noNeighbour, onOctets, onJoin, onLeave, routesWith, notRoute, notRoot, reRoute, onRoute, Event, receive, join, leave, route, outcome, event, routesWithout, parted, part, onLost, lost, recounted, entryWith}
 use Rattle.meaning.specs.Lists.{by-test, picked, no-when}
 use Rattle.meaning.specs.RoundTrip.{Heard, heard, Sendable, AllSendable}
 use Rattle.meaning.specs.RoutesStay.{relabel-routes, part-routes}
+use Rattle.meaning.specs.Counts.{plain, plains, recount-plain, without-plain}
 use Rattle.meaning.specs.Save.{isRoute}
 use Rattle.meaning.specs.SaveFields.{all-cons}
 use Rattle.promise.specs.Promise.{Given, isAbout, mark, remove, noteSent, noteAll, noteTaken, Step, Past, answerTo, sends, isTaken, liveAt, acceptedAt, thenStep, thenSteps, Each, without}
@@ -67,14 +68,23 @@ all-without t n (r ∷ rs) h =
     let p = all-cons t r rs h in
     by-test (eqb (r .via) n) (λ e. rw e (all-without t n rs (p .1))) (λ e. rw e (rw (p .0) (all-without t n rs (p .1))))
 
+-- the counts are not tested here
+plain-good : (rs : List Route) → all isRoute (plains rs) ≡ all isRoute rs
+unfolding plains plain all isRoute
+plain-good [] = refl
+plain-good (x ∷ rs) = rw (plain-good rs) refl
+
+good-plain : (rs ss : List Route) → plains rs ≡ plains ss → all isRoute ss ≡ true → all isRoute rs ≡ true
+good-plain rs ss e h = sym (plain-good rs) ∙ ap (all isRoute) e ∙ plain-good ss ∙ h
+
 module _ (c : Card) (good : all isRoute (c .routes) ≡ true) (e : Event) (passed : Passed e) where
   enter-goes : (first : List Sent) (t : Tree) → Goes e (enter c first t)
-  unfolding enter Goes
+  unfolding enter Goes recounted withRoutes
   enter-goes first t =
       let i : ℕ = treePlace (t .name) c in
       let m : Moved = relabel i (holderOf c t) (entered c t) in
       let same-routes : swept i (m .card) .routes ≡ c .routes = swept-routes (m .card) i ∙ relabel-routes i (holderOf c t) (entered c t) ∙ unfold entered withTrees in refl in
-      (rw same-routes good, passed)
+      (good-plain _ (c .routes) (recount-plain (treeOf (t .name) c) t (swept i (m .card) .routes) ∙ ap plains same-routes) good, passed)
 
   become-goes : (first : List Sent) (t : Tree) → Goes e (become c first t)
   unfolding become
@@ -103,8 +113,8 @@ module _ (c : Card) (good : all isRoute (c .routes) ≡ true) where
       (λ e. rw e (all-cut isRoute (c .routes) (routePlace r c) good))
       (λ e. rw e (all-put isRoute (c .routes) (routePlace r c) _ good (is-route (λ z. eqb-false via noRoute e z))))
     where
-      is-route : (via ≡ 17 → ⊥) → isRoute (record { root = r; via = via }) ≡ true
-      is-route other = unfold isRoute in rw (long, le-leb via 16 (below via (ltb-false 17 via low) other)) refl
+      is-route : (via ≡ 17 → ⊥) → isRoute (entryWith c r via) ≡ true
+      is-route other = unfold isRoute entryWith in rw (long, le-leb via 16 (below via (ltb-false 17 via low) other)) refl
         where
           below : (v : ℕ) → v ≤ 17 → (v ≡ 17 → ⊥) → v ≤ 16
           below v h d = omega arith
@@ -120,7 +130,7 @@ module _ (c : Card) (good : all isRoute (c .routes) ≡ true) where
 
   lost-goes : (n : ℕ) → Goes (lost n) (part c n)
   unfolding part Goes Passed
-  lost-goes n = (rw (part-routes n c) (unfold parted withRoutes withTrees withLabels in all-without isRoute n (c .routes) good), tt)
+  lost-goes n = (rw (part-routes n c) (unfold parted withRoutes withTrees withLabels in all-without isRoute n _ (good-plain _ (c .routes) (without-plain n (c .trees) (c .routes)) good)), tt)
 
   event-goes : (e : Event) → Goes e (outcome c e)
   unfolding outcome onOctets onJoin onLeave onLost noNeighbour Passed

@@ -18,7 +18,8 @@ use Rattle.promise.specs.Promise.{Given, Step, Past, answerTo, sends}
 use Rattle.promise.specs.LiveLaws.{stray-not}
 use Rattle.promise.specs.CardLaws.{tree-name}
 use Rattle.promise.specs.LabelLaws.{Sound}
-use Rattle.promise.specs.RuleLaws.{Ruled, held-named, any-set-zero}
+use Rattle.promise.specs.RuleLaws.{Ruled, held-named}
+use Rattle.meaning.specs.Counts.{any-set-zero}
 use Rattle.promise.specs.EventLaws.{getD-put, less-name, less-label}
 use Rattle.promise.specs.PromiseProof.{messagesOf, Upheld, sends-is}
 
