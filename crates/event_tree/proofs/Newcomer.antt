@@ -10,9 +10,10 @@ use borrow.Author.Tests.{eq-eqb, ne-eqb, eqb-true, eqb-false, le-leb, lt-leb, le
 use Rattle.meaning.specs.Octets.{pick, any, cut, _when_else_}
 use Rattle.meaning.specs.Lists.{append-nil, by-test, getD-all}
 use Rattle.meaning.specs.Wire.{Sent, records, rootIn, recordSize}
-use Rattle.meaning.specs.Card.{Tree, Card, free, nobody, withTrees, bare, treePlace, treeOf, treeAt, stands, isBranch, isEmpty, notHeld, leadsOn, mappedTo, useOf, heldFor, freeLabels, treeLimit, routeOf}
-use Rattle.meaning.specs.Events.{Outcome, taken, unless, finish, Moved, still, followedBy, letGo, takeUp, moveLabel, relabel, needMove, need, labelsShort, upstream, holder, holderOf, entered, swept, treesFull, treeRefusal, enter, become}
+use Rattle.meaning.specs.Card.{Route, Tree, Card, free, nobody, withRoutes, withTrees, bare, treePlace, treeOf, treeAt, stands, isBranch, isEmpty, notHeld, leadsOn, mappedTo, useOf, heldFor, freeLabels, treeLimit, routeOf}
+use Rattle.meaning.specs.Events.{Outcome, taken, unless, finish, Moved, still, followedBy, letGo, takeUp, moveLabel, relabel, needMove, need, labelsShort, upstream, holder, recounted, holderOf, entered, swept, treesFull, treeRefusal, enter, become}
 use Rattle.meaning.specs.Standing.{not-standing}
+use Rattle.meaning.specs.Counts.{recount-still}
 use Rattle.meaning.specs.Calls.{Does}
 use Rattle.octets.proofs.Tab.{put-end, cut-end}
 use Rattle.event_move.proofs.Alike.{take-up-stays, alike-empty}
@@ -31,9 +32,12 @@ pub bare-branch : (a : List ℕ) (n : ℕ) → getD (bare a .branches) n 0 ≡ 0
 unfolding bare
 bare-branch a n = getD-all 16 n 0
 
-pub entered-new : (c : Card) (t : Tree) (i : ℕ) → i ≡ treePlace (t .name) c → i ≡ length (c .trees) → entered c t ≡ withTrees (c .trees ++ (t ∷ [])) c
-unfolding entered
-entered-new c t i ei h = rw (← ei) (ap (λ (l : List Tree). withTrees l c) (put-end (c .trees) i t h))
+-- behind the others stands t, where a tree of that name did not stand, and is counted so
+abbrev pub counting : Card → List ℕ → Tree → Card
+counting c a t = recounted (bare a) t (withTrees (c .trees ++ (t ∷ [])) c)
+
+entered-new : (c : Card) (t : Tree) (i : ℕ) → i ≡ treePlace (t .name) c → i ≡ length (c .trees) → recounted (treeOf (t .name) c) t (entered c t) ≡ counting c (t .name) t
+entered-new c t i ei h = ap₂ (λ (x : Tree) (d : Card). recounted x t d) (none-stands c (t .name) i ei h) (unfold entered in rw (← ei) (ap (λ (l : List Tree). withTrees l c) (put-end (c .trees) i t h)))
 
 zero-held : (c : Card) (t : Tree) → useOf 0 c ≡ free → t .label ≡ 0 → heldFor c t ≡ nobody
 unfolding heldFor mappedTo
@@ -64,23 +68,26 @@ pub new-at : (c : Card) (t : Tree) (i : ℕ) → i ≡ length (c .trees) → tre
 unfolding treeAt withTrees
 new-at c t i e = rw e (snoc-at (c .trees) t (bare []))
 
-pub new-within : (c : Card) (t : Tree) (i : ℕ) → i ≡ length (c .trees) → i < length (withTrees (c .trees ++ (t ∷ [])) c .trees)
-unfolding withTrees
+pub new-within : (c : Card) (t : Tree) (i : ℕ) → i ≡ length (c .trees) → i < length (counting c (t .name) t .trees)
+unfolding recounted withRoutes withTrees
 new-within c t i e = rw (length-append (c .trees) (t ∷ [])) (omega arith)
+
+grown-at : (c : Card) (t : Tree) (i : ℕ) → i ≡ length (c .trees) → treeAt i (counting c (t .name) t) ≡ t
+grown-at c t i e = (unfold treeAt recounted withRoutes in refl) ∙ new-at c t i e
 
 module _ (c : Card) (first : List Sent) (t : Tree) (i u : ℕ) (ei : i ≡ treePlace (t .name) c) (h : i ≡ length (c .trees)) (z : useOf 0 c ≡ free) (el : t .label ≡ 0) (eu : u ≡ holderOf c t) where
   grown : Card
-  grown = withTrees (c .trees ++ (t ∷ [])) c
+  grown = counting c (t .name) t
 
   grown-zero : useOf 0 grown ≡ free
-  unfolding grown useOf withTrees
+  unfolding grown useOf recounted withRoutes withTrees
   grown-zero = z
 
-  grown-is : enter c first t ≡ taken (first ++ takeUp i u (withTrees (c .trees ++ (t ∷ [])) c) .sent) (swept i (takeUp i u (withTrees (c .trees ++ (t ∷ [])) c) .card))
+  grown-is : enter c first t ≡ taken (first ++ takeUp i u (counting c (t .name) t) .sent) (swept i (takeUp i u (counting c (t .name) t) .card))
   unfolding grown
   grown-is =
       enter-is c grown first t i u ei eu (entered-new c t i ei h)
-      ∙ ap (λ (m : Moved). taken (first ++ m .sent) (swept i (m .card))) (relabel-none i u grown grown-zero (ap (λ (s : Tree). s .label) (new-at c t i h) ∙ el))
+      ∙ ap (λ (m : Moved). taken (first ++ m .sent) (swept i (m .card))) (relabel-none i u grown grown-zero (ap (λ (s : Tree). s .label) (grown-at c t i h) ∙ el))
 
   full-new : isEmpty t ≡ false → treesFull c t ≡ leb treeLimit (length (c .trees))
   unfolding treesFull stands
@@ -89,14 +96,14 @@ module _ (c : Card) (first : List Sent) (t : Tree) (i u : ℕ) (ei : i ≡ treeP
   pub become-new : isEmpty t ≡ false
       → become c first t
       ≡ unless (11 when leb treeLimit (length (c .trees)) else 12 when labelsShort c (needMove u) else 0)
-      (taken (first ++ takeUp i u (withTrees (c .trees ++ (t ∷ [])) c) .sent) (takeUp i u (withTrees (c .trees ++ (t ∷ [])) c) .card))
+      (taken (first ++ takeUp i u (counting c (t .name) t) .sent) (takeUp i u (counting c (t .name) t) .card))
   unfolding become treeRefusal
   become-new e =
       ap₂ (λ (b : Bool) (n : ℕ). unless (11 when b else 12 when labelsShort c n else 0) (enter c first t)) (full-new e) (rw (← eu) (need-none c t u z el))
-      ∙ ap (unless (11 when leb treeLimit (length (c .trees)) else 12 when labelsShort c (needMove u) else 0)) (grown-is ∙ ap (λ (d : Card). taken (first ++ takeUp i u (withTrees (c .trees ++ (t ∷ [])) c) .sent) d) kept)
+      ∙ ap (unless (11 when leb treeLimit (length (c .trees)) else 12 when labelsShort c (needMove u) else 0)) (grown-is ∙ ap (λ (d : Card). taken (first ++ takeUp i u (counting c (t .name) t) .sent) d) kept)
     where
-      kept : swept i (takeUp i u (withTrees (c .trees ++ (t ∷ [])) c) .card) ≡ takeUp i u (withTrees (c .trees ++ (t ∷ [])) c) .card
-      kept = unfold swept in rw (alike-empty _ _ (take-up-stays i (withTrees (c .trees ++ (t ∷ [])) c) (new-within c t i h) u .tree), new-at c t i h, e) refl
+      kept : swept i (takeUp i u (counting c (t .name) t) .card) ≡ takeUp i u (counting c (t .name) t) .card
+      kept = unfold swept in rw (alike-empty _ _ (take-up-stays i (counting c (t .name) t) (new-within c t i h) u .tree), grown-at c t i h, e) refl
 
 bare-holder : (c : Card) (a : List ℕ) → nobody ≡ holderOf c (bare a)
 unfolding holderOf holder leadsOn notHeld bare
@@ -122,6 +129,9 @@ become-nothing c first a e z = ap₂ (λ (n : ℕ) (o : Outcome). unless n o) (b
     no-holder : nobody ≡ holderOf c (bare a)
     no-holder = bare-holder c a
 
+    still-bare : counting c a (bare a) ≡ withTrees (c .trees ++ (bare a ∷ [])) c
+    still-bare = unfold recounted withRoutes in ap (λ (rs : List Route). withRoutes rs (withTrees (c .trees ++ (bare a ∷ [])) c)) (recount-still (bare a) (bare a) _ refl refl)
+
     gone : pick (isEmpty (bare a)) (withTrees (cut (withTrees (c .trees ++ (bare a ∷ [])) c .trees) (treePlace a c)) (withTrees (c .trees ++ (bare a ∷ [])) c)) (withTrees (c .trees ++ (bare a ∷ [])) c) ≡ c
     gone = unfold isEmpty bare any isBranch withTrees in ap (λ (l : List Tree). withTrees l c) (cut-end (c .trees) (bare a) (treePlace a c) e)
 
@@ -131,16 +141,16 @@ become-nothing c first a e z = ap₂ (λ (n : ℕ) (o : Outcome). unless n o) (b
     entered-swept : enter c first (bare a) ≡ taken first c
     entered-swept =
         grown-is c first (bare a) (treePlace a c) nobody (unfold bare in refl) e z (unfold bare in refl) no-holder
-        ∙ unfold takeUp still in ap₂ taken (append-nil first) shrunk
+        ∙ unfold takeUp still in ap₂ taken (append-nil first) (ap (swept (treePlace a c)) (unfold bare in still-bare) ∙ shrunk)
 
 -- ---- a new tree t, which is not empty
 
 module _ (c : Card) (t : Tree) (i u : ℕ) (ei : i ≡ treePlace (t .name) c) (h : i ≡ length (c .trees)) (z : useOf 0 c ≡ free) (el : t .label ≡ 0) (eu : u ≡ holderOf c t) (full : isEmpty t ≡ false) (s : List ℕ) where
   abbrev larger : Card
-  larger = withTrees (c .trees ++ (t ∷ [])) c
+  larger = counting c (t .name) t
 
   pub larger-size : (id : ℕ) → length (records id (takeUp i u larger .sent)) ≡ needMove u * recordSize (t .name)
-  larger-size id = take-up-size id i larger u ∙ rw (new-at c t i h) refl
+  larger-size id = take-up-size id i larger u ∙ rw (grown-at c t i h) refl
 
   pub new-full : treeLimit ≤ length (c .trees) → Does (finish (length s) c (become c [] t)) 11 0 s s c
   new-full k = rw (become-new c [] t i u ei h z el eu full, le-leb treeLimit (length (c .trees)) k) (unfold _when_else_ unless in does-refused c 11 s)
@@ -240,18 +250,20 @@ module _ (c : Card) (t : Tree) (a : List ℕ) (i u : ℕ) (N : Newcomer c t a i 
   pub few-trees-stand : r ≡ 0 → length (c .trees) < treeLimit
   few-trees-stand q = new-passes q .0
 
-  pub grow-ready : r ≡ 0 → (id : ℕ) (ns os : List ℕ) → cardOf ns os ≡ withTrees (c .trees ++ (t ∷ [])) c
+  pub grow-ready : r ≡ 0 → (id : ℕ) (ns os : List ℕ) → cardOf ns os ≡ counting c a t
       → (i < treeCount ns) × (needMove u ≤ freeLabels (cardOf ns os)) × (length (records id (takeUp i u (cardOf ns os) .sent)) ≤ length s)
-  grow-ready q id ns os e =
+  grow-ready q id ns os e′ =
       let p = new-passes q in
-      (rw (count-is ns os _ e) (new-within c t i (N .last)), rw e (unfold freeLabels withTrees in p .1), rw (e, larger-size c t i u (N .place) (N .last) (N .zero) (N .label) (N .upstream) (N .full) s id) (rw sized at (p .2)))
+      let e : cardOf ns os ≡ counting c (t .name) t = e′ ∙ ap (λ (x : List ℕ). counting c x t) (sym (N .name)) in
+      (rw (count-is ns os _ e) (new-within c t i (N .last)), rw e (unfold freeLabels recounted withRoutes withTrees in p .1), rw (e, larger-size c t i u (N .place) (N .last) (N .zero) (N .label) (N .upstream) (N .full) s id) (rw sized at (p .2)))
 
-  pub grown-done : r ≡ 0 → (id : ℕ) (d : Card) (s' : List ℕ) (e : Card) (end : ℕ) → id ≡ c .next → d ≡ withTrees (c .trees ++ (t ∷ [])) c
+  pub grown-done : r ≡ 0 → (id : ℕ) (d : Card) (s' : List ℕ) (e : Card) (end : ℕ) → id ≡ c .next → d ≡ counting c a t
       → Ended (takeUp i u d) id 0 s s' e end → Does (finish (length s) c (become c [] t)) 0 end s s' e
-  grown-done q id d s' e end en ed w =
+  grown-done q id d s' e end en ed′ w =
       let p = new-passes q in
+      let ed : d ≡ counting c (t .name) t = ed′ ∙ ap (λ (x : List ℕ). counting c x t) (sym (N .name)) in
       new-done c t i u (N .place) (N .last) (N .zero) (N .label) (N .upstream) (N .full) s (p .0) (p .1) (rw sized at (p .2)) s' e end
-      (subst (λ (n : ℕ). Ended (takeUp i u (withTrees (c .trees ++ (t ∷ [])) c)) n 0 s s' e end) en (subst (λ (x : Card). Ended (takeUp i u x) id 0 s s' e end) ed w))
+      (subst (λ (n : ℕ). Ended (takeUp i u (counting c (t .name) t)) n 0 s s' e end) en (subst (λ (x : Card). Ended (takeUp i u x) id 0 s s' e end) ed w))
 
 -- the tree that was entered bare gets its branch, or its leaf
 set-snoc : (l : List Tree) (x y : Tree) → set (l ++ (x ∷ [])) (length l) y ≡ l ++ (y ∷ [])
@@ -259,10 +271,10 @@ set-snoc [] x y = refl
 set-snoc (z ∷ l) x y = ap (λ (k : List Tree). z ∷ k) (set-snoc l x y)
 
 pub entered-changed : (c d : Card) (a : List ℕ) (i : ℕ) (f : Tree → Tree) → i ≡ length (c .trees) → d ≡ withTrees (c .trees ++ (bare a ∷ [])) c
-    → withTrees (set (d .trees) i (f (treeAt i d))) d ≡ withTrees (c .trees ++ (f (bare a) ∷ [])) c
+    → recounted (treeAt i d) (f (treeAt i d)) (withTrees (set (d .trees) i (f (treeAt i d))) d) ≡ counting c a (f (bare a))
 entered-changed c d a i f h e =
     rw (e, new-at c (bare a) i h)
-    (unfold withTrees in ap (λ (l : List Tree). withTrees l c) (rw h (set-snoc (c .trees) (bare a) (f (bare a)))))
+    (ap (recounted (bare a) (f (bare a))) (unfold withTrees in ap (λ (l : List Tree). withTrees l c) (rw h (set-snoc (c .trees) (bare a) (f (bare a))))))
 
 pub snoc-length : (c : Card) (a : List ℕ) → length (withTrees (c .trees ++ (bare a ∷ [])) c .trees) ≡ length (c .trees) + 1
 unfolding withTrees

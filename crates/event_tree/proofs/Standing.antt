@@ -11,8 +11,8 @@ use borrow.Author.Tests.{lt-ltb, ltb-true, ltb-false}
 use Rattle.meaning.specs.Octets.{pick, cut, _when_else_}
 use Rattle.meaning.specs.Lists.{by-test}
 use Rattle.meaning.specs.Wire.{Sent, records, idsAfter}
-use Rattle.meaning.specs.Card.{Tree, Card, withTrees, withBranch, bare, treePlace, treeAt, stands, isEmpty, mappedTo, useOf, heldFor, freeLabels, treeLimit}
-use Rattle.meaning.specs.Events.{taken, unless, finish, relabel, needMove, need, labelsShort, holderOf, entered, swept, treesFull, treeRefusal, enter, become}
+use Rattle.meaning.specs.Card.{Tree, Card, withRoutes, withTrees, withBranch, bare, treePlace, treeOf, treeAt, stands, isEmpty, mappedTo, useOf, heldFor, freeLabels, treeLimit}
+use Rattle.meaning.specs.Events.{taken, unless, finish, relabel, needMove, need, labelsShort, recounted, holderOf, entered, swept, treesFull, treeRefusal, enter, become}
 use Rattle.meaning.specs.Calls.{Does}
 use Rattle.octets.proofs.Tab.{put-in}
 use Rattle.event_holder.specs.Move.{moveSize, relabelSize}
@@ -21,13 +21,16 @@ use Rattle.event_move.proofs.Alike.{relabel-stays, alike-empty}
 use Rattle.event_move.proofs.Sizes.{relabel-size}
 use Rattle.memory.specs.Memory.{cardOf, treeCount}
 use Rattle.event_tree.specs.End.{Ended, thenCut}
-use Rattle.event_tree.proofs.Found.{enter-is, count-is}
+use Rattle.event_tree.proofs.Found.{found-tree, enter-is, count-is}
 use Rattle.event_tree.proofs.Ends.{does-refused, does-short, does-ended}
 use Rattle.event_tree.proofs.Tests.{when-first, when-second, when-none}
 
-pub entered-in : (c : Card) (t : Tree) (i : ℕ) → i ≡ treePlace (t .name) c → i < length (c .trees) → entered c t ≡ withTrees (set (c .trees) i t) c
-unfolding entered
-entered-in c t i ei h = rw (← ei) (ap (λ (l : List Tree). withTrees l c) (put-in (c .trees) i t h))
+-- the tree at place i is t, and is counted so
+abbrev pub counting : Card → Tree → ℕ → Card
+counting c t i = recounted (treeAt i c) t (withTrees (set (c .trees) i t) c)
+
+entered-in : (c : Card) (t : Tree) (i : ℕ) → i ≡ treePlace (t .name) c → i < length (c .trees) → recounted (treeOf (t .name) c) t (entered c t) ≡ counting c t i
+entered-in c t i ei h = ap₂ (λ (x : Tree) (d : Card). recounted x t d) (found-tree c (t .name) i ei h) (unfold entered in rw (← ei) (ap (λ (l : List Tree). withTrees l c) (put-in (c .trees) i t h)))
 
 pub stands-in : (c : Card) (t : Tree) (i : ℕ) → i ≡ treePlace (t .name) c → i < length (c .trees) → treesFull c t ≡ false
 unfolding treesFull stands
@@ -44,7 +47,7 @@ need-same c t s u e = ap (λ (l : ℕ). pick (eqb (mappedTo (useOf l c)) u) 0 (n
 pub become-standing : (c : Card) (first : List Sent) (t : Tree) (i u : ℕ) → i ≡ treePlace (t .name) c → i < length (c .trees) → t .label ≡ treeAt i c .label → u ≡ holderOf c t
     → become c first t
     ≡ unless (12 when labelsShort c (need c (treeAt i c) u) else 0)
-    (taken (first ++ relabel i u (withTrees (set (c .trees) i t) c) .sent) (swept i (relabel i u (withTrees (set (c .trees) i t) c) .card)))
+    (taken (first ++ relabel i u (counting c t i) .sent) (swept i (relabel i u (counting c t i) .card)))
 unfolding become treeRefusal _when_else_
 become-standing c first t i u ei h el eu =
     ap₂ (λ (b : Bool) (n : ℕ). unless (11 when b else 12 when labelsShort c n else 0) (enter c first t)) (stands-in c t i ei h) (rw (← eu) (need-same c t (treeAt i c) u el))
@@ -56,8 +59,8 @@ pub swept-is : (c : Card) (t : Tree) (i u : ℕ) → i < length (c .trees) → t
 unfolding swept
 swept-is c t i u h e = rw (alike-empty _ _ (relabel-stays i u c h .tree), e) refl
 
-pub set-at : (c : Card) (t : Tree) (i : ℕ) → i < length (c .trees) → treeAt i (withTrees (set (c .trees) i t) c) ≡ t
-unfolding treeAt withTrees
+pub set-at : (c : Card) (t : Tree) (i : ℕ) → i < length (c .trees) → treeAt i (counting c t i) ≡ t
+unfolding treeAt withTrees recounted withRoutes
 set-at c t i h = getD-set-same (c .trees) i t (bare []) h
 
 -- ---- a standing tree becomes t
@@ -80,21 +83,21 @@ pub record Standing (c : Card) (t : Tree) (i u : ℕ) : Type 0 where
 
 module _ (c : Card) (first : List Sent) (t : Tree) (i u : ℕ) (S : Standing c t i u) (s : List ℕ) where
   abbrev changed : Card
-  changed = withTrees (set (c .trees) i t) c
+  changed = counting c t i
 
   changed-within : i < length (changed .trees)
-  changed-within = unfold withTrees in rw (length-set (c .trees) i t) (S .within)
+  changed-within = unfold recounted withRoutes withTrees in rw (length-set (c .trees) i t) (S .within)
 
   pub changed-size : (id : ℕ) → length (records id (relabel i u changed .sent)) ≡ relabelSize c (treeAt i c) u
   changed-size id =
       relabel-size id i u changed changed-within
-      ∙ same-size c changed (treeAt i changed) (treeAt i c) u (unfold withTrees in refl) (unfold withTrees in refl) (ap (λ (x : Tree). x .label) (set-at c t i (S .within)) ∙ (S .label)) (ap (λ (x : Tree). x .name) (set-at c t i (S .within)) ∙ (S .name))
+      ∙ same-size c changed (treeAt i changed) (treeAt i c) u (unfold recounted withRoutes withTrees in refl) (unfold recounted withRoutes withTrees in refl) (ap (λ (x : Tree). x .label) (set-at c t i (S .within)) ∙ (S .label)) (ap (λ (x : Tree). x .name) (set-at c t i (S .within)) ∙ (S .name))
 
   pub changed-relabel : relabelSize changed (treeAt i changed) u ≡ relabelSize c (treeAt i c) u
   changed-relabel = sym (relabel-size 0 i u changed changed-within) ∙ changed-size 0
 
   pub changed-need : need changed (treeAt i changed) u ≡ need c (treeAt i c) u
-  changed-need = same-need c changed (treeAt i changed) (treeAt i c) u (unfold withTrees in refl) (unfold withTrees in refl) (ap (λ (x : Tree). x .label) (set-at c t i (S .within)) ∙ (S .label))
+  changed-need = same-need c changed (treeAt i changed) (treeAt i c) u (unfold recounted withRoutes withTrees in refl) (unfold recounted withRoutes withTrees in refl) (ap (λ (x : Tree). x .label) (set-at c t i (S .within)) ∙ (S .label))
 
   all-size : (id : ℕ) → length (records id (first ++ relabel i u changed .sent)) ≡ length (records id first) + relabelSize c (treeAt i c) u
   all-size id = ap length (records-append id first (relabel i u changed .sent)) ∙ length-append (records id first) _ ∙ ap (λ (k : ℕ). length (records id first) + k) (changed-size (idsAfter id first))
@@ -124,7 +127,7 @@ module _ (c : Card) (first : List Sent) (t : Tree) (i u : ℕ) (S : Standing c t
   standing-done e k s' e' end w = rw (is-outcome, e) (unfold _when_else_ unless in does-ended c _ _ s s' e' end (rw (all-size (c .next)) k) w)
 
   enough-labels : labelsShort c (need c (treeAt i c) u) ≡ false → need changed (treeAt i changed) u ≤ freeLabels changed
-  enough-labels e = rw changed-need (unfold freeLabels withTrees in ltb-false _ _ (unfold labelsShort freeLabels in e))
+  enough-labels e = rw changed-need (unfold freeLabels recounted withRoutes withTrees in ltb-false _ _ (unfold labelsShort freeLabels in e))
 
   -- by the number that `standing_refusal` gives
   module _ (size r : ℕ) (es : size ≡ length (records (c .next) first))

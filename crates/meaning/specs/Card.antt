@@ -92,6 +92,9 @@ withLabels ls c = record { base = c .base; next = c .next; routes = c .routes; t
 unfoldable pub withLast : ℕ → Card → Card
 withLast l c = record { base = c .base; next = c .next; routes = c .routes; trees = c .trees; labels = c .labels; last = l }
 
+abbrev pub withCounts : ℕ → ℕ → Route → Route
+withCounts standing lone x = record { root = x .root; via = x .via; standing = standing; lone = lone }
+
 unfoldable pub withBranch : ℕ → ℕ → Tree → Tree
 withBranch n l t = record { name = t .name; branches = set (t .branches) n l; leaf = t .leaf; label = t .label }
 

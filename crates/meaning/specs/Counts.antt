@@ -14,7 +14,7 @@ use Rattle.meaning.specs.Octets.{pick, place, count, any, _when_else_}
 use Rattle.meaning.specs.Lists.{by-test, picked, getD-out, no-when, any-count, count-any}
 use Rattle.meaning.specs.Wire.{rootIn}
 use Rattle.meaning.specs.RoundTrip.{both}
-use Rattle.meaning.specs.Card.{Route, Tree, Card, noRoute, noEntry, withBranch, isFor, routePlace, routeOf, bare, treeAt, isBranch, isEmpty, isLone, notHeld, leadsOn, freeLabels}
+use Rattle.meaning.specs.Card.{Route, Tree, Card, noRoute, noEntry, withCounts, withBranch, isFor, routePlace, routeOf, bare, treeAt, isBranch, isEmpty, isLone, notHeld, leadsOn, freeLabels}
 use Rattle.meaning.specs.Events.{needMove, labelsShort, upstream, holder, ofRoot, total, inRoot, oneStanding, oneLone, workedOut, entryOf, changed, recountedFor, recount, needOne, sumFrom, needAll, routesFull, quickYes, quickNo, routeShort, runsOut, routeRefusal, recountedWithout}
 
 -- ---- sums over the trees
@@ -229,7 +229,7 @@ recount-still t s rs a b =
 -- ---- the routes but for the counts
 
 unfoldable pub plain : Route → Route
-plain x = record { root = x .root; via = x .via; standing = 0; lone = 0 }
+plain x = withCounts 0 0 x
 
 unfoldable pub plains : List Route → List Route
 plains [] = []

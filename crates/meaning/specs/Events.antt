@@ -7,7 +7,7 @@ use lib.ListN.{getD, length, set}
 use lib.Dec.{eqb, leb, ltb}
 use Rattle.meaning.specs.Octets.{pick, place, same, put, cut, _when_else_}
 use Rattle.meaning.specs.Wire.{rootIn, elementRefusal, Message, messageIn, messageRefusal, mapping, withdraw, release, Sent, records, idsAfter}
-use Rattle.meaning.specs.Card.{noRoute, nobody, noEntry, Route, Tree, Use, free, mapped, awaiting, Card, fresh, withNext, withRoutes, withTrees, withLabels, withBranch, withLeaf, withLabel, isFor, routePlace, routeOf, treePlace, treeOf, treeAt, stands, isEmpty, isLone, leadsOn, isAwaiting, useOf, heldFor, freeLabels, treeLimit, routeLimit, withLast, nextFree}
+use Rattle.meaning.specs.Card.{noRoute, nobody, noEntry, Route, Tree, Use, free, mapped, awaiting, Card, fresh, withNext, withRoutes, withTrees, withLabels, withCounts, withBranch, withLeaf, withLabel, isFor, routePlace, routeOf, treePlace, treeOf, treeAt, stands, isEmpty, isLone, leadsOn, isAwaiting, useOf, heldFor, freeLabels, treeLimit, routeLimit, withLast, nextFree}
 
 -- ---- what an event hands back
 
@@ -152,7 +152,7 @@ oneLone t = pick (isLone t) 1 0
 
 -- the entry with its counts worked out
 unfoldable pub workedOut : List Tree → Route → Route
-workedOut ts x = record { root = x .root; via = x .via; standing = total (inRoot (x .root) oneStanding) ts; lone = total (inRoot (x .root) oneLone) ts }
+workedOut ts x = withCounts (total (inRoot (x .root) oneStanding) ts) (total (inRoot (x .root) oneLone) ts) x
 
 -- the root's entry; for a new one the counts are worked out
 unfoldable pub entryOf : List ℕ → Card → Route
@@ -168,7 +168,7 @@ changed n before after = pick (eqb before after) n ((n + after + (countRange - b
 
 -- an entry that counted the tree t, and counts s in its place
 unfoldable pub recountedFor : Tree → Tree → Route → Route
-recountedFor t s x = record { root = x .root; via = x .via; standing = changed (x .standing) (oneStanding t) (oneStanding s); lone = changed (x .lone) (oneLone t) (oneLone s) }
+recountedFor t s x = withCounts (changed (x .standing) (oneStanding t) (oneStanding s)) (changed (x .lone) (oneLone t) (oneLone s)) x
 
 -- the entry of the tree's root, where there is one, counts s in the place of t
 unfoldable pub recount : Tree → Tree → List Route → List Route

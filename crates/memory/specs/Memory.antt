@@ -46,8 +46,16 @@ routeCount ns = upTo routeLimit (getD ns 2 0)
 unfoldable pub treeCount : List ℕ → ℕ
 treeCount ns = upTo treeLimit (getD ns 3 0)
 
+-- the number of root i's entry holds its route and its counts, an octet each: via + 256 * standing + 65536 * lone
+abbrev pub routeNumber : List ℕ → ℕ → ℕ
+routeNumber ns i = getD ns (routeColumn + i) 0
+
+-- an entry, of its root's octets and its number
+unfoldable pub entryIn : List ℕ → ℕ → Route
+entryIn r x = record { root = r; via = x % 256; standing = x / 256 % 256; lone = x / 65536 % 256 }
+
 unfoldable pub routeIn : List ℕ → List ℕ → ℕ → Route
-routeIn ns os i = record { root = rootName os i; via = getD ns (routeColumn + i) 0 }
+routeIn ns os i = entryIn (rootName os i) (routeNumber ns i)
 
 -- ---- labels: each has a bit and a mark
 

@@ -1,6 +1,6 @@
-use Rattle.memory_routes.proofs.Routes.{append-route}
 use lib.ListN.{length-set}
 use native.Mathlib.Omega.{arith}
+use Rattle.memory_routes.proofs.Routes.{append-route}
 use borrow.Author.Needs.{needs}
 use Rattle.memory_routes.proofs.append_route.Statement.{statement}
 use Rattle.memory_routes.proofs.append_route.Tie as tie
@@ -16,6 +16,9 @@ add-set-text c = search needs
 
 set-text-requires : tie.Need-set-text-requires
 set-text-requires c κs = search needs
+
+entry-number-requires : tie.Need-entry-number-requires
+entry-number-requires c κs = search needs
 
 add-numbers : tie.Need-add-numbers
 add-numbers c = search needs
@@ -40,8 +43,9 @@ same-length-2 c = search needs
 
 returns : tie.Need-returns
 returns c =
-    let s = c .before .before .before .before .before .before .before .before .before in
-    append-route _ _ _ _ _ _ (s .pre .0) (c .before .before .before .before .route-count .ensures .0) (omega (arith, c .before .before .before .before .route-count .ensures .0)) (s .pre .3) (c .before .before .set-text .ensures)
+    let m = c .before .before .before .before .before in
+    let s = m .before .before .before .before .before in
+    append-route _ _ _ _ _ _ _ (s .pre .0) (m .route-count .ensures .0) (omega (arith, m .route-count .ensures .0)) (s .pre .3) (c .before .before .before .set-text .ensures) (c .entry-number .ensures _)
 
 pub append-route-spec : {M : Type 1} → statement M
 append-route-spec =
@@ -51,6 +55,7 @@ append-route-spec =
     mul-set-text
     add-set-text
     set-text-requires
+    entry-number-requires
     add-numbers
     mul-numbers
     slice-write-numbers

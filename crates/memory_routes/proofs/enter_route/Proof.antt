@@ -1,11 +1,14 @@
-use Rattle.memory_routes.proofs.Routes.{set-route, add-route}
 use native.Mathlib.Omega.{arith}
+use Rattle.memory_routes.proofs.Routes.{set-route, add-route}
 use borrow.Author.Needs.{needs}
 use Rattle.memory_routes.proofs.enter_route.Statement.{statement}
 use Rattle.memory_routes.proofs.enter_route.Tie as tie
 
 route-count-requires : tie.Need-route-count-requires
 route-count-requires c κs = search needs
+
+entry-number-requires : tie.Need-entry-number-requires
+entry-number-requires c κs = search needs
 
 add-numbers : tie.Need-add-numbers
 add-numbers c = search needs
@@ -21,14 +24,15 @@ same-length c = search needs
 
 returns : tie.Need-returns
 returns c =
-    let s = c .before .before .before .before .before .before in
-    set-route _ _ _ _ _ (s .pre .0) (s .pre .3) (omega (arith, c .before .route-count .ensures .0))
+    let m = c .before .before in
+    let s = m .before .before .before .before .before in
+    set-route _ _ _ _ (s .pre .0) (omega (arith, m .route-count .ensures .0)) _ _ (s .pre .3) (c .entry-number .ensures _)
 
 append-route-requires : tie.Need-append-route-requires
 append-route-requires c κs =
     let s = c .before .before .before .before .before .before .before .before in
     let room = s .pre .4 (omega arith) in
-    (s .pre .0, s .pre .1, omega arith, s .pre .2)
+    (s .pre .0, s .pre .1, omega arith, s .pre .2, s .pre .5, s .pre .6, s .pre .7)
 
 same-length-2 : tie.Need-same-length-2
 same-length-2 c = search needs
@@ -38,14 +42,16 @@ same-length-3 c = search needs
 
 returns-2 : tie.Need-returns-2
 returns-2 c =
-    let s = c .before .before .before .before .before .before .before .before .before .before .before .before .before in
-    add-route _ _ _ _ _ _ _ (s .pre .3) (c .before .before .before .before .before .before .before .before .route-count .ensures .0) (c .before .before .before .before .before .before .before .if1 .left) (c .before .before .before .before .append-route .ensures)
+    let m = c .before .before .before .before .before .before .before .before in
+    let s = m .before .before .before .before .before in
+    add-route _ _ _ _ _ _ _ (s .pre .3) (m .route-count .ensures .0) (c .before .before .before .before .before .before .before .if1 .left) (c .before .before .before .before .append-route .ensures)
 
 pub enter-route-spec : {M : Type 1} → statement M
 enter-route-spec =
     tie.close
     (tie.spec
     route-count-requires
+    entry-number-requires
     add-numbers
     mul-numbers
     slice-write-numbers

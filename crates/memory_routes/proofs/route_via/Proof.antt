@@ -1,6 +1,6 @@
 use mathlib.Core.Path.{refl}
 use borrow.Author.Needs.{needs}
-use Rattle.memory.specs.Memory.{routeIn}
+use Rattle.memory.specs.Memory.{entryIn, routeIn}
 use Rattle.memory_routes.proofs.route_via.Statement.{statement}
 use Rattle.memory_routes.proofs.route_via.Tie as tie
 
@@ -14,7 +14,7 @@ shared-slice-read-result : tie.Need-shared-slice-read-result
 shared-slice-read-result c = search needs
 
 returns : tie.Need-returns
-unfolding routeIn
+unfolding routeIn entryIn
 returns c = λ os. refl
 
 pub route-via-spec : {M : Type 1} → statement M

@@ -1,0 +1,134 @@
+-- What a tree counts in the memory, what a change of it leaves of the counts, and the sums over all trees of a root. Assumes nothing.
+use Prim.Native.Nat.{ℕ, _+_, _≤_, _<_}
+use native.Mathlib.Numerals.{add-one}
+use native.Mathlib.Omega.{arith}
+use mathlib.Core.Path.{_≡_, refl, sym, ap, _∙_}
+use mathlib.Core.Bool.{Bool, true, false, not, and-false}
+use mathlib.Core.List.{List, []}
+use lib.ListN.{drop, getD, length, set, drop-of-length-le}
+use lib.Seq.{set-out, getD-set-same, drop-cons}
+use lib.Dec.{eqb, ltb}
+use borrow.Author.Tests.{eq-eqb, ne-eqb, lt-ltb}
+use Rattle.meaning.specs.Octets.{any, count, place, same}
+use Rattle.meaning.specs.Lists.{by-test, positive}
+use Rattle.meaning.specs.Wire.{rootIn}
+use Rattle.meaning.specs.Card.{Route, Tree, Card, noEntry, withRoutes, withTrees, withCounts, routePlace, isFor, bare, treeAt, isBranch, isEmpty, isLone}
+use Rattle.meaning.specs.Events.{ofRoot, total, inRoot, oneStanding, oneLone, changed, recountedFor, recount, recounted}
+use Rattle.meaning.specs.Counts.{recount-still}
+use Rattle.octets.proofs.Tab.{tab-length, tab-get}
+use Rattle.memory.specs.Memory.{cardOf, routeCount, treeCount, routeIn}
+use Rattle.memory.proofs.Memory.{trees-length}
+use Rattle.memory.proofs.Trees.{branches-length}
+
+-- ---- whether a tree is empty
+
+pub empty-leaf : (t : Tree) → true ≡ t .leaf → false ≡ isEmpty t
+unfolding isEmpty
+empty-leaf t e = rw (← e) (sym (and-false (not (any isBranch (t .branches)))))
+
+module _ (ns os : List ℕ) (i : ℕ) (h : i < treeCount ns) where
+  pub empty-branches : (r : Bool) → r ≡ any isBranch (set (set (treeAt i (cardOf ns os) .branches) 16 0) 16 0) → false ≡ treeAt i (cardOf ns os) .leaf → not r ≡ isEmpty (treeAt i (cardOf ns os))
+  unfolding isEmpty
+  empty-branches r e f =
+      let bs : List ℕ = treeAt i (cardOf ns os) .branches in
+      let long : length bs ≡ 16 = branches-length ns os i h in
+      let same : set (set bs 16 0) 16 0 ≡ bs = ap (λ (l : List ℕ). set l 16 0) (set-out bs 16 0 (omega arith)) ∙ set-out bs 16 0 (omega arith) in
+      rw (← f, e, same) (by-test (any isBranch bs) (λ t. rw t refl) (λ t. rw t refl))
+
+-- ---- its branches, one after the other
+
+module _ (bs : List ℕ) (n sum all : ℕ) (so-far : sum + count isBranch (drop n bs) ≡ all) where
+  pub branch-more : (x : ℕ) → n < length bs → x ≡ getD bs n 0 → (x ≡ 0 → ⊥) → sum + 1 + count isBranch (drop (n + 1) bs) ≡ all
+  unfolding count isBranch
+  branch-more x h e z =
+      let some : ltb 0 (getD bs n 0) ≡ true = rw (← e) (lt-ltb 0 x (positive x z)) in
+      let step : sum + (1 + count isBranch (drop (n + 1) bs)) ≡ all = rw (drop-cons bs n 0 h, some, ← add-one n) at so-far in
+      omega arith
+
+  pub branch-none : (x : ℕ) → n < length bs → x ≡ getD bs n 0 → x ≡ 0 → sum + count isBranch (drop (n + 1) bs) ≡ all
+  unfolding count isBranch
+  branch-none x h e z =
+      let none : getD bs n 0 ≡ 0 = sym e ∙ z in
+      rw (drop-cons bs n 0 h, none, ← add-one n) at so-far
+
+  pub branch-all : length bs ≤ n → sum ≡ all
+  unfolding count
+  branch-all h = let done : sum + 0 ≡ all = rw (drop-of-length-le bs {i = n} h) at so-far in omega arith
+
+-- ---- what one tree counts
+
+module _ (t : Tree) where
+  pub stands-not : true ≡ isEmpty t → 0 ≡ oneStanding t
+  unfolding oneStanding
+  stands-not e = rw (← e) refl
+
+  pub stands-once : false ≡ isEmpty t → 1 ≡ oneStanding t
+  unfolding oneStanding
+  stands-once e = rw (← e) refl
+
+  pub lone-leaf : true ≡ t .leaf → 0 ≡ oneLone t
+  unfolding oneLone isLone
+  lone-leaf e = rw (← e, and-false (eqb (count isBranch (t .branches)) 1)) refl
+
+  pub lone-once : (r : ℕ) → false ≡ t .leaf → r ≡ count isBranch (t .branches) → r ≡ 1 → 1 ≡ oneLone t
+  unfolding oneLone isLone
+  lone-once r f e one = rw (← f, ← e, eq-eqb r 1 one) refl
+
+  pub lone-not : (r : ℕ) → false ≡ t .leaf → r ≡ count isBranch (t .branches) → (r ≡ 1 → ⊥) → 0 ≡ oneLone t
+  unfolding oneLone isLone
+  lone-not r f e other = rw (← f, ← e, ne-eqb r 1 other) refl
+
+-- ---- a tree is counted anew
+
+module _ (t s : Tree) (c : Card) where
+  pub counted-still : oneStanding s ≡ oneStanding t → oneLone s ≡ oneLone t → c ≡ recounted t s c
+  unfolding recounted withRoutes
+  counted-still a b = ap (λ (rs : List Route). withRoutes rs c) (sym (recount-still t s (c .routes) (sym a) (sym b)))
+
+  pub counted-nowhere : (k : ℕ) → k ≡ routePlace (rootIn (s .name)) c → length (c .routes) ≤ k → c ≡ recounted t s c
+  unfolding recounted recount withRoutes routePlace
+  counted-nowhere k e h = ap (λ (rs : List Route). withRoutes rs c) (sym (set-out (c .routes) (place (isFor (rootIn (s .name))) (c .routes)) _ (omega arith)))
+
+pub routes-length : (ns os : List ℕ) → length (cardOf ns os .routes) ≡ routeCount ns
+unfolding cardOf
+routes-length ns os = tab-length (routeCount ns) (routeIn ns os)
+
+pub counted-there : (ns os : List ℕ) (t s : Tree) (d : Card) (k a b : ℕ) → k < routeCount ns → k ≡ routePlace (rootIn (s .name)) (cardOf ns os)
+    → a ≡ changed (routeIn ns os k .standing) (oneStanding t) (oneStanding s) → b ≡ changed (routeIn ns os k .lone) (oneLone t) (oneLone s)
+    → d ≡ withRoutes (set (cardOf ns os .routes) k (withCounts a b (routeIn ns os k))) (cardOf ns os) → d ≡ recounted t s (cardOf ns os)
+unfolding recounted recount recountedFor routePlace cardOf
+counted-there ns os t s d k a b h e ea eb g =
+    let there : getD (cardOf ns os .routes) k (noEntry (rootIn (s .name))) ≡ routeIn ns os k = tab-get (routeCount ns) (routeIn ns os) k (noEntry (rootIn (s .name))) h in
+    rw (← e, there, ← ea, ← eb) g
+
+-- ---- one tree's row anew, and then its count
+
+pub count-kept : (ns ns' os : List ℕ) (i : ℕ) (t : Tree) → cardOf ns' os ≡ withTrees (set (cardOf ns os .trees) i t) (cardOf ns os) → treeCount ns' ≡ treeCount ns
+unfolding withTrees
+count-kept ns ns' os i t e = sym (trees-length ns' os) ∙ ap (λ (c : Card). length (c .trees)) e ∙ simp (lib.ListN.length-set, trees-length) refl
+
+pub changed-tree : (c d e : Card) (i : ℕ) (t s : Tree) → i < length (c .trees) → d ≡ withTrees (set (c .trees) i s) c → e ≡ recounted t (treeAt i d) d → e ≡ recounted t s (withTrees (set (c .trees) i s) c)
+changed-tree c d e i t s h g k =
+    let there : treeAt i (withTrees (set (c .trees) i s) c) ≡ s = unfold treeAt withTrees in getD-set-same (c .trees) i s (bare []) h in
+    k ∙ rw (g, there) refl
+
+-- ---- all trees of a root
+
+pub of-root : (r : List ℕ) (t : Tree) (b : Bool) (a x : List ℕ) → b ≡ same x r → x ≡ rootIn a → a ≡ t .name → b ≡ ofRoot r t
+unfolding ofRoot
+of-root r t b a x e f g = e ∙ ap (λ (y : List ℕ). same y r) (f ∙ ap rootIn g)
+
+module _ (r : List ℕ) (f : Tree → ℕ) (c : Card) (i sum all : ℕ) (so-far : sum + total (inRoot r f) (drop i (c .trees)) ≡ all) where
+  pub total-more : (x : ℕ) → i < length (c .trees) → true ≡ ofRoot r (treeAt i c) → x ≡ f (treeAt i c) → sum + x + total (inRoot r f) (drop (i + 1) (c .trees)) ≡ all
+  unfolding total inRoot treeAt
+  total-more x h e g =
+      let step : sum + (f (getD (c .trees) i (bare [])) + total (inRoot r f) (drop (i + 1) (c .trees))) ≡ all = rw (drop-cons (c .trees) i (bare []) h, ← e, ← add-one i) at so-far in
+      omega arith
+
+  pub total-past : i < length (c .trees) → false ≡ ofRoot r (treeAt i c) → sum + total (inRoot r f) (drop (i + 1) (c .trees)) ≡ all
+  unfolding total inRoot treeAt
+  total-past h e = rw (drop-cons (c .trees) i (bare []) h, ← e, ← add-one i) at so-far
+
+  pub total-all : length (c .trees) ≤ i → sum ≡ all
+  unfolding total
+  total-all h = let done : sum + 0 ≡ all = rw (drop-of-length-le (c .trees) {i = i} h) at so-far in omega arith
