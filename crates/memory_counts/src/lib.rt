@@ -74,7 +74,11 @@ fn its_root(numbers: &[u64], names: &[u8], i: usize) -> usize
     requires { ⌜ Numbers (now numbers) × Names (now names) × (i < treeCount (now numbers)) × (i < treeLimit) ⌝ }
     ensures { λ r. ⌜ (let c = cardOf (now (numbers .entry)) (now (names .entry)) in (r ≡ routePlace (rootIn (treeAt i c .name)) c) × (r ≤ routeLimit)) ⌝ }
 {
-    memory_routes::route_place(numbers, names, wire_name::root_of(memory_trees::tree_name(names, i)))
+    memory_routes::route_place(
+        numbers,
+        names,
+        wire_name::root_of(memory_trees::tree_name(names, i)),
+    )
 }
 
 // The tree at place i counted so many before: its root's entry, where there is one, counts it as it is now.

@@ -1,11 +1,11 @@
 -- What a tree counts in the memory, what a change of it leaves of the counts, and the sums over all trees of a root. Assumes nothing.
-use Prim.Native.Nat.{ℕ, _+_, _≤_, _<_}
+use Prim.Native.Nat.{ℕ, suc, _+_, _≤_, _<_}
 use native.Mathlib.Numerals.{add-one}
 use native.Mathlib.Omega.{arith}
 use mathlib.Core.Path.{_≡_, refl, sym, ap, _∙_}
 use mathlib.Core.Bool.{Bool, true, false, not, and-false}
 use mathlib.Core.List.{List, []}
-use lib.ListN.{drop, getD, length, set, drop-of-length-le}
+use lib.ListN.{drop, getD, length, set, length-set, drop-of-length-le}
 use lib.Seq.{set-out, getD-set-same, drop-cons}
 use lib.Dec.{eqb, ltb}
 use borrow.Author.Tests.{eq-eqb, ne-eqb, lt-ltb}
@@ -42,14 +42,14 @@ module _ (bs : List ℕ) (n sum all : ℕ) (so-far : sum + count isBranch (drop 
   unfolding count isBranch
   branch-more x h e z =
       let some : ltb 0 (getD bs n 0) ≡ true = rw (← e) (lt-ltb 0 x (positive x z)) in
-      let step : sum + (1 + count isBranch (drop (n + 1) bs)) ≡ all = rw (drop-cons bs n 0 h, some, ← add-one n) at so-far in
-      omega arith
+      let step : sum + suc (count isBranch (drop (suc n) bs)) ≡ all = rw (drop-cons bs n 0 h, some) at so-far in
+      rw (add-one n) (omega arith)
 
   pub branch-none : (x : ℕ) → n < length bs → x ≡ getD bs n 0 → x ≡ 0 → sum + count isBranch (drop (n + 1) bs) ≡ all
   unfolding count isBranch
   branch-none x h e z =
       let none : getD bs n 0 ≡ 0 = sym e ∙ z in
-      rw (drop-cons bs n 0 h, none, ← add-one n) at so-far
+      rw (add-one n) (rw (drop-cons bs n 0 h, none) at so-far)
 
   pub branch-all : length bs ≤ n → sum ≡ all
   unfolding count
@@ -93,19 +93,21 @@ pub routes-length : (ns os : List ℕ) → length (cardOf ns os .routes) ≡ rou
 unfolding cardOf
 routes-length ns os = tab-length (routeCount ns) (routeIn ns os)
 
-pub counted-there : (ns os : List ℕ) (t s : Tree) (d : Card) (k a b : ℕ) → k < routeCount ns → k ≡ routePlace (rootIn (s .name)) (cardOf ns os)
-    → a ≡ changed (routeIn ns os k .standing) (oneStanding t) (oneStanding s) → b ≡ changed (routeIn ns os k .lone) (oneLone t) (oneLone s)
+-- n and m are the entry's counts, x and y what the tree counted, x' and y' what it counts now
+pub counted-there : (ns os : List ℕ) (t s : Tree) (d : Card) (k a b n m x y x' y' : ℕ) → k < routeCount ns → k ≡ routePlace (rootIn (s .name)) (cardOf ns os)
+    → n ≡ routeIn ns os k .standing → m ≡ routeIn ns os k .lone → x ≡ oneStanding t → y ≡ oneLone t → x' ≡ oneStanding s → y' ≡ oneLone s
+    → a ≡ changed n x x' → b ≡ changed m y y'
     → d ≡ withRoutes (set (cardOf ns os .routes) k (withCounts a b (routeIn ns os k))) (cardOf ns os) → d ≡ recounted t s (cardOf ns os)
 unfolding recounted recount recountedFor routePlace cardOf
-counted-there ns os t s d k a b h e ea eb g =
+counted-there ns os t s d k a b n m x y x' y' h e en em ex ey ex' ey' ea eb g =
     let there : getD (cardOf ns os .routes) k (noEntry (rootIn (s .name))) ≡ routeIn ns os k = tab-get (routeCount ns) (routeIn ns os) k (noEntry (rootIn (s .name))) h in
-    rw (← e, there, ← ea, ← eb) g
+    rw (← e, there, ← en, ← em, ← ex, ← ey, ← ex', ← ey', ← ea, ← eb) g
 
 -- ---- one tree's row anew, and then its count
 
 pub count-kept : (ns ns' os : List ℕ) (i : ℕ) (t : Tree) → cardOf ns' os ≡ withTrees (set (cardOf ns os .trees) i t) (cardOf ns os) → treeCount ns' ≡ treeCount ns
 unfolding withTrees
-count-kept ns ns' os i t e = sym (trees-length ns' os) ∙ ap (λ (c : Card). length (c .trees)) e ∙ simp (lib.ListN.length-set, trees-length) refl
+count-kept ns ns' os i t e = sym (trees-length ns' os) ∙ ap (λ (c : Card). length (c .trees)) e ∙ simp (length-set, trees-length) refl
 
 pub changed-tree : (c d e : Card) (i : ℕ) (t s : Tree) → i < length (c .trees) → d ≡ withTrees (set (c .trees) i s) c → e ≡ recounted t (treeAt i d) d → e ≡ recounted t s (withTrees (set (c .trees) i s) c)
 changed-tree c d e i t s h g k =
@@ -122,12 +124,14 @@ module _ (r : List ℕ) (f : Tree → ℕ) (c : Card) (i sum all : ℕ) (so-far 
   pub total-more : (x : ℕ) → i < length (c .trees) → true ≡ ofRoot r (treeAt i c) → x ≡ f (treeAt i c) → sum + x + total (inRoot r f) (drop (i + 1) (c .trees)) ≡ all
   unfolding total inRoot treeAt
   total-more x h e g =
-      let step : sum + (f (getD (c .trees) i (bare [])) + total (inRoot r f) (drop (i + 1) (c .trees))) ≡ all = rw (drop-cons (c .trees) i (bare []) h, ← e, ← add-one i) at so-far in
-      omega arith
+      let step : sum + (f (getD (c .trees) i (bare [])) + total (inRoot r f) (drop (suc i) (c .trees))) ≡ all = rw (drop-cons (c .trees) i (bare []) h, ← e) at so-far in
+      rw (add-one i) (omega arith)
 
   pub total-past : i < length (c .trees) → false ≡ ofRoot r (treeAt i c) → sum + total (inRoot r f) (drop (i + 1) (c .trees)) ≡ all
   unfolding total inRoot treeAt
-  total-past h e = rw (drop-cons (c .trees) i (bare []) h, ← e, ← add-one i) at so-far
+  total-past h e =
+      let step : sum + (0 + total (inRoot r f) (drop (suc i) (c .trees))) ≡ all = rw (drop-cons (c .trees) i (bare []) h, ← e) at so-far in
+      rw (add-one i) (omega arith)
 
   pub total-all : length (c .trees) ≤ i → sum ≡ all
   unfolding total
