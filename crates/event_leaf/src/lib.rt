@@ -30,7 +30,7 @@ fn join_standing(
         return 0;
     }
     let id = memory::next_id(numbers);
-    memory_trees::set_leaf(numbers, i, true);
+    memory_counts::change_leaf(numbers, names, i, true);
     *answer = 0;
     event_tree::settle(numbers, names, i, u, false, out, 0, id)
 }
@@ -56,7 +56,7 @@ fn join_new(
     let place = memory::tree_count(numbers);
     let id = memory::next_id(numbers);
     memory_rows::enter_tree(numbers, names, name);
-    memory_trees::set_leaf(numbers, place, true);
+    memory_counts::change_leaf(numbers, names, place, true);
     *answer = 0;
     event_tree::grow(numbers, names, place, u, out, id)
 }
@@ -108,7 +108,7 @@ fn leave_standing(
         return 0;
     }
     let id = memory::next_id(numbers);
-    memory_trees::set_leaf(numbers, i, false);
+    memory_counts::change_leaf(numbers, names, i, false);
     *answer = 0;
     event_tree::settle(numbers, names, i, u, empty, out, 0, id)
 }

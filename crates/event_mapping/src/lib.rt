@@ -48,7 +48,7 @@ fn map_standing(
         return 0;
     }
     let id = memory::next_id(numbers);
-    memory_trees::set_branch(numbers, i, n, label);
+    memory_counts::change_branch(numbers, names, i, n, label);
     *answer = 0;
     event_tree::settle(numbers, names, i, u, false, out, 0, id)
 }
@@ -76,7 +76,7 @@ fn map_new(
     let place = memory::tree_count(numbers);
     let id = memory::next_id(numbers);
     memory_rows::enter_tree(numbers, names, name);
-    memory_trees::set_branch(numbers, place, n, label);
+    memory_counts::change_branch(numbers, names, place, n, label);
     *answer = 0;
     event_tree::grow(numbers, names, place, u, out, id)
 }

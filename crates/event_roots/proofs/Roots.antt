@@ -2,11 +2,10 @@
 use Prim.Native.Nat.{ℕ, _+_, _-_, _≤_, _<_}
 use native.Mathlib.Omega.{arith}
 use mathlib.Core.Path.{_≡_, refl, sym, ap, ap₂, _∙_}
-use mathlib.Core.Bool.{Bool, true, false}
+use mathlib.Core.Bool.{true, false}
 use mathlib.Core.List.{List}
 use lib.ListN.{length}
-use Rattle.meaning.specs.Octets.{same}
-use Rattle.meaning.specs.Wire.{rootIn, records}
+use Rattle.meaning.specs.Wire.{records}
 use Rattle.meaning.specs.Card.{Tree, Card, treeAt, freeLabels}
 use Rattle.meaning.specs.Events.{still, moveLabel, needMove, holder, ofRoot, moveOne, moveFrom, moveAll, needOne, sumFrom, needAll}
 use Rattle.memory.specs.Memory.{cardOf, treeCount}
@@ -19,10 +18,6 @@ use Rattle.event_move.proofs.Steps.{as-many}
 -- ---- one tree, of the root or not
 
 module _ (r : List ℕ) (t : Tree) where
-  pub of-root : (b : Bool) (a x : List ℕ) → b ≡ same x r → x ≡ rootIn a → a ≡ t .name → b ≡ ofRoot r t
-  unfolding ofRoot
-  of-root b a x e f g = e ∙ ap (λ (y : List ℕ). same y r) (f ∙ ap rootIn g)
-
   pub need-of : (u : ℕ) → true ≡ ofRoot r t → needOne r u t ≡ needMove (holder u t)
   unfolding needOne
   need-of u e = rw (← e) refl

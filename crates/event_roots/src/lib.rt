@@ -5,74 +5,55 @@ ghost use Prim.Native.Nat.{ℕ, _+_, _≤_, _<_, _*_};
 ghost use lib.ListN.{length};
 ghost use Rattle.meaning.specs.Wire.{records, recordLimit};
 ghost use Rattle.meaning.specs.Card.{Card, treeAt, freeLabels, sentLimit, treeLimit};
-ghost use Rattle.meaning.specs.Events.{needOne, needAll, ofRoot, moveOne, moveAll};
+ghost use Rattle.meaning.specs.Events.{needOne, needAll, moveOne, moveAll};
 ghost use Rattle.memory.specs.Sizes.{Numbers, Names};
 ghost use Rattle.memory.specs.Memory.{cardOf, treeCount};
 ghost use Rattle.event_holder.specs.Move.{Wrote, sizeOne, sizeAll};
 use event_move::Written;
 
-fn is_of_root(names: &[u8], i: usize, root: &[u8]) -> bool
-    requires { ⌜ Names (now names) × (i < treeLimit) ⌝ }
-    ensures { λ r. ⌜ ((ns : List ℕ) → i < treeCount ns → r ≡ ofRoot (now (root .entry)) (treeAt i (cardOf ns (now (names .entry))))) ⌝ }
-{
-    octets::equal(wire_name::root_of(memory_trees::tree_name(names, i)), root)
+// What a move takes: how many free labels, and how many octets its records have.
+pub struct Takes {
+    pub labels: usize,
+    pub octets: usize,
 }
 
-// How many free labels the move of one tree takes, and how many octets its records have.
-fn need_one(numbers: &[u64], names: &[u8], i: usize, root: &[u8], u: u64) -> usize
+// That of one tree.
+fn take_one(numbers: &[u64], names: &[u8], i: usize, root: &[u8], u: u64) -> Takes
     requires { ⌜ Numbers (now numbers) × Names (now names) × (i < treeCount (now numbers)) × (i < treeLimit) ⌝ }
-    ensures { λ r. ⌜ (r ≡ needOne (now (root .entry)) u (treeAt i (cardOf (now (numbers .entry)) (now (names .entry))))) × (r ≤ 1) ⌝ }
+    ensures { λ r. ⌜ (let t = treeAt i (cardOf (now (numbers .entry)) (now (names .entry))) in (r .labels ≡ needOne (now (root .entry)) u t) × (r .octets ≡ sizeOne (now (root .entry)) u t)
+        × (r .labels ≤ 1) × (r .octets ≤ 2 * recordLimit)) ⌝ }
 {
-    if is_of_root(names, i, root) {
-        if event_holder::holder(numbers, i, u) == 17 {
-            0
-        } else {
-            1
+    if memory_counts::is_of_root(names, i, root) {
+        let h = event_holder::holder(numbers, i, u);
+        let octets = event_holder::move_size(numbers, names, i, h);
+        if h == 17 {
+            return Takes { labels: 0, octets };
         }
-    } else {
-        0
+        return Takes { labels: 1, octets };
+    }
+    Takes {
+        labels: 0,
+        octets: 0,
     }
 }
 
-fn size_one(numbers: &[u64], names: &[u8], i: usize, root: &[u8], u: u64) -> usize
-    requires { ⌜ Numbers (now numbers) × Names (now names) × (i < treeCount (now numbers)) × (i < treeLimit) ⌝ }
-    ensures { λ r. ⌜ (r ≡ sizeOne (now (root .entry)) u (treeAt i (cardOf (now (numbers .entry)) (now (names .entry))))) × (r ≤ 2 * recordLimit) ⌝ }
-{
-    if is_of_root(names, i, root) {
-        event_holder::move_size(numbers, names, i, event_holder::holder(numbers, i, u))
-    } else {
-        0
-    }
-}
-
-// How many free labels a move of all trees of a root takes.
-pub fn need_all(numbers: &[u64], names: &[u8], root: &[u8], u: u64) -> usize
+// That of all trees of a root, in one walk.
+pub fn take_all(numbers: &[u64], names: &[u8], root: &[u8], u: u64) -> Takes
     requires { ⌜ Numbers (now numbers) × Names (now names) ⌝ }
-    ensures { λ r. ⌜ (r ≡ needAll (now (root .entry)) u (cardOf (now (numbers .entry)) (now (names .entry)))) × (r ≤ treeLimit) ⌝ }
+    ensures { λ r. ⌜ (let c = cardOf (now (numbers .entry)) (now (names .entry)) in (r .labels ≡ needAll (now (root .entry)) u c) × (r .octets ≡ sizeAll (now (root .entry)) u c)
+        × (r .labels ≤ treeLimit) × (r .octets ≤ sentLimit)) ⌝ }
 {
     let n = memory::tree_count(numbers);
-    let mut sum = 0;
+    let mut labels = 0;
+    let mut octets = 0;
     let mut i = 0;
     while i < n {
-        sum += need_one(numbers, names, i, root, u);
+        let t = take_one(numbers, names, i, root, u);
+        labels += t.labels;
+        octets += t.octets;
         i += 1;
     }
-    sum
-}
-
-// How many octets its records have.
-pub fn size_all(numbers: &[u64], names: &[u8], root: &[u8], u: u64) -> usize
-    requires { ⌜ Numbers (now numbers) × Names (now names) ⌝ }
-    ensures { λ r. ⌜ (r ≡ sizeAll (now (root .entry)) u (cardOf (now (numbers .entry)) (now (names .entry)))) × (r ≤ sentLimit) ⌝ }
-{
-    let n = memory::tree_count(numbers);
-    let mut sum = 0;
-    let mut i = 0;
-    while i < n {
-        sum += size_one(numbers, names, i, root, u);
-        i += 1;
-    }
-    sum
+    Takes { labels, octets }
 }
 
 fn move_one(
@@ -91,7 +72,7 @@ fn move_one(
     ensures { λ r. ⌜ (let c = cardOf (now (numbers .entry)) (now (names .entry)) in Wrote (moveOne (now (root .entry)) u i c) id at (now (out .entry)) (now (out .exit)) (cardOf (now (numbers .exit)) (now (names .exit))) (r .at) (r .id)
         × (freeLabels (cardOf (now (numbers .exit)) (now (names .exit))) + needOne (now (root .entry)) u (treeAt i c) ≡ freeLabels c)) ⌝ }
 {
-    let ours = is_of_root(names, i, root);
+    let ours = memory_counts::is_of_root(names, i, root);
     if ours {
         let h = event_holder::holder(numbers, i, u);
         return event_move::move_label(numbers, names, i, h, out, at, id);

@@ -1,8 +1,8 @@
 -- The laws of the route order. Assumes nothing.
-use Prim.Native.Nat.{ℕ, zero, suc, _+_, _≤_, _<_, zero-le}
+use Prim.Native.Nat.{ℕ, zero, suc, _+_, _-_, _≤_, _<_, zero-le}
 use native.Mathlib.Omega.{arith}
 use mathlib.Core.Path.{_≡_, refl, sym, ap, ap₂, _∙_, subst}
-use mathlib.Core.Bool.{true, false, _&&_}
+use mathlib.Core.Bool.{Bool, true, false, _&&_, _||_, and-false}
 use mathlib.Core.List.{List, []}
 use lib.ListN.{length}
 use lib.Dec.{eqb, leb, ltb}
@@ -10,12 +10,14 @@ use borrow.Author.Tests.{eq-eqb, ne-eqb, eqb-true, le-ltb, lt-ltb, ltb-true, ltb
 use Rattle.meaning.specs.Octets.{put, cut, _when_else_}
 use Rattle.meaning.specs.Lists.{by-test, getD-out}
 use Rattle.meaning.specs.Wire.{records, idsAfter}
-use Rattle.meaning.specs.Card.{Route, Tree, Card, noRoute, withNext, withRoutes, routePlace, routeOf, treeAt, freeLabels, routeLimit}
-use Rattle.meaning.specs.Events.{taken, unless, finish, still, labelsShort, upstream, moveOne, moveFrom, moveAll, sumFrom, needAll, routesWith, routesFull, routeRefusal, reRoute}
+use Rattle.meaning.specs.Card.{Route, Tree, Card, noRoute, noEntry, withNext, withRoutes, routePlace, routeOf, treeAt, freeLabels, routeLimit}
+use Rattle.meaning.specs.Events.{taken, unless, finish, still, labelsShort, upstream, moveOne, moveFrom, moveAll, sumFrom, needAll, workedOut, entryOf, entryWith, routesWith, quickNo, runsOut, routesFull, routeRefusal, reRoute}
 use Rattle.meaning.specs.RoutesStay.{all-routes}
+use Rattle.meaning.specs.Counts.{twelve-cases}
 use Rattle.meaning.specs.Calls.{Does}
 use Rattle.octets.proofs.Parts.{mid-none}
-use Rattle.memory.specs.Memory.{cardOf, routeCount}
+use Rattle.octets.proofs.Tab.{tab-get}
+use Rattle.memory.specs.Memory.{cardOf, routeCount, routeIn}
 use Rattle.memory.proofs.Memory.{routes-length}
 use Rattle.event_holder.specs.Move.{Wrote, sizeOne, sizeAll}
 use Rattle.event_move.proofs.Records.{then-length}
@@ -23,7 +25,7 @@ use Rattle.event_move.proofs.Trees.{one-other, one-many, one-size}
 use Rattle.event_tree.specs.End.{Ended}
 use Rattle.event_tree.proofs.Ends.{does-refused, does-short, does-ended}
 use Rattle.event_tree.proofs.Tests.{when-1, when-2, when-3, when-0}
-use Rattle.event_route.specs.Order.{movedTo, routeOrder}
+use Rattle.event_route.specs.Order.{labelsFew, routesTo, movedTo, routeOrder}
 
 -- ---- what the moves of a root's trees write and leave
 
@@ -52,22 +54,63 @@ pub same-place : (r : List ℕ) (c d : Card) → d .routes ≡ c .routes → rou
 unfolding routePlace
 same-place r c d e = rw e refl
 
-pub same-routes : (r : List ℕ) (via : ℕ) (c d : Card) → d .routes ≡ c .routes → routesWith d r via ≡ routesWith c r via
-unfolding routesWith routePlace
-same-routes r via c d e = rw e refl
+same-routes : (x : Route) (c d : Card) → d .routes ≡ c .routes → routesTo d x ≡ routesTo c x
+unfolding routesTo routePlace
+same-routes x c d e = rw e refl
+
+-- the entry's counts are those that it had, or were worked out, before the trees moved
+with-is : (c : Card) (r : List ℕ) (via standing lone : ℕ) → standing ≡ entryOf r c .standing → lone ≡ entryOf r c .lone
+    → routesTo c (record { root = r; via = via; standing = standing; lone = lone }) ≡ routesWith c r via
+unfolding routesTo routesWith entryWith
+with-is c r via standing lone es el = rw (es, el) refl
 
 -- a root without an entry has no route
 pub no-entry : (r : List ℕ) (c : Card) → routePlace r c ≡ length (c .routes) → routeOf r c ≡ noRoute
 unfolding routeOf
-no-entry r c e = ap (λ (x : Route). x .via) (getD-out (c .routes) (routePlace r c) (record { root = r; via = noRoute }) (omega arith))
+no-entry r c e = ap (λ (x : Route). x .via) (getD-out (c .routes) (routePlace r c) (noEntry r) (omega arith))
 
-pub gone-is : (c : Card) (r : List ℕ) (via i : ℕ) → i ≡ routePlace r c → via ≡ 17 → withRoutes (cut (c .routes) i) c ≡ withRoutes (routesWith c r via) c
-unfolding routesWith
-gone-is c r via i e z = rw (eq-eqb via 17 z, e) refl
+module _ (c : Card) (x : Route) where
+  pub gone-is : (i : ℕ) → i ≡ routePlace (x .root) c → x .via ≡ 17 → withRoutes (cut (c .routes) i) c ≡ withRoutes (routesTo c x) c
+  unfolding routesTo
+  gone-is i e z = rw (eq-eqb (x .via) 17 z, e) refl
 
-pub put-is : (c : Card) (r : List ℕ) (via i : ℕ) → (via ≡ 17 → ⊥) → withRoutes (put (c .routes) (routePlace r c) (record { root = r; via = via })) c ≡ withRoutes (routesWith c r via) c
-unfolding routesWith
-put-is c r via i z = rw (ne-eqb via 17 z) refl
+  pub put-is : (x .via ≡ 17 → ⊥) → withRoutes (put (c .routes) (routePlace (x .root) c) x) c ≡ withRoutes (routesTo c x) c
+  unfolding routesTo
+  put-is z = rw (ne-eqb (x .via) 17 z) refl
+
+-- ---- the counts
+
+module _ (ns os r : List ℕ) (k : ℕ) (e : k ≡ routePlace r (cardOf ns os)) where
+  pub entry-there : k < routeCount ns → routeIn ns os k ≡ entryOf r (cardOf ns os)
+  entry-there h = unfold entryOf in rw (← e) (unfold cardOf in sym (tab-get (routeCount ns) (routeIn ns os) k _ h))
+
+  pub entry-new : routeCount ns ≤ k → workedOut (cardOf ns os .trees) (noEntry r) ≡ entryOf r (cardOf ns os)
+  entry-new h = unfold entryOf in rw (← e) (sym (getD-out (cardOf ns os .routes) k _ (rw routes-length h)))
+
+module _ (c : Card) (via standing lone : ℕ) where
+  pub surely-far : 16 ≤ via → false ≡ (ltb via 16 && ltb (freeLabels c + lone) standing)
+  surely-far h = rw (le-ltb via 16 h) refl
+
+  pub surely-none : standing ≤ lone → false ≡ (ltb via 16 && ltb (freeLabels c + lone) standing)
+  surely-none h = rw (le-ltb (freeLabels c + lone) standing (omega arith)) (sym (and-false (ltb via 16)))
+
+  pub surely-some : (b : Bool) → via < 16 → lone < standing → b ≡ labelsShort c (standing - lone) → b ≡ (ltb via 16 && ltb (freeLabels c + lone) standing)
+  unfolding labelsShort
+  surely-some b near h e =
+      e ∙ rw (lt-ltb via 16 near) (by-test (ltb (freeLabels c) (standing - lone))
+      (λ t. rw (t, lt-ltb (freeLabels c + lone) standing (let q = ltb-true (freeLabels c) (standing - lone) t in omega arith)) refl)
+      (λ t. rw (t, le-ltb (freeLabels c + lone) standing (let q = ltb-false (freeLabels c) (standing - lone) t in omega arith)) refl))
+
+  -- by the root's entry
+  pub quick-is : (r : List ℕ) → standing ≡ entryOf r c .standing → lone ≡ entryOf r c .lone → (ltb via 16 && ltb (freeLabels c + lone) standing) ≡ quickNo c r via
+  unfolding quickNo
+  quick-is r es el = rw (es, el) refl
+
+pub few-quick : (c : Card) (r : List ℕ) (via : ℕ) → quickNo c r via ≡ true → labelsFew c r via ≡ true
+few-quick c r via e = rw e refl
+
+pub few-walk : (c : Card) (r : List ℕ) (via u k : ℕ) (b : Bool) → quickNo c r via ≡ false → u ≡ upstream via → k ≡ needAll r u c → labelsShort c k ≡ b → labelsFew c r via ≡ b
+few-walk c r via u k b q eu ek e = rw q (unfold runsOut in sym (ap (labelsShort c) (ek ∙ ap (λ (v : ℕ). needAll r v c) eu)) ∙ e)
 
 -- ---- the order by its cases
 
@@ -84,11 +127,15 @@ order-same c r via s e =
     rw (eq-eqb (routeOf r c) via e)
     (does-ended c c [] s s c 0 (unfold records in zero-le) (record { leaves = unfold idsAfter withNext in refl; writes = unfold records in mid-none 0 s; ends = unfold records in refl }))
 
+second : (x y : Bool) → (x || y) ≡ false → y ≡ false
+second true y e = absurd (let z : _≡_ {A = ℕ} 0 1 = cc in omega arith)
+second false y e = e
+
 module _ (c : Card) (r : List ℕ) (via : ℕ) (ne : routeOf r c ≡ via → ⊥) (s : List ℕ) (k : ℕ)
-    (ek : k ≡ 15 when routesFull c r via else 12 when labelsShort c (needAll r (upstream via) c) else 16 when ltb (length s) (sizeAll r (upstream via) c) else 0) where
-  order-is : routeOrder c r via ≡ unless (15 when routesFull c r via else 12 when labelsShort c (needAll r (upstream via) c) else 0) (taken (movedTo c r via .sent) (movedTo c r via .card))
-  unfolding routeOrder routeRefusal reRoute movedTo
-  order-is = rw (ne-eqb (routeOf r c) via ne) refl
+    (ek : k ≡ 15 when routesFull c r via else 12 when labelsFew c r via else 16 when ltb (length s) (sizeAll r (upstream via) c) else 0) where
+  order-is : routeOrder c r via ≡ unless (15 when routesFull c r via else 12 when labelsFew c r via else 0) (taken (movedTo c r via .sent) (movedTo c r via .card))
+  unfolding routeOrder reRoute movedTo
+  order-is = rw (ne-eqb (routeOf r c) via ne, twelve-cases c r via) refl
 
   written-size : length (records (c .next) (movedTo c r via .sent)) ≡ sizeAll r (upstream via) c
   unfolding movedTo
@@ -98,17 +145,17 @@ module _ (c : Card) (r : List ℕ) (via : ℕ) (ne : routeOf r c ≡ via → ⊥
   order-refused some =
       by-test (routesFull c r via)
       (λ x. rw (ek ∙ when-1 15 12 16 _ _ _ x, order-is, x) (unfold _when_else_ unless in does-refused c 15 s))
-      (λ x. by-test (labelsShort c (needAll r (upstream via) c))
+      (λ x. by-test (labelsFew c r via)
       (λ y. rw (ek ∙ when-2 15 12 16 _ _ _ x y, order-is, x, y) (unfold _when_else_ unless in does-refused c 12 s))
       (λ y. by-test (ltb (length s) (sizeAll r (upstream via) c))
       (λ z. rw (ek ∙ when-3 15 12 16 _ _ _ x y z, order-is, x, y) (unfold _when_else_ unless in does-short c _ _ s (rw written-size (ltb-true _ _ z))))
       (λ z. absurd (some (ek ∙ when-0 15 12 16 _ _ _ x y z)))))
 
-  passes : k ≡ 0 → (routesFull c r via ≡ false) × (labelsShort c (needAll r (upstream via) c) ≡ false) × (sizeAll r (upstream via) c ≤ length s)
+  passes : k ≡ 0 → (routesFull c r via ≡ false) × (labelsFew c r via ≡ false) × (sizeAll r (upstream via) c ≤ length s)
   passes q =
       by-test (routesFull c r via)
-      (λ x. absurd (omega (arith, ek, when-1 15 12 16 _ (labelsShort c (needAll r (upstream via) c)) (ltb (length s) (sizeAll r (upstream via) c)) x)))
-      (λ x. by-test (labelsShort c (needAll r (upstream via) c))
+      (λ x. absurd (omega (arith, ek, when-1 15 12 16 _ (labelsFew c r via) (ltb (length s) (sizeAll r (upstream via) c)) x)))
+      (λ x. by-test (labelsFew c r via)
       (λ y. absurd (omega (arith, ek, when-2 15 12 16 _ _ (ltb (length s) (sizeAll r (upstream via) c)) x y)))
       (λ y. by-test (ltb (length s) (sizeAll r (upstream via) c))
       (λ z. absurd (omega (arith, ek, when-3 15 12 16 _ _ _ x y z)))
@@ -118,8 +165,11 @@ module _ (c : Card) (r : List ℕ) (via : ℕ) (ne : routeOf r c ≡ via → ⊥
   pub order-ready : k ≡ 0 → (routePlace r c ≡ length (c .routes) → (via ≡ 17 → ⊥) × (length (c .routes) < routeLimit)) × (needAll r (upstream via) c ≤ freeLabels c) × (sizeAll r (upstream via) c ≤ length s)
   order-ready q =
       let p = passes q in
-      ((λ e. let none = no-entry r c e in ((λ z. ne (none ∙ sym z)), few none (p .0))), ltb-false _ _ (unfold labelsShort in p .1), p .2)
+      ((λ e. let none = no-entry r c e in ((λ z. ne (none ∙ sym z)), few none (p .0))), walk-enough (p .1), p .2)
     where
+      walk-enough : labelsFew c r via ≡ false → needAll r (upstream via) c ≤ freeLabels c
+      walk-enough e = unfold runsOut labelsShort in ltb-false _ _ (second (quickNo c r via) _ e)
+
       few : routeOf r c ≡ noRoute → routesFull c r via ≡ false → length (c .routes) < routeLimit
       few none full = leb-false routeLimit (length (c .routes)) (rw (eq-eqb (routeOf r c) noRoute none) at (full-is c r via ne ∙ full))
 
@@ -129,22 +179,23 @@ module _ (c : Card) (r : List ℕ) (via : ℕ) (ne : routeOf r c ≡ via → ⊥
       rw (order-is, p .0, p .1) (unfold _when_else_ unless in does-ended c _ _ s s' e end (rw written-size (p .2)) w)
 
 -- the trees have moved, and then the entry
-pub moved-ends : (c d e : Card) (r : List ℕ) (via u : ℕ) (id : ℕ) (s s' : List ℕ) (end next : ℕ) → id ≡ c .next → u ≡ upstream via → Wrote (moveAll r u c) id 0 s s' d end next
-    → e ≡ withNext next (withRoutes (routesWith d r via) d) → Ended (movedTo c r via) (c .next) 0 s s' e end
-moved-ends c d e r via u id s s' end next ei eu w q =
+pub moved-ends : (c d e : Card) (r : List ℕ) (via u standing lone : ℕ) (id : ℕ) (s s' : List ℕ) (end next : ℕ) → id ≡ c .next → u ≡ upstream via
+    → standing ≡ entryOf r c .standing → lone ≡ entryOf r c .lone → Wrote (moveAll r u c) id 0 s s' d end next
+    → e ≡ withNext next (withRoutes (routesTo d (record { root = r; via = via; standing = standing; lone = lone })) d) → Ended (movedTo c r via) (c .next) 0 s s' e end
+moved-ends c d e r via u standing lone id s s' end next ei eu es el w q =
     subst (λ (n : ℕ). Ended (movedTo c r via) n 0 s s' e end) ei (unfold movedTo in
     subst (λ (v : ℕ). Ended (record { sent = moveAll r v c .sent; card = withRoutes (routesWith c r via) (moveAll r v c .card) }) id 0 s s' e end) eu
     (record {
-      leaves = q ∙ ap₂ (λ (n : ℕ) (x : Card). withNext n (withRoutes (routesWith x r via) x)) (w .counts) (w .leaves)
-          ∙ ap (λ (rs : List Route). withNext (idsAfter id (moveAll r u c .sent)) (withRoutes rs (moveAll r u c .card))) (same-routes r via c (moveAll r u c .card) (all-routes r u c));
+      leaves = q ∙ ap₂ (λ (n : ℕ) (x : Card). withNext n (withRoutes (routesTo x entry) x)) (w .counts) (w .leaves)
+          ∙ ap (λ (rs : List Route). withNext (idsAfter id (moveAll r u c .sent)) (withRoutes rs (moveAll r u c .card))) (same-routes entry c (moveAll r u c .card) (all-routes r u c) ∙ with-is c r via standing lone es el);
       writes = w .writes;
       ends = w .ends;
     }))
+  where
+    entry : Route
+    entry = record { root = r; via = via; standing = standing; lone = lone }
 
 -- ---- small tests
-
-pub labels-short : (c : Card) (r : List ℕ) (via u k : ℕ) → u ≡ upstream via → k ≡ needAll r u c → labelsShort c k ≡ labelsShort c (needAll r (upstream via) c)
-labels-short c r via u k eu ek = ap (labelsShort c) (ek ∙ ap (λ (v : ℕ). needAll r v c) eu)
 
 module _ (c : Card) (r : List ℕ) (via u n k : ℕ) (eu : u ≡ upstream via) where
   pub room-short : k ≡ sizeAll r u c → n < k → ltb n (sizeAll r (upstream via) c) ≡ true

@@ -1,20 +1,22 @@
 // The route order: all its refusals are tested before the first label moves or the first octet is written.
 ghost use mathlib.Core.Path.{_≡_};
-ghost use Prim.Native.Nat.{_≤_, _<_};
+ghost use mathlib.Core.List.{List};
+ghost use Prim.Native.Nat.{ℕ, _+_, _≤_, _<_};
 ghost use lib.ListN.{length};
 ghost use mathlib.Core.Bool.{_&&_};
 ghost use lib.Dec.{eqb, leb, ltb};
 ghost use Rattle.meaning.specs.Octets.{_when_else_};
 ghost use Rattle.meaning.specs.Wire.{rootLimit};
 ghost use Rattle.meaning.specs.Card.{noRoute, routeOf, routePlace, freeLabels, withRoutes, routeLimit};
-ghost use Rattle.meaning.specs.Events.{finish, routesFull, routesWith, labelsShort, needAll, upstream};
+ghost use Rattle.meaning.specs.Events.{finish, entryOf, routesFull, needAll, upstream};
 ghost use Rattle.meaning.specs.Calls.{Does};
 ghost use Rattle.memory.specs.Sizes.{Numbers, Names};
 ghost use Rattle.memory.specs.Memory.{cardOf};
 ghost use Rattle.event_holder.specs.Move.{sizeAll};
 ghost use Rattle.event_tree.specs.End.{Ended};
-ghost use Rattle.event_route.specs.Order.{movedTo, routeOrder};
+ghost use Rattle.event_route.specs.Order.{labelsFew, routesTo, movedTo, routeOrder};
 use meaning::ROUTE_LIMIT;
+use memory_counts::Counts;
 
 // 15, for a root whose route is to be another.
 fn routes_full(numbers: &[u64], names: &[u8], root: &[u8]) -> bool
@@ -28,36 +30,90 @@ fn routes_full(numbers: &[u64], names: &[u8], root: &[u8]) -> bool
     false
 }
 
-// 15, 12 and 16 for a route that is another than the old one.
-fn route_refusal(numbers: &[u64], names: &[u8], root: &[u8], via: u64, u: u64, room: usize) -> u32
-    requires { ⌜ Numbers (now numbers) × Names (now names) × (u ≡ upstream via) × (routeOf (now root) (cardOf (now numbers) (now names)) ≡ via → ⊥) ⌝ }
-    ensures { λ r. ⌜ (let c = cardOf (now (numbers .entry)) (now (names .entry)) in r ≡ 15 when routesFull c (now (root .entry)) via else 12 when labelsShort c (needAll (now (root .entry)) (upstream via) c)
+// The counts of the root's entry; for a new one they are worked out.
+fn entry_counts(numbers: &[u64], names: &[u8], root: &[u8]) -> Counts
+    requires { ⌜ Numbers (now numbers) × Names (now names) ⌝ }
+    ensures { λ r. ⌜ (let e = entryOf (now (root .entry)) (cardOf (now (numbers .entry)) (now (names .entry))) in (r .standing ≡ e .standing) × (r .lone ≡ e .lone)
+        × (r .standing < 256) × (r .lone < 256)) ⌝ }
+{
+    let k = memory_routes::route_place(numbers, names, root);
+    if k < memory::route_count(numbers) {
+        let standing = memory_routes::standing(numbers, k);
+        let lone = memory_routes::lone(numbers, k);
+        return Counts { standing, lone };
+    }
+    memory_counts::work_out(numbers, names, root)
+}
+
+// 12 at once, without a walk: the trees that are not lone are more than the free labels, and each needs one whatever neighbour is the upstream.
+fn surely_short(numbers: &[u64], via: u64, standing: u64, lone: u64) -> bool
+    requires { ⌜ Numbers (now numbers) ⌝ }
+    ensures { λ r. ⌜ ((os : List ℕ) → r ≡ (ltb via 16 && ltb (freeLabels (cardOf (now (numbers .entry)) os) + lone) standing)) ⌝ }
+{
+    if 16 <= via {
+        return false;
+    }
+    if standing <= lone {
+        return false;
+    }
+    memory_labels::labels_short(numbers, (standing - lone) as usize)
+}
+
+// 15, 12 and 16 for a route that is another than the old one. The walk for 16 adds up the labels too, so that no order runs out of them,
+// whatever the counts are.
+fn route_refusal(
+    numbers: &[u64],
+    names: &[u8],
+    root: &[u8],
+    via: u64,
+    u: u64,
+    standing: u64,
+    lone: u64,
+    room: usize,
+) -> u32
+    requires { ⌜ (let c = cardOf (now numbers) (now names) in Numbers (now numbers) × Names (now names) × (u ≡ upstream via) × (routeOf (now root) c ≡ via → ⊥)
+        × (standing ≡ entryOf (now root) c .standing) × (lone ≡ entryOf (now root) c .lone)) ⌝ }
+    ensures { λ r. ⌜ (let c = cardOf (now (numbers .entry)) (now (names .entry)) in r ≡ 15 when routesFull c (now (root .entry)) via else 12 when labelsFew c (now (root .entry)) via
         else 16 when ltb room (sizeAll (now (root .entry)) (upstream via) c) else 0) ⌝ }
 {
     if routes_full(numbers, names, root) {
         return 15;
     }
-    if memory_labels::labels_short(numbers, event_roots::need_all(numbers, names, root, u)) {
+    if surely_short(numbers, via, standing, lone) {
         return 12;
     }
-    if room < event_roots::size_all(numbers, names, root, u) {
+    let t = event_roots::take_all(numbers, names, root, u);
+    let octets = t.octets;
+    if memory_labels::labels_short(numbers, t.labels) {
+        return 12;
+    }
+    if room < octets {
         return 16;
     }
     0
 }
 
 // The root's entry: anew, or gone where there is no route.
-fn set_route(numbers: &mut [u64], names: &mut [u8], root: &[u8], via: u64)
+fn set_route(
+    numbers: &mut [u64],
+    names: &mut [u8],
+    root: &[u8],
+    via: u64,
+    standing: u64,
+    lone: u64,
+)
     requires { ⌜ (let c = cardOf (now numbers) (now names) in Numbers (now numbers) × Names (now names) × (length (now root) ≤ rootLimit)
-        × (routePlace (now root) c ≡ length (c .routes) → (via ≡ 17 → ⊥) × (length (c .routes) < routeLimit))) ⌝ }
-    ensures { λ _. ⌜ (let c = cardOf (now (numbers .entry)) (now (names .entry)) in (cardOf (now (numbers .exit)) (now (names .exit))) ≡ withRoutes (routesWith c (now (root .entry)) via) c) ⌝ }
+        × (routePlace (now root) c ≡ length (c .routes) → (via ≡ 17 → ⊥) × (length (c .routes) < routeLimit))
+        × (via ≤ 17) × (standing < 256) × (lone < 256)) ⌝ }
+    ensures { λ _. ⌜ (let c = cardOf (now (numbers .entry)) (now (names .entry)) in (cardOf (now (numbers .exit)) (now (names .exit)))
+        ≡ withRoutes (routesTo c (record { root = now (root .entry); via = via; standing = standing; lone = lone })) c) ⌝ }
 {
     let i = memory_routes::route_place(numbers, names, root);
     if via == 17 {
         memory_routes::remove_route(numbers, names, i);
         return;
     }
-    memory_routes::enter_route(numbers, names, i, root, via);
+    memory_routes::enter_route(numbers, names, i, root, via, standing, lone);
 }
 
 fn re_route(
@@ -66,16 +122,19 @@ fn re_route(
     root: &[u8],
     via: u64,
     u: u64,
+    standing: u64,
+    lone: u64,
     out: &mut [u8],
 ) -> usize
     requires { ⌜ (let c = cardOf (now numbers) (now names) in Numbers (now numbers) × Names (now names) × (length (now root) ≤ rootLimit) × (u ≡ upstream via) × (u ≤ 17) × (u ≡ 16 → ⊥)
         × (routePlace (now root) c ≡ length (c .routes) → (via ≡ 17 → ⊥) × (length (c .routes) < routeLimit))
-        × (needAll (now root) u c ≤ freeLabels c) × (sizeAll (now root) u c ≤ length (now out))) ⌝ }
+        × (needAll (now root) u c ≤ freeLabels c) × (sizeAll (now root) u c ≤ length (now out))
+        × (via ≤ 17) × (standing ≡ entryOf (now root) c .standing) × (lone ≡ entryOf (now root) c .lone) × (standing < 256) × (lone < 256)) ⌝ }
     ensures { λ r. ⌜ (let c = cardOf (now (numbers .entry)) (now (names .entry)) in Ended (movedTo c (now (root .entry)) via) (c .next) 0 (now (out .entry)) (now (out .exit)) (cardOf (now (numbers .exit)) (now (names .exit))) r) ⌝ }
 {
     let w = event_roots::move_all(numbers, names, root, u, out, memory::next_id(numbers));
     let next = w.id;
-    set_route(numbers, names, root, via);
+    set_route(numbers, names, root, via, standing, lone);
     memory::set_next_id(numbers, next);
     w.at
 }
@@ -98,11 +157,14 @@ pub fn change_route(
         return 0;
     }
     let u = event_holder::upstream_via(via);
-    let refusal = route_refusal(numbers, names, root, via, u, out.len());
+    let e = entry_counts(numbers, names, root);
+    let standing = e.standing;
+    let lone = e.lone;
+    let refusal = route_refusal(numbers, names, root, via, u, standing, lone, out.len());
     if refusal != 0 {
         *answer = refusal;
         return 0;
     }
     *answer = 0;
-    re_route(numbers, names, root, via, u, out)
+    re_route(numbers, names, root, via, u, standing, lone, out)
 }

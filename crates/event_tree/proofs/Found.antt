@@ -56,9 +56,9 @@ module _ (rs : List Route) (i : ℕ) (c : Card) where
   unfolding swept withRoutes withTrees treeAt
   swept-beside = pick-withRoutes rs (isEmpty (treeAt i c)) (withTrees (cut (c .trees) i) c) c
 
-  swept-routes : swept i c .routes ≡ c .routes
-  unfolding swept withTrees
-  swept-routes = picked (λ (d : Card). d .routes ≡ c .routes) (isEmpty (treeAt i c)) (λ _. refl) (λ _. refl)
+swept-routes : (i : ℕ) (c : Card) → swept i c .routes ≡ c .routes
+unfolding swept withTrees
+swept-routes i c = picked (λ (d : Card). d .routes ≡ c .routes) (isEmpty (treeAt i c)) (λ _. refl) (λ _. refl)
 
 move-beside : (rs : List Route) (i u : ℕ) (c : Card) → moveLabel i u (withRoutes rs c) ≡ beside rs (moveLabel i u c)
 unfolding moveLabel followedBy
@@ -70,6 +70,10 @@ relabel-beside rs i u c = unfold relabel in rw same-held (pick-beside rs (eqb (h
     same-held : heldFor (withRoutes rs c) (treeAt i (withRoutes rs c)) ≡ heldFor c (treeAt i c)
     same-held = unfold heldFor useOf treeAt withRoutes in refl
 
+counted-beside : (was t : Tree) (qs : List Route) (c : Card) → c .routes ≡ qs → recounted was t c ≡ withRoutes (recount was t qs) c
+unfolding recounted
+counted-beside was t qs c e = ap (λ (l : List Route). withRoutes (recount was t l) c) e
+
 -- so that a tree is counted when it is entered, or at the end
 pub enter-is : (c d : Card) (first : List Sent) (t : Tree) (i u : ℕ) → i ≡ treePlace (t .name) c → u ≡ holderOf c t → recounted (treeOf (t .name) c) t (entered c t) ≡ d
     → enter c first t ≡ taken (first ++ relabel i u d .sent) (swept i (relabel i u d .card))
@@ -78,8 +82,8 @@ enter-is c d first t i u ei eu ed =
     let rs : List Route = recount was t (entered c t .routes) in
     let is : enter c first t ≡ taken (first ++ relabel i u (entered c t) .sent) (recounted was t (swept i (relabel i u (entered c t) .card))) = unfold enter in rw (← ei, ← eu) refl in
     let routes : swept i (relabel i u (entered c t) .card) .routes ≡ entered c t .routes = swept-routes i (relabel i u (entered c t) .card) ∙ relabel-routes i u (entered c t) in
-    let there : recounted was t (swept i (relabel i u (entered c t) .card)) ≡ withRoutes rs (swept i (relabel i u (entered c t) .card)) = unfold recounted in rw routes refl in
-    let d-is : withRoutes rs (entered c t) ≡ d = (unfold recounted in refl) ∙ ed in
+    let there : recounted was t (swept i (relabel i u (entered c t) .card)) ≡ withRoutes rs (swept i (relabel i u (entered c t) .card)) = counted-beside was t (entered c t .routes) _ routes in
+    let d-is : withRoutes rs (entered c t) ≡ d = sym (counted-beside was t (entered c t .routes) (entered c t) refl) ∙ ed in
     is ∙ rw (there, ← d-is, relabel-beside rs i u (entered c t), swept-beside rs i (relabel i u (entered c t) .card)) refl
 
 -- ---- the memory's card

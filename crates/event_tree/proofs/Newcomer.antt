@@ -73,7 +73,7 @@ unfolding recounted withRoutes withTrees
 new-within c t i e = rw (length-append (c .trees) (t ∷ [])) (omega arith)
 
 grown-at : (c : Card) (t : Tree) (i : ℕ) → i ≡ length (c .trees) → treeAt i (counting c (t .name) t) ≡ t
-grown-at c t i e = (unfold treeAt recounted withRoutes in refl) ∙ new-at c t i e
+grown-at c t i e = let same : treeAt i (counting c (t .name) t) ≡ treeAt i (withTrees (c .trees ++ (t ∷ [])) c) = unfold treeAt recounted withRoutes in refl in same ∙ new-at c t i e
 
 module _ (c : Card) (first : List Sent) (t : Tree) (i u : ℕ) (ei : i ≡ treePlace (t .name) c) (h : i ≡ length (c .trees)) (z : useOf 0 c ≡ free) (el : t .label ≡ 0) (eu : u ≡ holderOf c t) where
   grown : Card
@@ -138,10 +138,13 @@ become-nothing c first a e z = ap₂ (λ (n : ℕ) (o : Outcome). unless n o) (b
     shrunk : swept (treePlace a c) (withTrees (c .trees ++ (bare a ∷ [])) c) ≡ c
     shrunk = unfold swept in rw (new-at c (bare a) (treePlace a c) e) gone
 
+    same-name : counting c (bare a .name) (bare a) ≡ withTrees (c .trees ++ (bare a ∷ [])) c
+    same-name = let its : bare a .name ≡ a = unfold bare in refl in ap (λ (x : List ℕ). counting c x (bare a)) its ∙ still-bare
+
     entered-swept : enter c first (bare a) ≡ taken first c
     entered-swept =
         grown-is c first (bare a) (treePlace a c) nobody (unfold bare in refl) e z (unfold bare in refl) no-holder
-        ∙ unfold takeUp still in ap₂ taken (append-nil first) (ap (swept (treePlace a c)) (unfold bare in still-bare) ∙ shrunk)
+        ∙ unfold takeUp still in ap₂ taken (append-nil first) (ap (swept (treePlace a c)) same-name ∙ shrunk)
 
 -- ---- a new tree t, which is not empty
 

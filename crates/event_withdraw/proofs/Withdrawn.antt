@@ -23,7 +23,7 @@ use Rattle.event_tree.specs.End.{Ended, thenCut}
 use Rattle.event_tree.proofs.Found.{found-tree}
 use Rattle.event_tree.proofs.Ends.{does-refused, does-short, does-taken, ended-then, does-ended}
 use Rattle.event_tree.proofs.Newcomer.{none-stands, bare-branch, become-nothing}
-use Rattle.event_tree.proofs.Standing.{Standing}
+use Rattle.event_tree.proofs.Standing.{counting, Standing}
 
 module _ (c : Card) (a : List ℕ) (i : ℕ) (ei : i ≡ treePlace a c) where
   module _ (h : i < length (c .trees)) where
@@ -101,21 +101,21 @@ module _ (c : Card) (t : Tree) (i u n l : ℕ) (S : Standing c t i u) (s : List 
   -- the Release, and then the tree's own end
   pub withdraw-ends : (id id₁ at : ℕ) (s₁ s₂ : List ℕ) (d e : Card) (empty : Bool) (end : ℕ) → id ≡ c .next → recordSize (treeAt i c .name) ≤ length s
       → id₁ ≡ nextId id → s₁ ≡ mid 0 (recordSize (treeAt i c .name)) s (recordOf id (tell n release (treeAt i c .name) l)) → at ≡ recordSize (treeAt i c .name)
-      → d ≡ withTrees (set (c .trees) i t) c → empty ≡ isEmpty t
+      → d ≡ counting c t i → empty ≡ isEmpty t
       → Ended (thenCut empty i (relabel i u d)) id₁ at s₁ s₂ e end
-      → Ended (record { sent = answer-release ++ relabel i u (withTrees (set (c .trees) i t) c) .sent; card = thenCut (isEmpty t) i (relabel i u (withTrees (set (c .trees) i t) c)) .card }) (c .next) 0 s s₂ e end
+      → Ended (record { sent = answer-release ++ relabel i u (counting c t i) .sent; card = thenCut (isEmpty t) i (relabel i u (counting c t i)) .card }) (c .next) 0 s s₂ e end
   unfolding followedBy thenCut
   withdraw-ends id id₁ at s₁ s₂ d e empty end en fits en₁ es ea ed ee w =
       subst (λ (k : ℕ). Ended (followedBy sent-first (λ (x : Card). thenCut (isEmpty t) i (relabel i u x))) k 0 s s₂ e end) en
-      (ended-then sent-first (λ (x : Card). thenCut (isEmpty t) i (relabel i u x)) id 0 s s₁ s₂ (withTrees (set (c .trees) i t) c) e (0 + recordSize (treeAt i c .name)) id₁ end
+      (ended-then sent-first (λ (x : Card). thenCut (isEmpty t) i (relabel i u x)) id 0 s s₁ s₂ (counting c t i) e (0 + recordSize (treeAt i c .name)) id₁ end
       (rw (records-one id (tell n release (treeAt i c .name) l), record-size id (tell n release (treeAt i c .name) l)) (omega arith))
       (wrote-one (tell n release (treeAt i c .name) l) _ id 0 id₁ s s₁ _ refl es en₁)
-      (subst (λ (k : ℕ). Ended (thenCut (isEmpty t) i (relabel i u (withTrees (set (c .trees) i t) c))) id₁ k s₁ s₂ e end) (ea ∙ omega arith)
+      (subst (λ (k : ℕ). Ended (thenCut (isEmpty t) i (relabel i u (counting c t i))) id₁ k s₁ s₂ e end) (ea ∙ omega arith)
       (subst (λ (x : Card). Ended (thenCut (isEmpty t) i (relabel i u x)) id₁ at s₁ s₂ e end) ed
       (subst (λ (b : Bool). Ended (thenCut b i (relabel i u d)) id₁ at s₁ s₂ e end) ee w))))
     where
       sent-first : Moved
-      sent-first = record { sent = answer-release; card = withTrees (set (c .trees) i t) c }
+      sent-first = record { sent = answer-release; card = counting c t i }
 
 -- for a tree that does not stand
 module _ (c : Card) (a : List ℕ) (i n l : ℕ) (ei : i ≡ treePlace a c) (h : i ≡ length (c .trees)) (z : useOf 0 c ≡ free) (k : 0 < l) (s : List ℕ) where

@@ -63,7 +63,7 @@ fn withdraw_standing(
         label,
         name,
     );
-    memory_trees::set_branch(numbers, i, n, left);
+    memory_counts::change_branch(numbers, names, i, n, left);
     *answer = 0;
     event_tree::settle(numbers, names, i, u, empty, out, first, id)
 }

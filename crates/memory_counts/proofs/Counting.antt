@@ -15,7 +15,7 @@ use Rattle.meaning.specs.Wire.{rootIn}
 use Rattle.meaning.specs.Card.{Route, Tree, Card, noEntry, withRoutes, withTrees, withCounts, routePlace, isFor, bare, treeAt, isBranch, isEmpty, isLone}
 use Rattle.meaning.specs.Events.{ofRoot, total, inRoot, oneStanding, oneLone, changed, recountedFor, recount, recounted}
 use Rattle.meaning.specs.Counts.{recount-still}
-use Rattle.octets.proofs.Tab.{tab-length, tab-get}
+use Rattle.octets.proofs.Tab.{tab-get}
 use Rattle.memory.specs.Memory.{cardOf, routeCount, treeCount, routeIn}
 use Rattle.memory.proofs.Memory.{trees-length}
 use Rattle.memory.proofs.Trees.{branches-length}
@@ -88,10 +88,6 @@ module _ (t s : Tree) (c : Card) where
   pub counted-nowhere : (k : ℕ) → k ≡ routePlace (rootIn (s .name)) c → length (c .routes) ≤ k → c ≡ recounted t s c
   unfolding recounted recount withRoutes routePlace
   counted-nowhere k e h = ap (λ (rs : List Route). withRoutes rs c) (sym (set-out (c .routes) (place (isFor (rootIn (s .name))) (c .routes)) _ (omega arith)))
-
-pub routes-length : (ns os : List ℕ) → length (cardOf ns os .routes) ≡ routeCount ns
-unfolding cardOf
-routes-length ns os = tab-length (routeCount ns) (routeIn ns os)
 
 -- n and m are the entry's counts, x and y what the tree counted, x' and y' what it counts now
 pub counted-there : (ns os : List ℕ) (t s : Tree) (d : Card) (k a b n m x y x' y' : ℕ) → k < routeCount ns → k ≡ routePlace (rootIn (s .name)) (cardOf ns os)

@@ -55,38 +55,38 @@ enter-tree-requires c κs =
     let few = few-trees-stand card _ (start .args .name .now) _ _ N (start .args .out .now) _ _ (the-record-size .ensures) (the-new-refusal .ensures _) (the-if1 .left) in
     (search needs, search needs, rw trees-length at few, search needs)
 
-set-leaf-requires : tie.Need-set-leaf-requires
-set-leaf-requires c κs =
-    let start = c .before .before .before .before .before .before .before .before .before .before .before .before .before .before .before .before .before .before .before .before .before .before .before in
-    let the-upstream-of = c .before .before .before .before .before .before .before .before .before .before .before .before .before .before .before .before .upstream-of in
-    let the-record-size = c .before .before .before .before .before .before .before .before .before .before .before .before .before .before .record-size in
-    let the-new-refusal = c .before .before .before .before .before .before .before .before .before .before .before .before .before .new-refusal in
-    let the-if1 = c .before .before .before .before .before .before .before .before .before .before .before .before .if1 in
-    let the-enter-tree = c .before .before .before .before .before .enter-tree in
-    let the-tree-count = c .before .before .before .before .before .before .before .before .before .before .tree-count in
+change-leaf-requires : tie.Need-change-leaf-requires
+change-leaf-requires c κs =
+    let start = c .before .before .before .before .before .before .before .before .before .before .before .before .before .before .before .before .before .before .before .before .before .before .before .before in
+    let the-upstream-of = c .before .before .before .before .before .before .before .before .before .before .before .before .before .before .before .before .before .upstream-of in
+    let the-record-size = c .before .before .before .before .before .before .before .before .before .before .before .before .before .before .before .record-size in
+    let the-new-refusal = c .before .before .before .before .before .before .before .before .before .before .before .before .before .before .new-refusal in
+    let the-if1 = c .before .before .before .before .before .before .before .before .before .before .before .before .before .if1 in
+    let the-enter-tree = c .before .before .before .before .before .before .enter-tree in
+    let the-tree-count = c .before .before .before .before .before .before .before .before .before .before .before .tree-count in
     let card = (cardOf (start .args .numbers .now) (start .args .names .now)) in
     let last = start .pre .3 ∙ sym (trees-length _ _) in
     let N = joined-new card (start .args .name .now) _ _ refl last (zero-free _ _) (the-upstream-of .ensures .0) in
     let few = few-trees-stand card _ (start .args .name .now) _ _ N (start .args .out .now) _ _ (the-record-size .ensures) (the-new-refusal .ensures _) (the-if1 .left) in
     let grown-by-one = count-is _ _ _ (the-enter-tree .ensures) ∙ snoc-length card (start .args .name .now) in
     let n = the-tree-count .ensures .0 ∙ sym (trees-length _ (start .args .names .now)) in
-    (search needs, omega (arith, grown-by-one, n), omega (arith, few, n))
+    (search needs, search needs, omega (arith, grown-by-one, n), omega (arith, few, n))
 
 grow-requires : tie.Need-grow-requires
 grow-requires c κs =
-    let start = c .before .before .before .before .before .before .before .before .before .before .before .before .before .before .before .before .before .before .before .before .before .before .before .before .before .before .before .before .before in
-    let the-tree-count = c .before .before .before .before .before .before .before .before .before .before .before .before .before .before .before .before .tree-count in
-    let the-upstream-of = c .before .before .before .before .before .before .before .before .before .before .before .before .before .before .before .before .before .before .before .before .before .before .upstream-of in
-    let the-set-leaf = c .before .before .before .before .before .set-leaf in
-    let the-enter-tree = c .before .before .before .before .before .before .before .before .before .before .before .enter-tree in
-    let the-record-size = c .before .before .before .before .before .before .before .before .before .before .before .before .before .before .before .before .before .before .before .before .record-size in
-    let the-new-refusal = c .before .before .before .before .before .before .before .before .before .before .before .before .before .before .before .before .before .before .before .new-refusal in
-    let the-if1 = c .before .before .before .before .before .before .before .before .before .before .before .before .before .before .before .before .before .before .if1 in
+    let start = c .before .before .before .before .before .before .before .before .before .before .before .before .before .before .before .before .before .before .before .before .before .before .before .before .before .before .before .before .before .before in
+    let the-tree-count = c .before .before .before .before .before .before .before .before .before .before .before .before .before .before .before .before .before .tree-count in
+    let the-upstream-of = c .before .before .before .before .before .before .before .before .before .before .before .before .before .before .before .before .before .before .before .before .before .before .before .upstream-of in
+    let the-change-leaf = c .before .before .before .before .before .change-leaf in
+    let the-enter-tree = c .before .before .before .before .before .before .before .before .before .before .before .before .enter-tree in
+    let the-record-size = c .before .before .before .before .before .before .before .before .before .before .before .before .before .before .before .before .before .before .before .before .before .record-size in
+    let the-new-refusal = c .before .before .before .before .before .before .before .before .before .before .before .before .before .before .before .before .before .before .before .before .new-refusal in
+    let the-if1 = c .before .before .before .before .before .before .before .before .before .before .before .before .before .before .before .before .before .before .before .if1 in
     let card = (cardOf (start .args .numbers .now) (start .args .names .now)) in
     let here = the-tree-count .ensures .0 ∙ sym (start .pre .3) in
     let last = the-tree-count .ensures .0 ∙ sym (trees-length _ _) in
     let N = joined-new card (start .args .name .now) _ _ here last (zero-free _ _) (the-upstream-of .ensures .0) in
-    let changed = the-set-leaf .ensures _ ∙ entered-changed card _ (start .args .name .now) _ (withLeaf true) last (the-enter-tree .ensures) in
+    let changed = the-change-leaf .ensures ∙ entered-changed card _ (start .args .name .now) _ (withLeaf true) last (the-enter-tree .ensures) in
     let R = grow-ready card _ (start .args .name .now) _ _ N (start .args .out .now) _ _ (the-record-size .ensures) (the-new-refusal .ensures _) (the-if1 .left) _ _ _ changed in
     let few = few-trees-stand card _ (start .args .name .now) _ _ N (start .args .out .now) _ _ (the-record-size .ensures) (the-new-refusal .ensures _) (the-if1 .left) in
     (search needs, search needs, R .0, omega (arith, few, last), search needs, search needs, R .1, R .2)
@@ -102,21 +102,21 @@ same-length-5 c = search needs
 
 returns-2 : tie.Need-returns-2
 returns-2 c =
-    let start = c .before .before .before .before .before .before .before .before .before .before .before .before .before .before .before .before .before .before .before .before .before .before .before .before .before .before .before .before .before .before .before .before .before .before .before .before in
-    let the-tree-count = c .before .before .before .before .before .before .before .before .before .before .before .before .before .before .before .before .before .before .before .before .before .before .before .tree-count in
-    let the-upstream-of = c .before .before .before .before .before .before .before .before .before .before .before .before .before .before .before .before .before .before .before .before .before .before .before .before .before .before .before .before .before .upstream-of in
-    let the-set-leaf = c .before .before .before .before .before .before .before .before .before .before .before .before .set-leaf in
-    let the-enter-tree = c .before .before .before .before .before .before .before .before .before .before .before .before .before .before .before .before .before .before .enter-tree in
-    let the-record-size = c .before .before .before .before .before .before .before .before .before .before .before .before .before .before .before .before .before .before .before .before .before .before .before .before .before .before .before .record-size in
-    let the-new-refusal = c .before .before .before .before .before .before .before .before .before .before .before .before .before .before .before .before .before .before .before .before .before .before .before .before .before .before .new-refusal in
-    let the-if1 = c .before .before .before .before .before .before .before .before .before .before .before .before .before .before .before .before .before .before .before .before .before .before .before .before .before .if1 in
-    let the-next-id = c .before .before .before .before .before .before .before .before .before .before .before .before .before .before .before .before .before .before .before .before .before .next-id in
+    let start = c .before .before .before .before .before .before .before .before .before .before .before .before .before .before .before .before .before .before .before .before .before .before .before .before .before .before .before .before .before .before .before .before .before .before .before .before .before in
+    let the-tree-count = c .before .before .before .before .before .before .before .before .before .before .before .before .before .before .before .before .before .before .before .before .before .before .before .before .tree-count in
+    let the-upstream-of = c .before .before .before .before .before .before .before .before .before .before .before .before .before .before .before .before .before .before .before .before .before .before .before .before .before .before .before .before .before .before .upstream-of in
+    let the-change-leaf = c .before .before .before .before .before .before .before .before .before .before .before .before .change-leaf in
+    let the-enter-tree = c .before .before .before .before .before .before .before .before .before .before .before .before .before .before .before .before .before .before .before .enter-tree in
+    let the-record-size = c .before .before .before .before .before .before .before .before .before .before .before .before .before .before .before .before .before .before .before .before .before .before .before .before .before .before .before .before .record-size in
+    let the-new-refusal = c .before .before .before .before .before .before .before .before .before .before .before .before .before .before .before .before .before .before .before .before .before .before .before .before .before .before .before .new-refusal in
+    let the-if1 = c .before .before .before .before .before .before .before .before .before .before .before .before .before .before .before .before .before .before .before .before .before .before .before .before .before .before .if1 in
+    let the-next-id = c .before .before .before .before .before .before .before .before .before .before .before .before .before .before .before .before .before .before .before .before .before .before .next-id in
     let the-grow = c .before .before .before .before .before .before .grow in
     let card = (cardOf (start .args .numbers .now) (start .args .names .now)) in
     let here = the-tree-count .ensures .0 ∙ sym (start .pre .3) in
     let last = the-tree-count .ensures .0 ∙ sym (trees-length _ _) in
     let N = joined-new card (start .args .name .now) _ _ here last (zero-free _ _) (the-upstream-of .ensures .0) in
-    let changed = the-set-leaf .ensures _ ∙ entered-changed card _ (start .args .name .now) _ (withLeaf true) last (the-enter-tree .ensures) in
+    let changed = the-change-leaf .ensures ∙ entered-changed card _ (start .args .name .now) _ (withLeaf true) last (the-enter-tree .ensures) in
     rw (join-new card (start .args .name .now) _ here last) (grown-done card _ (start .args .name .now) _ _ N (start .args .out .now) _ _ (the-record-size .ensures) (the-new-refusal .ensures _) (the-if1 .left) _ _ _ _ _ (the-next-id .ensures _) changed (the-grow .ensures))
 
 pub join-new-spec : {M : Type 1} → statement M
@@ -132,7 +132,7 @@ join-new-spec =
     tree-count-requires
     next-id-requires
     enter-tree-requires
-    set-leaf-requires
+    change-leaf-requires
     grow-requires
     same-length-3
     same-length-4

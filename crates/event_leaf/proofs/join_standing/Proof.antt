@@ -38,20 +38,20 @@ returns c =
 next-id-requires : tie.Need-next-id-requires
 next-id-requires c κs = search needs
 
-set-leaf-requires : tie.Need-set-leaf-requires
-set-leaf-requires c κs = search needs
+change-leaf-requires : tie.Need-change-leaf-requires
+change-leaf-requires c κs = search needs
 
 settle-requires : tie.Need-settle-requires
 settle-requires c κs =
-    let start = c .before .before .before .before .before .before .before .before .before .before .before .before .before .before .before .before .before .before .before in
-    let the-leaf-holder = c .before .before .before .before .before .before .before .before .before .before .before .before .before .leaf-holder in
-    let the-standing-refusal = c .before .before .before .before .before .before .before .before .before .before .standing-refusal in
-    let the-if1 = c .before .before .before .before .before .before .before .before .before .if1 in
-    let the-set-leaf = c .before .before .before .before .before .set-leaf in
+    let start = c .before .before .before .before .before .before .before .before .before .before .before .before .before .before .before .before .before .before .before .before in
+    let the-leaf-holder = c .before .before .before .before .before .before .before .before .before .before .before .before .before .before .leaf-holder in
+    let the-standing-refusal = c .before .before .before .before .before .before .before .before .before .before .before .standing-refusal in
+    let the-if1 = c .before .before .before .before .before .before .before .before .before .before .if1 in
+    let the-change-leaf = c .before .before .before .before .before .change-leaf in
     let card = (cardOf (start .args .numbers .now) (start .args .names .now)) in
     let within : start .args .i < length (card .trees) = rw trees-length (start .pre .2) in
     let S = leaf-stands card (start .args .i) (start .pre .4) within _ true (the-leaf-holder .ensures .0) in
-    let R = settle-ready card [] _ _ _ S (start .args .out .now) 0 _ (no-records _) (the-standing-refusal .ensures) (the-if1 .left) _ _ (the-set-leaf .ensures _) in
+    let R = settle-ready card [] _ _ _ S (start .args .out .now) 0 _ (no-records _) (the-standing-refusal .ensures) (the-if1 .left) _ _ (the-change-leaf .ensures) in
     (search needs, search needs, R .0, search needs, search needs, search needs, R .1, R .2)
 
 same-length-3 : tie.Need-same-length-3
@@ -65,19 +65,19 @@ same-length-5 c = search needs
 
 returns-2 : tie.Need-returns-2
 returns-2 c =
-    let start = c .before .before .before .before .before .before .before .before .before .before .before .before .before .before .before .before .before .before .before .before .before .before .before .before .before .before in
-    let the-leaf-holder = c .before .before .before .before .before .before .before .before .before .before .before .before .before .before .before .before .before .before .before .before .leaf-holder in
-    let the-standing-refusal = c .before .before .before .before .before .before .before .before .before .before .before .before .before .before .before .before .before .standing-refusal in
-    let the-if1 = c .before .before .before .before .before .before .before .before .before .before .before .before .before .before .before .before .if1 in
-    let the-next-id = c .before .before .before .before .before .before .before .before .before .before .before .before .before .before .next-id in
-    let the-set-leaf = c .before .before .before .before .before .before .before .before .before .before .before .before .set-leaf in
+    let start = c .before .before .before .before .before .before .before .before .before .before .before .before .before .before .before .before .before .before .before .before .before .before .before .before .before .before .before in
+    let the-leaf-holder = c .before .before .before .before .before .before .before .before .before .before .before .before .before .before .before .before .before .before .before .before .before .leaf-holder in
+    let the-standing-refusal = c .before .before .before .before .before .before .before .before .before .before .before .before .before .before .before .before .before .before .standing-refusal in
+    let the-if1 = c .before .before .before .before .before .before .before .before .before .before .before .before .before .before .before .before .before .if1 in
+    let the-next-id = c .before .before .before .before .before .before .before .before .before .before .before .before .before .before .before .next-id in
+    let the-change-leaf = c .before .before .before .before .before .before .before .before .before .before .before .before .change-leaf in
     let the-settle = c .before .before .before .before .before .before .settle in
     let card = (cardOf (start .args .numbers .now) (start .args .names .now)) in
     let within : start .args .i < length (card .trees) = rw trees-length (start .pre .2) in
     let S = leaf-stands card (start .args .i) (start .pre .4) within _ true (the-leaf-holder .ensures .0) in
     rw (join-standing card _ (start .args .i) (start .pre .4) within)
     (standing-taken card [] _ _ _ S (start .args .out .now) 0 _ (no-records _) (the-standing-refusal .ensures) (the-if1 .left) _ _ _
-    (standing-ends card [] _ _ _ S (start .args .out .now) _ _ _ _ _ _ (the-next-id .ensures _) (the-set-leaf .ensures _) (sym (leaf-full (treeAt (start .args .i) card))) (the-settle .ensures)))
+    (standing-ends card [] _ _ _ S (start .args .out .now) _ _ _ _ _ _ (the-next-id .ensures _) (the-change-leaf .ensures) (sym (leaf-full (treeAt (start .args .i) card))) (the-settle .ensures)))
 
 pub join-standing-spec : {M : Type 1} → statement M
 join-standing-spec =
@@ -89,7 +89,7 @@ join-standing-spec =
     same-length-2
     returns
     next-id-requires
-    set-leaf-requires
+    change-leaf-requires
     settle-requires
     same-length-3
     same-length-4

@@ -91,22 +91,22 @@ returns-3 c =
 next-id-requires : tie.Need-next-id-requires
 next-id-requires c κs = search needs
 
-set-leaf-requires : tie.Need-set-leaf-requires
-set-leaf-requires c κs = search needs
+change-leaf-requires : tie.Need-change-leaf-requires
+change-leaf-requires c κs = search needs
 
 settle-requires : tie.Need-settle-requires
 settle-requires c κs =
-    let start = c .before .before .before .before .before .before .before .before .before .before .before .before .before .before .before .before .before .before .before .before .before .before .before .before in
-    let the-any-branch = c .before .before .before .before .before .before .before .before .before .before .before .before .before .before .before .before .before .before .before .any-branch in
-    let the-leaf-holder = c .before .before .before .before .before .before .before .before .before .before .before .before .before .before .before .before .leaf-holder in
-    let the-standing-refusal = c .before .before .before .before .before .before .before .before .before .before .standing-refusal in
-    let the-if3 = c .before .before .before .before .before .before .before .before .before .if3 in
-    let the-set-leaf = c .before .before .before .before .before .set-leaf in
+    let start = c .before .before .before .before .before .before .before .before .before .before .before .before .before .before .before .before .before .before .before .before .before .before .before .before .before in
+    let the-any-branch = c .before .before .before .before .before .before .before .before .before .before .before .before .before .before .before .before .before .before .before .before .any-branch in
+    let the-leaf-holder = c .before .before .before .before .before .before .before .before .before .before .before .before .before .before .before .before .before .leaf-holder in
+    let the-standing-refusal = c .before .before .before .before .before .before .before .before .before .before .before .standing-refusal in
+    let the-if3 = c .before .before .before .before .before .before .before .before .before .before .if3 in
+    let the-change-leaf = c .before .before .before .before .before .change-leaf in
     let card = (cardOf (start .args .numbers .now) (start .args .names .now)) in
     let within : start .args .i < length (card .trees) = rw trees-length (start .pre .2) in
     let none = leaf-gone (treeAt (start .args .i) card) _ (branches-length _ _ _ (start .pre .2)) (the-any-branch .ensures _) in
     let S = leaf-stands card (start .args .i) (start .pre .4) within _ false (the-leaf-holder .ensures .0) in
-    let R = settle-ready card [] _ _ _ S (start .args .out .now) 0 _ (no-records _) (the-standing-refusal .ensures) (the-if3 .left) _ _ (the-set-leaf .ensures _) in
+    let R = settle-ready card [] _ _ _ S (start .args .out .now) 0 _ (no-records _) (the-standing-refusal .ensures) (the-if3 .left) _ _ (the-change-leaf .ensures) in
     (search needs, search needs, R .0, search needs, search needs, search needs, R .1, R .2)
 
 same-length-7 : tie.Need-same-length-7
@@ -120,15 +120,15 @@ same-length-9 c = search needs
 
 returns-4 : tie.Need-returns-4
 returns-4 c =
-    let start = c .before .before .before .before .before .before .before .before .before .before .before .before .before .before .before .before .before .before .before .before .before .before .before .before .before .before .before .before .before .before .before in
-    let the-any-branch = c .before .before .before .before .before .before .before .before .before .before .before .before .before .before .before .before .before .before .before .before .before .before .before .before .before .before .any-branch in
-    let the-leaf-holder = c .before .before .before .before .before .before .before .before .before .before .before .before .before .before .before .before .before .before .before .before .before .before .before .leaf-holder in
-    let the-is-leaf = c .before .before .before .before .before .before .before .before .before .before .before .before .before .before .before .before .before .before .before .before .before .is-leaf in
-    let the-if1 = c .before .before .before .before .before .before .before .before .before .before .before .before .before .before .before .before .before .before .before .before .if1 in
-    let the-standing-refusal = c .before .before .before .before .before .before .before .before .before .before .before .before .before .before .before .before .before .standing-refusal in
-    let the-if3 = c .before .before .before .before .before .before .before .before .before .before .before .before .before .before .before .before .if3 in
-    let the-next-id = c .before .before .before .before .before .before .before .before .before .before .before .before .before .before .next-id in
-    let the-set-leaf = c .before .before .before .before .before .before .before .before .before .before .before .before .set-leaf in
+    let start = c .before .before .before .before .before .before .before .before .before .before .before .before .before .before .before .before .before .before .before .before .before .before .before .before .before .before .before .before .before .before .before .before in
+    let the-any-branch = c .before .before .before .before .before .before .before .before .before .before .before .before .before .before .before .before .before .before .before .before .before .before .before .before .before .before .before .any-branch in
+    let the-leaf-holder = c .before .before .before .before .before .before .before .before .before .before .before .before .before .before .before .before .before .before .before .before .before .before .before .before .leaf-holder in
+    let the-is-leaf = c .before .before .before .before .before .before .before .before .before .before .before .before .before .before .before .before .before .before .before .before .before .before .is-leaf in
+    let the-if1 = c .before .before .before .before .before .before .before .before .before .before .before .before .before .before .before .before .before .before .before .before .before .if1 in
+    let the-standing-refusal = c .before .before .before .before .before .before .before .before .before .before .before .before .before .before .before .before .before .before .standing-refusal in
+    let the-if3 = c .before .before .before .before .before .before .before .before .before .before .before .before .before .before .before .before .before .if3 in
+    let the-next-id = c .before .before .before .before .before .before .before .before .before .before .before .before .before .before .before .next-id in
+    let the-change-leaf = c .before .before .before .before .before .before .before .before .before .before .before .before .change-leaf in
     let the-settle = c .before .before .before .before .before .before .settle in
     let card = (cardOf (start .args .numbers .now) (start .args .names .now)) in
     let within : start .args .i < length (card .trees) = rw trees-length (start .pre .2) in
@@ -136,7 +136,7 @@ returns-4 c =
     let S = leaf-stands card (start .args .i) (start .pre .4) within _ false (the-leaf-holder .ensures .0) in
     rw (leave-leaf card _ (start .args .i) (start .pre .4) within (sym (the-is-leaf .ensures _) ∙ not-false _ (the-if1 .left)))
     (standing-taken card [] _ _ _ S (start .args .out .now) 0 _ (no-records _) (the-standing-refusal .ensures) (the-if3 .left) _ _ _
-    (standing-ends card [] _ _ _ S (start .args .out .now) _ _ _ _ _ _ (the-next-id .ensures _) (the-set-leaf .ensures _) none (the-settle .ensures)))
+    (standing-ends card [] _ _ _ S (start .args .out .now) _ _ _ _ _ _ (the-next-id .ensures _) (the-change-leaf .ensures) none (the-settle .ensures)))
 
 pub leave-standing-spec : {M : Type 1} → statement M
 leave-standing-spec =
@@ -157,7 +157,7 @@ leave-standing-spec =
     same-length-6
     returns-3
     next-id-requires
-    set-leaf-requires
+    change-leaf-requires
     settle-requires
     same-length-7
     same-length-8

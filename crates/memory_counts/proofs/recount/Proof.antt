@@ -1,5 +1,6 @@
 use native.Mathlib.Omega.{arith}
-use Rattle.memory_counts.proofs.Counting.{counted-still, counted-there, counted-nowhere, routes-length}
+use Rattle.memory_counts.proofs.Counting.{counted-still, counted-there, counted-nowhere}
+use Rattle.memory.proofs.Memory.{routes-length}
 use mathlib.Core.Path.{sym, _∙_}
 use borrow.Author.Needs.{needs}
 use Rattle.memory_counts.proofs.recount.Statement.{statement}
