@@ -2,32 +2,15 @@
 use Prim.Native.Nat.{ℕ, zero, suc, _-_, _≤_, _<_}
 use native.Mathlib.Omega.{arith}
 use mathlib.Core.Path.{_≡_, refl, sym, ap, _∙_}
-use mathlib.Core.Bool.{Bool, true, false, not, and-false}
+use mathlib.Core.Bool.{Bool, true, false}
 use mathlib.Core.List.{List}
-use lib.ListN.{length, set, length-append, length-take, length-drop}
-use lib.Seq.{set-out}
-use Rattle.meaning.specs.Octets.{any, cut}
+use lib.ListN.{length, length-append, length-take, length-drop}
+use Rattle.meaning.specs.Octets.{cut}
 use Rattle.meaning.specs.Lists.{by-test}
-use Rattle.meaning.specs.Card.{Tree, Card, withTrees, treeAt, isBranch, isEmpty}
+use Rattle.meaning.specs.Card.{Card, withTrees, treeAt, isEmpty}
 use Rattle.meaning.specs.Events.{swept, sweptBelow}
 use Rattle.memory.specs.Memory.{cardOf, treeCount}
 use Rattle.memory.proofs.Memory.{trees-length}
-use Rattle.memory.proofs.Trees.{branches-length}
-
--- ---- whether a tree is empty
-
-pub empty-leaf : (t : Tree) → true ≡ t .leaf → false ≡ isEmpty t
-unfolding isEmpty
-empty-leaf t e = rw (← e) (sym (and-false (not (any isBranch (t .branches)))))
-
-module _ (ns os : List ℕ) (i : ℕ) (h : i < treeCount ns) where
-  pub empty-branches : (r : Bool) → r ≡ any isBranch (set (set (treeAt i (cardOf ns os) .branches) 16 0) 16 0) → false ≡ treeAt i (cardOf ns os) .leaf → not r ≡ isEmpty (treeAt i (cardOf ns os))
-  unfolding isEmpty
-  empty-branches r e f =
-      let bs : List ℕ = treeAt i (cardOf ns os) .branches in
-      let long : length bs ≡ 16 = branches-length ns os i h in
-      let same : set (set bs 16 0) 16 0 ≡ bs = ap (λ (l : List ℕ). set l 16 0) (set-out bs 16 0 (omega arith)) ∙ set-out bs 16 0 (omega arith) in
-      rw (← f, e, same) (by-test (any isBranch bs) (λ t. rw t refl) (λ t. rw t refl))
 
 -- ---- one tree
 

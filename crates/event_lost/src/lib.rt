@@ -5,7 +5,7 @@ ghost use mathlib.Core.List.{List};
 ghost use Prim.Native.Nat.{ℕ, _+_, _*_, _≤_, _<_};
 ghost use lib.ListN.{length};
 ghost use Rattle.meaning.specs.Wire.{records, recordLimit};
-ghost use Rattle.meaning.specs.Card.{treeAt, isEmpty, treeLimit};
+ghost use Rattle.meaning.specs.Card.{treeAt, treeLimit};
 ghost use Rattle.meaning.specs.Events.{finish, swept, shed, shedFrom, sweptBelow, part};
 ghost use Rattle.meaning.specs.Losses.{lossSize};
 ghost use Rattle.meaning.specs.Calls.{Does};
@@ -98,21 +98,11 @@ fn shed_all(numbers: &mut [u64], names: &[u8], out: &mut [u8], id: u32) -> Writt
 
 // ---- empty trees
 
-fn is_empty(numbers: &[u64], i: usize) -> bool
-    requires { ⌜ Numbers (now numbers) × (i < treeCount (now numbers)) × (i < treeLimit) ⌝ }
-    ensures { λ r. ⌜ ((os : List ℕ) → r ≡ isEmpty (treeAt i (cardOf (now (numbers .entry)) os))) ⌝ }
-{
-    if memory_trees::is_leaf(numbers, i) {
-        return false;
-    }
-    !memory_trees::any_branch(numbers, i, 16, 0, 16)
-}
-
 fn sweep_one(numbers: &mut [u64], names: &mut [u8], i: usize)
     requires { ⌜ Numbers (now numbers) × Names (now names) × (i < treeCount (now numbers)) × (i < treeLimit) ⌝ }
     ensures { λ _. ⌜ cardOf (now (numbers .exit)) (now (names .exit)) ≡ swept i (cardOf (now (numbers .entry)) (now (names .entry))) ⌝ }
 {
-    if is_empty(numbers, i) {
+    if memory_counts::is_empty(numbers, i) {
         memory_rows::remove_tree(numbers, names, i);
         return;
     }

@@ -8,25 +8,22 @@ use lib.Dec.{eqb}
 use borrow.Author.Tests.{eq-eqb, ne-eqb}
 use Rattle.meaning.specs.Octets.{pick, cut}
 use Rattle.meaning.specs.Lists.{by-test}
-use Rattle.meaning.specs.Card.{Route, Tree, Card, noRoute, withRoutes, withTrees, withLabels, withBranch, withLabel, heldFor, useOf}
-use Rattle.meaning.specs.Events.{usesWithout, treeWithout, treesWithout, routesWithout, parted}
+use Rattle.meaning.specs.Card.{Route, Tree, Card, noEntry, withRoutes, withTrees, withLabels, withBranch, withLabel, heldFor, useOf}
+use Rattle.meaning.specs.Events.{usesWithout, treeWithout, treesWithout, recountedWithout, routesWithout, parted}
 use Rattle.meaning.specs.Losses.{routesBelow, routes-below}
 use Rattle.octets.proofs.Tab.{tab-get}
 use Rattle.memory.specs.Memory.{cardOf, routeCount, routeIn}
 use Rattle.memory.proofs.Memory.{routes-length}
 use Rattle.event_parted.specs.Parted.{branchesWithout, labelsWithout}
 
-abbrev nowhere : Route
-nowhere = record { root = []; via = noRoute }
-
 -- the routes, without that at place k if it is through n
 abbrev pub Less : ℕ → ℕ → List Route → List Route
-Less n k rs = pick (eqb (getD rs k (record { root = []; via = noRoute }) .via) n) (cut rs k) rs
+Less n k rs = pick (eqb (getD rs k (noEntry []) .via) n) (cut rs k) rs
 
 -- ---- one entry
 
 module _ (ns os : List ℕ) (k : ℕ) (h : k < routeCount ns) where
-  pub via-at : (r : ℕ) → r ≡ routeIn ns os k .via → getD (cardOf ns os .routes) k (record { root = []; via = noRoute }) .via ≡ r
+  pub via-at : (r : ℕ) → r ≡ routeIn ns os k .via → getD (cardOf ns os .routes) k (noEntry []) .via ≡ r
   unfolding cardOf
   via-at r e = ap (λ (x : Route). x .via) (tab-get (routeCount ns) (routeIn ns os) k _ h) ∙ sym e
 
@@ -61,7 +58,7 @@ pub going-more : (n k : ℕ) (ns₀ os₀ ns os ns' os' : List ℕ) → 0 < k �
 going-more n k ns₀ os₀ ns os ns' os' some g e =
     let long : length (cardOf ns' os' .routes) ≡ length (Less n (k - 1) (cardOf ns os .routes)) = ap (λ (c : Card). length (c .routes)) e ∙ unfold withRoutes in refl in
     let in-it : k - 1 < length (cardOf ns os .routes) = rw routes-length (omega (arith, g .0)) in (
-      rw (← (routes-length ns' os'), long) (by-test (eqb (getD (cardOf ns os .routes) (k - 1) nowhere .via) n) (λ t. rw t (cut-long (cardOf ns os .routes) (k - 1) in-it)) (λ t. rw t (omega arith))),
+      rw (← (routes-length ns' os'), long) (by-test (eqb (getD (cardOf ns os .routes) (k - 1) (noEntry []) .via) n) (λ t. rw t (cut-long (cardOf ns os .routes) (k - 1) in-it)) (λ t. rw t (omega arith))),
       ap (λ (c : Card). withRoutes (routesBelow n (k - 1) (c .routes)) c) e ∙ unfold withRoutes in
           ap (λ (rs : List Route). withRoutes rs (cardOf ns os)) (sym (below-next n k (cardOf ns os .routes) some)) ∙ g .1,
     )
@@ -73,17 +70,17 @@ going-all n k ns₀ os₀ ns os z g =
 
 -- ---- branches, labels and routes are all that is n's
 
-both-without : (n : ℕ) (c : Card) (us ts : List Tree) → labelsWithout n (withTrees us c) (branchesWithout n ts) ≡ treesWithout n c ts
+both-without : (n : ℕ) (c : Card) (rs : List Route) (us ts : List Tree) → labelsWithout n (withRoutes rs (withTrees us c)) (branchesWithout n ts) ≡ treesWithout n c ts
 unfolding labelsWithout branchesWithout treesWithout
-both-without n c us [] = refl
-both-without n c us (t ∷ ts) =
-    ap₂ (λ (x : Tree) (l : List Tree). x ∷ l) (unfold treeWithout heldFor useOf withTrees withBranch withLabel in refl) (both-without n c us ts)
+both-without n c rs us [] = refl
+both-without n c rs us (t ∷ ts) =
+    ap₂ (λ (x : Tree) (l : List Tree). x ∷ l) (unfold treeWithout heldFor useOf withRoutes withTrees withBranch withLabel in refl) (both-without n c rs us ts)
 
-pub all-gone : (n : ℕ) (c c₁ c₂ c₃ : Card) → c₁ ≡ withTrees (branchesWithout n (c .trees)) c
+pub all-gone : (n : ℕ) (c c₁ c₂ c₃ : Card) → c₁ ≡ withRoutes (recountedWithout n (c .trees) (c .routes)) (withTrees (branchesWithout n (c .trees)) c)
     → c₂ ≡ withTrees (labelsWithout n c₁ (c₁ .trees)) (withLabels (usesWithout n (c₁ .labels)) c₁)
     → c₃ ≡ withRoutes (routesWithout n (c₂ .routes)) c₂ → c₃ ≡ parted n c
-unfolding parted withTrees withLabels
+unfolding parted withRoutes withTrees withLabels
 all-gone n c c₁ c₂ c₃ e₁ e₂ e₃ =
     e₃ ∙ ap (λ (d : Card). withRoutes (routesWithout n (d .routes)) d) (e₂ ∙ ap (λ (d : Card). withTrees (labelsWithout n d (d .trees)) (withLabels (usesWithout n (d .labels)) d)) e₁)
-    ∙ ap (λ (ts : List Tree). withRoutes (routesWithout n (c .routes)) (withTrees ts (withLabels (usesWithout n (c .labels)) c))) (both-without n c (branchesWithout n (c .trees)) (c .trees))
+    ∙ ap (λ (ts : List Tree). withRoutes (routesWithout n (recountedWithout n (c .trees) (c .routes))) (withTrees ts (withLabels (usesWithout n (c .labels)) c))) (both-without n c (recountedWithout n (c .trees) (c .routes)) (branchesWithout n (c .trees)) (c .trees))
     ∙ unfold withRoutes withTrees withLabels in refl

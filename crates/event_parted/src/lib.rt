@@ -5,8 +5,8 @@ ghost use Prim.Native.Nat.{ℕ, _+_, _<_};
 ghost use lib.ListN.{getD};
 ghost use lib.Dec.{eqb};
 ghost use Rattle.meaning.specs.Octets.{pick, cut};
-ghost use Rattle.meaning.specs.Card.{noRoute, labelCount, routeLimit, withRoutes, withTrees, withLabels};
-ghost use Rattle.meaning.specs.Events.{usesWithout, routesWithout, parted};
+ghost use Rattle.meaning.specs.Card.{noEntry, labelCount, routeLimit, withRoutes, withTrees, withLabels};
+ghost use Rattle.meaning.specs.Events.{usesWithout, recountedWithout, routesWithout, parted};
 ghost use Rattle.memory.specs.Sizes.{Numbers, Names};
 ghost use Rattle.memory.specs.Memory.{cardOf, routeCount};
 ghost use Rattle.event_parted.specs.Parted.{branchesWithout, labelsWithout, isOfAt, Freed};
@@ -15,15 +15,16 @@ use memory::MARK_COLUMN;
 
 // ---- branches
 
-// Every tree loses neighbour n's branch.
-pub fn end_branches(numbers: &mut [u64], n: usize)
-    requires { ⌜ Numbers (now numbers) × (n < 16) ⌝ }
-    ensures { λ _. ⌜ ((os : List ℕ) → (let c = cardOf (now (numbers .entry)) os in cardOf (now (numbers .exit)) os ≡ withTrees (branchesWithout n (c .trees)) c)) ⌝ }
+// Every tree loses neighbour n's branch, and is counted so.
+pub fn end_branches(numbers: &mut [u64], names: &[u8], n: usize)
+    requires { ⌜ Numbers (now numbers) × Names (now names) × (n < 16) ⌝ }
+    ensures { λ _. ⌜ (let c = cardOf (now (numbers .entry)) (now (names .entry)) in cardOf (now (numbers .exit)) (now (names .entry))
+        ≡ withRoutes (recountedWithout n (c .trees) (c .routes)) (withTrees (branchesWithout n (c .trees)) c)) ⌝ }
 {
     let k = memory::tree_count(numbers);
     let mut i = 0;
     while i < k {
-        memory_trees::set_branch(numbers, i, n, 0);
+        memory_counts::change_branch(numbers, names, i, n, 0);
         i += 1;
     }
 }
@@ -74,7 +75,7 @@ pub fn free_labels(numbers: &mut [u64], n: u64)
 fn end_route(numbers: &mut [u64], names: &mut [u8], k: usize, n: u64)
     requires { ⌜ Numbers (now numbers) × Names (now names) × (k < routeCount (now numbers)) × (k < routeLimit) ⌝ }
     ensures { λ _. ⌜ (let c = cardOf (now (numbers .entry)) (now (names .entry)) in cardOf (now (numbers .exit)) (now (names .exit))
-        ≡ withRoutes (pick (eqb (getD (c .routes) k (record { root = []; via = noRoute }) .via) n) (cut (c .routes) k) (c .routes)) c) ⌝ }
+        ≡ withRoutes (pick (eqb (getD (c .routes) k (noEntry []) .via) n) (cut (c .routes) k) (c .routes)) c) ⌝ }
 {
     if memory_routes::route_via(numbers, k) == n {
         memory_routes::remove_route(numbers, names, k);
@@ -100,7 +101,7 @@ pub fn part_from(numbers: &mut [u64], names: &mut [u8], n: usize)
     requires { ⌜ Numbers (now numbers) × Names (now names) × (n < 16) ⌝ }
     ensures { λ _. ⌜ cardOf (now (numbers .exit)) (now (names .exit)) ≡ parted n (cardOf (now (numbers .entry)) (now (names .entry))) ⌝ }
 {
-    end_branches(numbers, n);
+    end_branches(numbers, names, n);
     free_labels(numbers, n as u64);
     end_routes(numbers, names, n as u64);
 }

@@ -1,50 +1,47 @@
-use Prim.Native.Nat.{_-_, _≤_, _<_}
-use native.Mathlib.Omega.{arith}
-use mathlib.Core.Path.{_≡_, refl, _∙_}
-use lib.ListN.{length}
-use Rattle.memory.specs.Memory.{treeCount}
-use Rattle.event_parted.proofs.Branches.{Ending, ending-none, ending-many, ending-more, ending-all}
-use borrow.Author.Needs.{needs}
 use Rattle.event_parted.proofs.end_branches.Statement.{statement}
 use Rattle.event_parted.proofs.end_branches.Tie as tie
+use Rattle.event_parted.proofs.end_branches.Reads as reads
+use Rattle.event_parted.proofs.end_branches.Lts as lts
+use Rattle.memory.proofs.tree_count.Reads as tree-count-reads
+use Rattle.memory_counts.proofs.change_branch.Reads as change-branch-reads
 
 abbrev Inv-loop : tie.InvT-loop
-Inv-loop numbers₀ n k i₀ numbers i = (i ≤ k) × (length numbers ≡ length numbers₀) × Ending n i numbers₀ numbers
+Inv-loop numbers₀ names n k i₀ numbers i = ?
 
 abbrev μ-loop : tie.MeasureT-loop
-μ-loop numbers₀ n k i₀ numbers i = k - i
+μ-loop numbers₀ names n k i₀ numbers i = ?
 
+-- src/lib.rt:24:9
 tree-count-requires : tie.Need-tree-count-requires Inv-loop μ-loop
-tree-count-requires c κs = search needs
+tree-count-requires c κs = ?
 
+-- src/lib.rt:26:5
 loop-holds : tie.Need-loop-holds Inv-loop μ-loop
-loop-holds c = (omega arith, refl, ending-none _ _)
+loop-holds c = ?
 
-set-branch-requires : tie.Need-set-branch-requires Inv-loop μ-loop
-set-branch-requires c κs =
-    let s = c .before .before .before .before .before .before in
-    let v = c .before .before .loop .inv in
-    let many = ending-many _ _ _ _ (v .2) in
-    (v .1 ∙ s .pre .0, omega (arith, many, c .before .before .before .tree-count .ensures .0), omega arith, s .pre .1)
+-- src/lib.rt:27:9
+change-branch-requires : tie.Need-change-branch-requires Inv-loop μ-loop
+change-branch-requires c κs = ?
 
+-- src/lib.rt:28:9
 add-i : tie.Need-add-i Inv-loop μ-loop
-add-i c = search needs
+add-i c = ?
 
+-- src/lib.rt:26:5
 loop-less : tie.Need-loop-less Inv-loop μ-loop
-loop-less c = search needs
+loop-less c = ?
 
+-- src/lib.rt:26:5
 loop-again : tie.Need-loop-again Inv-loop μ-loop
-loop-again c =
-    let s = c .before .before .before .before .before .before .before .before .before in
-    let v = c .before .before .before .before .before .loop .inv in
-    let h : c .before .before .before .before .before .loop .i < treeCount (s .args .numbers .now) = omega (arith, c .before .before .before .before .before .before .tree-count .ensures .0) in
-    (omega arith, c .before .numbers .given ∙ v .1, ending-more _ _ _ _ _ h (v .2) (c .before .before .set-branch .ensures))
+loop-again c = ?
 
+-- src/lib.rt:19:1
 same-length : tie.Need-same-length Inv-loop μ-loop
-same-length c = c .before .loop .inv .1
+same-length c = ?
 
+-- src/lib.rt:19:1
 returns : tie.Need-returns Inv-loop μ-loop
-returns c = let v = c .before .loop .inv in ending-all _ _ _ _ _ (c .before .before .tree-count .ensures .0) (v .0) (c .loop-test .left) (v .2)
+returns c = ?
 
 pub end-branches-spec : {M : Type 1} → statement M
 end-branches-spec =
@@ -54,7 +51,7 @@ end-branches-spec =
     μ-loop
     tree-count-requires
     loop-holds
-    set-branch-requires
+    change-branch-requires
     add-i
     loop-less
     loop-again

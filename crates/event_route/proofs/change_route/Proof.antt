@@ -1,7 +1,6 @@
-use mathlib.Core.Path.{refl, sym, ap, _∙_, subst}
-use native.Mathlib.Omega.{arith}
-use Rattle.memory.specs.Memory.{cardOf}
 use Rattle.event_route.proofs.Route.{order-same, order-refused, order-ready, order-done}
+use Rattle.memory.specs.Memory.{cardOf}
+use mathlib.Core.Path.{sym, _∙_}
 use borrow.Author.Needs.{needs}
 use Rattle.event_route.proofs.change_route.Statement.{statement}
 use Rattle.event_route.proofs.change_route.Tie as tie
@@ -16,12 +15,13 @@ same-length-2 : tie.Need-same-length-2
 same-length-2 c = search needs
 
 returns : tie.Need-returns
-returns c =
-    let start = c .before .before .before .before .before .before .before .before in
-    order-same (cardOf (start .args .numbers .now) (start .args .names .now)) _ _ _ (sym (c .before .route-of .ensures) ∙ c .if1 .taken)
+returns c = order-same (cardOf (c .before .before .before .before .before .before .before .before .args .numbers .now) (c .before .before .before .before .before .before .before .before .args .names .now)) _ _ _ (sym (c .before .route-of .ensures) ∙ c .if1 .taken)
 
 upstream-via-requires : tie.Need-upstream-via-requires
 upstream-via-requires c κs = search needs
+
+entry-counts-requires : tie.Need-entry-counts-requires
+entry-counts-requires c κs = search needs
 
 route-refusal-requires : tie.Need-route-refusal-requires
 route-refusal-requires c κs = search needs
@@ -33,22 +33,15 @@ same-length-4 : tie.Need-same-length-4
 same-length-4 c = search needs
 
 returns-2 : tie.Need-returns-2
-returns-2 c =
-    let start = c .before .before .before .before .before .before .before .before .before .before .before .before .before in
-    let the-if1 = c .before .before .before .before .before .if1 in
-    let the-route-of = c .before .before .before .before .before .before .route-of in
-    order-refused (cardOf (start .args .numbers .now) (start .args .names .now)) _ _ (λ z. the-if1 .left (the-route-of .ensures ∙ z)) _ _ (c .before .route-refusal .ensures) (c .if2 .taken)
+returns-2 c = order-refused (cardOf (c .before .before .before .before .before .before .before .before .before .before .before .before .before .before .before .before .args .numbers .now) (c .before .before .before .before .before .before .before .before .before .before .before .before .before .before .before .before .args .names .now)) _ _ (λ z. c .before .before .before .before .before .before .before .before .if1 .left (c .before .before .before .before .before .before .before .before .before .route-of .ensures ∙ z)) _ _ (c .before .route-refusal .ensures) (c .if2 .taken)
 
 re-route-requires : tie.Need-re-route-requires
 re-route-requires c κs =
-    let start = c .before .before .before .before .before .before .before .before .before .before .before .before .before .before .before .before in
-    let the-if1 = c .before .before .before .before .before .before .before .before .if1 in
-    let the-route-of = c .before .before .before .before .before .before .before .before .before .route-of in
-    let the-route-refusal = c .before .before .before .before .route-refusal in
-    let the-if2 = c .before .before .before .if2 in
-    let the-upstream-via = c .before .before .before .before .before .before .before .upstream-via in
-    let R = order-ready (cardOf (start .args .numbers .now) (start .args .names .now)) _ _ (λ z. the-if1 .left (the-route-of .ensures ∙ z)) (start .args .out .now) _ (the-route-refusal .ensures) (the-if2 .left) in
-    (search needs, search needs, search needs, the-upstream-via .ensures .0, search needs, search needs, R .0, rw (the-upstream-via .ensures .0) (R .1), rw (the-upstream-via .ensures .0) (R .2))
+    let start = c .before .before .before .before .before .before .before .before .before .before .before .before .before .before .before .before .before .before .before in
+    let up = c .before .before .before .before .before .before .before .before .before .before .upstream-via .ensures in
+    let e = c .before .before .before .before .before .before .before .entry-counts .ensures in
+    let R = order-ready (cardOf (c .before .before .before .before .before .before .before .before .before .before .before .before .before .before .before .before .before .before .before .args .numbers .now) (c .before .before .before .before .before .before .before .before .before .before .before .before .before .before .before .before .before .before .before .args .names .now)) _ _ (λ z. c .before .before .before .before .before .before .before .before .before .before .before .if1 .left (c .before .before .before .before .before .before .before .before .before .before .before .before .route-of .ensures ∙ z)) (start .args .out .now) _ (c .before .before .before .before .route-refusal .ensures) (c .before .before .before .if2 .left) in
+    (search needs, search needs, search needs, up .0, search needs, search needs, R .0, rw (up .0) (R .1), rw (up .0) (R .2), start .pre .3, e .0, e .1, e .2, e .3)
 
 same-length-5 : tie.Need-same-length-5
 same-length-5 c = search needs
@@ -60,14 +53,7 @@ same-length-7 : tie.Need-same-length-7
 same-length-7 c = search needs
 
 returns-3 : tie.Need-returns-3
-returns-3 c =
-    let start = c .before .before .before .before .before .before .before .before .before .before .before .before .before .before .before .before .before .before .before .before .before .before .before in
-    let the-if1 = c .before .before .before .before .before .before .before .before .before .before .before .before .before .before .before .if1 in
-    let the-route-of = c .before .before .before .before .before .before .before .before .before .before .before .before .before .before .before .before .route-of in
-    let the-route-refusal = c .before .before .before .before .before .before .before .before .before .before .before .route-refusal in
-    let the-if2 = c .before .before .before .before .before .before .before .before .before .before .if2 in
-    let the-re-route = c .before .before .before .before .before .before .re-route in
-    order-done (cardOf (start .args .numbers .now) (start .args .names .now)) _ _ (λ z. the-if1 .left (the-route-of .ensures ∙ z)) _ _ (the-route-refusal .ensures) (the-if2 .left) _ _ _ (the-re-route .ensures)
+returns-3 c = order-done (cardOf (c .before .before .before .before .before .before .before .before .before .before .before .before .before .before .before .before .before .before .before .before .before .before .before .before .before .before .args .numbers .now) (c .before .before .before .before .before .before .before .before .before .before .before .before .before .before .before .before .before .before .before .before .before .before .before .before .before .before .args .names .now)) _ _ (λ z. c .before .before .before .before .before .before .before .before .before .before .before .before .before .before .before .before .before .before .if1 .left (c .before .before .before .before .before .before .before .before .before .before .before .before .before .before .before .before .before .before .before .route-of .ensures ∙ z)) _ _ (c .before .before .before .before .before .before .before .before .before .before .before .route-refusal .ensures) (c .before .before .before .before .before .before .before .before .before .before .if2 .left) _ _ _ (c .before .before .before .before .before .before .re-route .ensures)
 
 pub change-route-spec : {M : Type 1} → statement M
 change-route-spec =
@@ -78,6 +64,7 @@ change-route-spec =
     same-length-2
     returns
     upstream-via-requires
+    entry-counts-requires
     route-refusal-requires
     same-length-3
     same-length-4

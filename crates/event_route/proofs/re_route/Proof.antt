@@ -1,9 +1,7 @@
-use Rattle.meaning.specs.Card.{withNext}
 use Rattle.event_route.proofs.Route.{moved-room, moved-ends}
-use mathlib.Core.Path.{refl, sym, ap, _∙_, subst}
-use native.Mathlib.Omega.{arith}
 use Rattle.memory.specs.Memory.{cardOf}
-use Rattle.event_route.proofs.Route.{same-place, moved-ends}
+use Rattle.meaning.specs.Card.{withNext}
+use mathlib.Core.Path.{ap, _∙_}
 use borrow.Author.Needs.{needs}
 use Rattle.event_route.proofs.re_route.Statement.{statement}
 use Rattle.event_route.proofs.re_route.Tie as tie
@@ -17,8 +15,7 @@ move-all-requires c κs = search needs
 set-route-requires : tie.Need-set-route-requires
 set-route-requires c κs =
     let start = c .before .before .before .before .before .before .before .before .before .before .before .before .before .before .before .before .before .before in
-    let the-move-all = c .before .before .before .before .before .before .before .before .move-all in
-    (search needs, search needs, search needs, moved-room (cardOf (start .args .numbers .now) (start .args .names .now)) _ _ _ _ (the-move-all .ensures .leaves) (start .pre .6))
+    (search needs, search needs, search needs, moved-room (cardOf (start .args .numbers .now) (start .args .names .now)) _ _ _ _ (c .before .before .before .before .before .before .before .before .move-all .ensures .leaves) (start .pre .6), start .pre .9, start .pre .12, start .pre .13)
 
 set-next-id-requires : tie.Need-set-next-id-requires
 set-next-id-requires c κs = search needs
@@ -34,12 +31,8 @@ same-length-3 c = search needs
 
 returns : tie.Need-returns
 returns c =
-    let the-next-id = c .before .before .before .before .before .before .before .before .before .before .before .before .before .before .before .before .before .before .next-id in
     let start = c .before .before .before .before .before .before .before .before .before .before .before .before .before .before .before .before .before .before .before .before .before .before .before .before .before .before .before in
-    let the-move-all = c .before .before .before .before .before .before .before .before .before .before .before .before .before .before .before .before .before .move-all in
-    let the-set-next-id = c .before .before .set-next-id in
-    let the-set-route = c .before .before .before .before .before .before .before .before .set-route in
-    moved-ends _ _ _ _ _ _ _ _ _ _ _ (the-next-id .ensures _) (start .pre .3) (the-move-all .ensures) (the-set-next-id .ensures _ ∙ ap (withNext _) (the-set-route .ensures))
+    moved-ends (cardOf (start .args .numbers .now) (start .args .names .now)) _ _ _ _ _ _ _ _ _ _ _ _ (c .before .before .before .before .before .before .before .before .before .before .before .before .before .before .before .before .before .before .next-id .ensures _) (start .pre .3) (start .pre .10) (start .pre .11) (c .before .before .before .before .before .before .before .before .before .before .before .before .before .before .before .before .before .move-all .ensures) (c .before .before .set-next-id .ensures _ ∙ ap (withNext _) (c .before .before .before .before .before .before .before .before .set-route .ensures))
 
 pub re-route-spec : {M : Type 1} → statement M
 re-route-spec =

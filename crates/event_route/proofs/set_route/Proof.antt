@@ -1,9 +1,7 @@
-use Rattle.memory.proofs.Memory.{routes-length, routeCount-le}
-use mathlib.Core.Path.{refl, sym, ap, _∙_, subst}
-use native.Mathlib.Omega.{arith}
-use Rattle.memory.specs.Memory.{cardOf, routeCount}
-use Rattle.memory.proofs.Memory.{routes-length}
 use Rattle.event_route.proofs.Route.{gone-is, put-is, stands-below, room-for-it}
+use Rattle.memory.proofs.Memory.{routeCount-le}
+use mathlib.Core.Path.{_∙_}
+use native.Mathlib.Omega.{arith}
 use borrow.Author.Needs.{needs}
 use Rattle.event_route.proofs.set_route.Statement.{statement}
 use Rattle.event_route.proofs.set_route.Tie as tie
@@ -15,8 +13,7 @@ remove-route-requires : tie.Need-remove-route-requires
 remove-route-requires c κs =
     let start = c .before .before .before .before .before .before .before .before .before in
     let the-route-place = c .before .before .before .route-place in
-    let the-if1 = c .before .before .if1 in
-    let below = stands-below (start .args .numbers .now) (start .args .names .now) (start .args .root .now) (the-route-place .result) (start .args .via) (the-route-place .ensures .0) (the-route-place .ensures .1) (start .pre .3) (the-if1 .taken) in
+    let below = stands-below (start .args .numbers .now) (start .args .names .now) (start .args .root .now) (the-route-place .result) (start .args .via) (the-route-place .ensures .0) (the-route-place .ensures .1) (start .pre .3) (c .before .before .if1 .taken) in
     (search needs, search needs, below, omega (arith, below, routeCount-le (start .args .numbers .now)))
 
 same-length : tie.Need-same-length
@@ -26,17 +23,13 @@ same-length-2 : tie.Need-same-length-2
 same-length-2 c = search needs
 
 returns : tie.Need-returns
-returns c =
-    let the-remove-route = c .before .before .before .before .remove-route in
-    let the-route-place = c .before .before .before .before .before .before .before .before .route-place in
-    let the-if1 = c .before .before .before .before .before .before .before .if1 in
-    the-remove-route .ensures ∙ gone-is _ _ _ _ (the-route-place .ensures .0) (the-if1 .taken)
+returns c = c .before .before .before .before .remove-route .ensures ∙ gone-is _ _ _ (c .before .before .before .before .before .before .before .before .route-place .ensures .0) (c .before .before .before .before .before .before .before .if1 .taken)
 
 enter-route-requires : tie.Need-enter-route-requires
 enter-route-requires c κs =
-    let the-route-place = c .before .before .before .route-place in
     let start = c .before .before .before .before .before .before .before .before .before in
-    (search needs, search needs, search needs, the-route-place .ensures .0, λ h. room-for-it (start .args .numbers .now) (start .args .names .now) (start .args .root .now) (the-route-place .result) (start .args .via) (the-route-place .ensures .0) (the-route-place .ensures .1) (start .pre .3) h)
+    let the-route-place = c .before .before .before .route-place in
+    (search needs, search needs, search needs, the-route-place .ensures .0, (λ h. room-for-it (start .args .numbers .now) (start .args .names .now) (start .args .root .now) (the-route-place .result) (start .args .via) (the-route-place .ensures .0) (the-route-place .ensures .1) (start .pre .3) h), omega (arith, start .pre .4), start .pre .5, start .pre .6)
 
 same-length-3 : tie.Need-same-length-3
 same-length-3 c = search needs
@@ -45,11 +38,7 @@ same-length-4 : tie.Need-same-length-4
 same-length-4 c = search needs
 
 returns-2 : tie.Need-returns-2
-returns-2 c =
-    let the-enter-route = c .before .before .before .before .enter-route in
-    let the-route-place = c .before .before .before .before .before .before .before .before .route-place in
-    let the-if1 = c .before .before .before .before .before .before .before .if1 in
-    the-enter-route .ensures ∙ put-is _ _ _ (the-route-place .result) (the-if1 .left)
+returns-2 c = c .before .before .before .before .enter-route .ensures ∙ put-is _ _ (c .before .before .before .before .before .before .before .if1 .left)
 
 pub set-route-spec : {M : Type 1} → statement M
 set-route-spec =
