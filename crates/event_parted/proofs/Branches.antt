@@ -65,6 +65,7 @@ module _ (n i : ℕ) (c₀ c c' : Card) (h : i < length (c₀ .trees)) (e : Endi
   changed t = recounted t (withBranch n 0 t) (withTrees (set (c .trees) i (withBranch n 0 t)) c)
 
   its-tree : treeAt i c ≡ one
+  unfolding treeAt
   its-tree = ap (λ (ts : List Tree). getD ts i (bare [])) (ending-trees n i c₀ c e) ∙ first-later n i (c₀ .trees) (bare [])
 
   set-first : set (c .trees) i (withBranch n 0 one) ≡ firstWithout n (suc i) (c₀ .trees)

@@ -94,14 +94,7 @@ fn route_refusal(
 }
 
 // The root's entry: anew, or gone where there is no route.
-fn set_route(
-    numbers: &mut [u64],
-    names: &mut [u8],
-    root: &[u8],
-    via: u64,
-    standing: u64,
-    lone: u64,
-)
+fn set_route(numbers: &mut [u64], names: &mut [u8], root: &[u8], via: u64, standing: u64, lone: u64)
     requires { ⌜ (let c = cardOf (now numbers) (now names) in Numbers (now numbers) × Names (now names) × (length (now root) ≤ rootLimit)
         × (routePlace (now root) c ≡ length (c .routes) → (via ≡ 17 → ⊥) × (length (c .routes) < routeLimit))
         × (via ≤ 17) × (standing < 256) × (lone < 256)) ⌝ }
