@@ -360,6 +360,11 @@ unfoldable pub ruled : Form → Card → Bool
 ruled old c = keepsRules c
 ruled new c = keepsRules c && lastRight c
 
+-- what reading tests of them: the counts are true in any table that is read (`read-ruled`)
+unfoldable pub rowsRuled : Form → Card → Bool
+rowsRuled old c = keepsRows c
+rowsRuled new c = keepsRows c && lastRight c
+
 -- ---- taking a save
 
 -- 19: octets that no table keeping the rules in force would write. (One with a longer value writes none in the old form, and what is read has none: `read-fits`.)

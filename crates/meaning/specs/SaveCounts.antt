@@ -13,7 +13,7 @@ use Rattle.meaning.specs.Card.{Route, Tree, Card, routePlace, isFor, noE
 use Rattle.meaning.specs.Events.{total, inRoot, oneStanding, oneLone, workedOut, entryOf}
 use Rattle.meaning.specs.Counts.{plain, plains, Counted, new-counted}
 use Rattle.meaning.specs.RoundTrip.{both}
-use Rattle.meaning.specs.Save.{Form, allWorkedOut, tableIn, isCounted, countsRight, keepsRows, keepsRules}
+use Rattle.meaning.specs.Save.{Form, old, new, ruled, rowsRuled, allWorkedOut, tableIn, isCounted, countsRight, keepsRows, keepsRules}
 use Rattle.meaning.specs.SaveFields.{all-cons}
 use Rattle.meaning.specs.SaveRules.{all-at, all-of}
 
@@ -56,6 +56,11 @@ and-true false = refl
 pub read-rules : (f : Form) (o : List ℕ) → keepsRules (tableIn f o) ≡ keepsRows (tableIn f o)
 unfolding keepsRules
 read-rules f o = rw (read-counted f o) (and-true (keepsRows (tableIn f o)))
+
+pub read-ruled : (f : Form) (o : List ℕ) → ruled f (tableIn f o) ≡ rowsRuled f (tableIn f o)
+unfolding ruled rowsRuled
+read-ruled old o = read-rules old o
+read-ruled new o = rw (read-rules new o) refl
 
 -- That the counts are true, by root and by entry: where each root has one entry these say the same.
 module _ (c : Card) (once : (q : List ℕ) → count (isFor q) (c .routes) ≤ 1) where

@@ -12,16 +12,17 @@ use Rattle.meaning.specs.Lists.{by-test}
 use Rattle.meaning.specs.RoundTrip.{both}
 use Rattle.meaning.specs.Events.{baseOutside}
 use Rattle.meaning.specs.Card.{Tree, Use, free, Card, withTrees, withLabel, named, labelCount}
-use Rattle.meaning.specs.Save.{Form, new, formOf, lastPlace, treesRead, treesEnd, usesRead, labelled, allLabelled, onceEach, sameName, keepsRules, tableIn, isSave, headSize, routeSize}
+use Rattle.meaning.specs.Save.{Form, new, formOf, lastPlace, treesRead, treesEnd, usesRead, labelled, allLabelled, onceEach, sameName, keepsRules, tableIn, isSave, headSize, routeSize, countsRight, keepsRows}
 use Rattle.meaning.specs.SaveLaws.{Head, head-of-save, last-of-save, ruled-keeps, taken-is-save}
 use Rattle.memory.proofs.Marks.{never}
 use Rattle.save_rows.specs.Stages.{treesBegin, rowsRead}
 use Rattle.save_labels.specs.Labels.{OfBlock}
 
 keeps-names : (c : Card) → keepsRules c ≡ true → (baseOutside (c .base) ≡ false) × (onceEach sameName (c .trees) ≡ true)
-unfolding keepsRules
+unfolding keepsRules keepsRows
 keeps-names c e =
-    let names = both _ _ (both _ _ (both _ _ (both _ _ (both _ _ e .0) .0) .0) .0) in
+    let rows = both _ (countsRight c) e .0 in
+    let names = both _ _ (both _ _ (both _ _ (both _ _ (both _ _ rows .0) .0) .0) .0) in
     let routes = both _ _ (both _ _ (both _ _ (both _ _ (both _ _ (both _ _ (names .0) .0) .0) .0) .0) .0) in
     (not-true _ (both _ _ (routes .0) .0), names .1)
 

@@ -25,6 +25,7 @@ use Rattle.memory.proofs.Head.{label-before}
 use Rattle.meaning.specs.SaveLaws.{highest-is, highest-free}
 use Rattle.octets.proofs.Tab.{tab-get}
 use Rattle.save_rows.specs.Stages.{headRead, treesBegin, rowsRead, labelsBegin}
+use Rattle.save_counts.specs.Counted.{counted}
 use Rattle.save_fields.proofs.Read.{four-drop}
 use Rattle.save_rows.proofs.Rows.{trees-bare}
 use Rattle.save_labels.specs.Labels.{Unlabelled, Ready, OfBlock}
@@ -286,11 +287,11 @@ module _ (f : Form) (o : List ℕ) where
   unfolding rowsRead headRead withLabels withTrees withRoutes withNext fresh cardOf
   base-kept c d us ns os ts ec ed et = sym (ap (λ (x : Card). x .base) et ∙ ap (λ (x : Card). x .base) ed ∙ ap (λ (x : Card). x .base) ec)
 
-  pub table-whole : (n at : ℕ) (c d t s : Card) → c ≡ rowsRead f o → drop at o ≡ labelsBegin f o
+  pub table-whole : (n at : ℕ) (c d t s u : Card) → c ≡ rowsRead f o → drop at o ≡ labelsBegin f o
       → d ≡ withLabels (usesRead f (c .base) n (drop at o) (c .labels)) c → t ≡ withTrees (allLabelled (d .base) (d .labels) (d .trees)) d
-      → n ≡ twoAt o 13 → s ≡ withLast (lastIn f o (t .base) (t .labels)) t → s ≡ tableIn f o
-  unfolding tableIn rowsRead headRead treesBegin labelsBegin withLast withLabels withTrees withRoutes withNext fresh
-  table-whole n at c d t s ec ea ed et en es = rw (es, et, ed, ec, en, ea) refl
+      → n ≡ twoAt o 13 → s ≡ withLast (lastIn f o (t .base) (t .labels)) t → u ≡ counted s → u ≡ tableIn f o
+  unfolding counted tableIn rowsRead headRead treesBegin labelsBegin withLast withLabels withTrees withRoutes withNext fresh
+  table-whole n at c d t s u ec ea ed et en es eu = rw (eu, es, et, ed, ec, en, ea) refl
 
 -- ---- the highest label in use, from the block's end down
 

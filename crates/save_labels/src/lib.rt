@@ -159,4 +159,5 @@ pub fn read_labels(octets: &[u8], at: usize, second: bool, numbers: &mut [u64], 
     read_uses(octets, at, second, labels, numbers, names);
     label_trees(numbers, names);
     settle(octets, second, numbers);
+    save_counts::work_out_all(numbers, names);
 }

@@ -16,18 +16,21 @@ use Rattle.meaning.specs.Calls.{over}
 use Rattle.memory.specs.Memory.{cardOf, baseIn}
 use Rattle.memory.proofs.Memory.{base-range}
 use Rattle.save_records.proofs.Records.{last-none, last-some}
-use Rattle.meaning.specs.Save.{Form, formOf, keepsRules, lastRight, ruled, saved, tableIn, isSave, restore}
+use Rattle.meaning.specs.Save.{Form, formOf, keepsRows, lastRight, rowsRuled, saved, tableIn, isSave, restore}
+use Rattle.meaning.specs.SaveCounts.{read-ruled}
+
+-- A table that is read has true counts, so that its other rules alone are tested.
 
 module _ (f : Form) (o : List ℕ) where
   -- ---- the octets that its save are
 
-  pub not-taken : (c : Card) → c ≡ tableIn f o → ruled f c ≡ false → isSave f o ≡ false
+  pub not-taken : (c : Card) → c ≡ tableIn f o → rowsRuled f c ≡ false → isSave f o ≡ false
   unfolding isSave
-  not-taken c e k = rw (← e, k) refl
+  not-taken c e k = rw (read-ruled f o, ← e, k) refl
 
-  pub taken : (c : Card) (r : Bool) → c ≡ tableIn f o → ruled f c ≡ true → r ≡ same (saved f c) o → r ≡ isSave f o
+  pub taken : (c : Card) (r : Bool) → c ≡ tableIn f o → rowsRuled f c ≡ true → r ≡ same (saved f c) o → r ≡ isSave f o
   unfolding isSave
-  taken c r e k h = rw (← e, k) h
+  taken c r e k h = rw (read-ruled f o, ← e, k) h
 
   pub refused : (c : Card) → isSave f o ≡ false → (19 ≡ restore f o c .answer) × (c ≡ restore f o c .card)
   unfolding restore refuse
@@ -61,18 +64,18 @@ module _ (ns os : List ℕ) (v : ℕ) (ev : v ≡ turn (cardOf ns os)) where
   right-none n z en = let none : eqb (cardOf ns os .last) 0 ≡ true = eq-eqb _ _ (sym (last-none ns os v ev z)) in rw (none, en) refl
 
 module _ (b : Bool) (c : Card) where
-  pub not-ruled : keepsRules c ≡ false → false ≡ ruled (formOf b) c
-  unfolding formOf ruled
+  pub not-ruled : keepsRows c ≡ false → false ≡ rowsRuled (formOf b) c
+  unfolding formOf rowsRuled
   not-ruled k = by-form b
     where
-      by-form : (b : Bool) → false ≡ ruled (formOf b) c
+      by-form : (b : Bool) → false ≡ rowsRuled (formOf b) c
       by-form true = rw k refl
       by-form false = rw k refl
 
-  pub ruled-new : b ≡ true → keepsRules c ≡ true → (r : Bool) → r ≡ lastRight c → r ≡ ruled (formOf b) c
-  unfolding formOf ruled
+  pub ruled-new : b ≡ true → keepsRows c ≡ true → (r : Bool) → r ≡ lastRight c → r ≡ rowsRuled (formOf b) c
+  unfolding formOf rowsRuled
   ruled-new e k r h = rw (e, k) h
 
-  pub ruled-old : b ≡ false → keepsRules c ≡ true → true ≡ ruled (formOf b) c
-  unfolding formOf ruled
+  pub ruled-old : b ≡ false → keepsRows c ≡ true → true ≡ rowsRuled (formOf b) c
+  unfolding formOf rowsRuled
   ruled-old e k = rw e (sym k)

@@ -74,7 +74,7 @@ fours-are (suc n) o = ap (λ (l : List ℕ). fourAt o 0 ∷ l) (fours-are n (dro
 pub routes-many : (n : ℕ) (o : List ℕ) → length (routesRead n o) ≡ n
 routes-many n o = ap length (routes-are n o) ∙ reads-length routeRead routeSize n o
 
-pub route-read : (o root : List ℕ) (at via : ℕ) → root ≡ spacedIn rootLimit (drop (at + 4) o) → via ≡ getD o (at + 3) 0 → _≡_ {A = Route} (record { root = root; via = via }) (routeRead (drop at o))
+pub route-read : (o root : List ℕ) (at via : ℕ) → root ≡ spacedIn rootLimit (drop (at + 4) o) → via ≡ getD o (at + 3) 0 → _≡_ {A = Route} (record { root = root; via = via; standing = 0; lone = 0 }) (routeRead (drop at o))
 unfolding routeRead
 route-read o root at via hr hv = rw (hr, hv, ← drop-drop 4 at o, ← getD-drop at o 3 0) refl
 

@@ -22,7 +22,7 @@ fn read_route(octets: &[u8], at: usize, numbers: &mut [u64], names: &mut [u8])
 {
     let root = save_fields::spaced(octets, at + 4, 16);
     let via = octets::at(octets, at + 3);
-    memory_routes::append_route(numbers, names, root, via);
+    memory_routes::append_route(numbers, names, root, via, 0, 0);
 }
 
 fn read_routes(octets: &[u8], at: usize, n: usize, numbers: &mut [u64], names: &mut [u8])

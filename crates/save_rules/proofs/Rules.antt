@@ -11,7 +11,7 @@ use Rattle.meaning.specs.Octets.{same, all}
 use Rattle.meaning.specs.Lists.{by-test, getD-out, getD-same}
 use Rattle.meaning.specs.Card.{Tree, mapped, awaiting, Card, treeAt, treeOf, treePlace, bare, isFree, mappedTo, useOf, labelCount, routeLimit, treeLimit}
 use Rattle.meaning.specs.Events.{baseOutside}
-use Rattle.meaning.specs.Save.{isName, onceEach, isRoute, sameRoot, isTree, sameName, isUse, isCarried, allCarried, isMappedFor, carriesOwn, holdsRight, keepsRules}
+use Rattle.meaning.specs.Save.{isName, onceEach, isRoute, sameRoot, isTree, sameName, isUse, isCarried, allCarried, isMappedFor, carriesOwn, holdsRight, keepsRows}
 use Rattle.memory.specs.Memory.{baseIn, nextIn, treeCount, isFreeAt, isMappedAt, labelName, labelIn, cardOf, InBlock}
 use Rattle.memory.proofs.Memory.{routeCount-le, treeCount-le, base-range, routes-length, trees-length, labels-length}
 use Rattle.memory.proofs.Marks.{by-use, mapped-use, label-free, label-mapped}
@@ -140,6 +140,6 @@ module _ (ns os : List ℕ) where
       → d ≡ all isTree (cardOf ns os .trees) → e ≡ onceEach sameName (cardOf ns os .trees)
       → f ≡ all isUse (cardOf ns os .labels)
       → g ≡ allCarried (cardOf ns os) (cardOf ns os .base) (cardOf ns os .labels) → h ≡ all (carriesOwn (cardOf ns os)) (cardOf ns os .trees) → k ≡ all (holdsRight (cardOf ns os)) (cardOf ns os .trees)
-      → (a && b && d && e && f && g && h && k) ≡ keepsRules (cardOf ns os)
-  unfolding keepsRules
+      → (a && b && d && e && f && g && h && k) ≡ keepsRows (cardOf ns os)
+  unfolding keepsRows
   kept a b d e f g h k ea eb ed ee ef eg eh ek = rw (base-kept, next-kept, routes-kept, trees-kept, labels-kept, ea, eb, ed, ee, ef, eg, eh, ek) refl

@@ -7,7 +7,7 @@ ghost use mathlib.Core.List.{List};
 ghost use Prim.Native.Nat.{ℕ, _+_, _<_};
 ghost use Rattle.meaning.specs.Octets.{all};
 ghost use Rattle.meaning.specs.Card.{treeAt, labelCount, treeLimit};
-ghost use Rattle.meaning.specs.Save.{isName, isUse, isCarried, allCarried, isMappedFor, carriesOwn, holdsRight, keepsRules};
+ghost use Rattle.meaning.specs.Save.{isName, isUse, isCarried, allCarried, isMappedFor, carriesOwn, holdsRight, keepsRows};
 ghost use Rattle.memory.specs.Sizes.{Numbers, Names};
 ghost use Rattle.memory.specs.Memory.{cardOf, baseIn, isFreeAt, isMappedAt, labelIn, labelName, treeCount};
 use meaning::LABEL_COUNT;
@@ -152,7 +152,7 @@ fn held_right(numbers: &[u64], names: &[u8]) -> bool
 // Each is asked: a table that keeps the rules passes them all.
 pub fn keeps_rules(numbers: &[u64], names: &[u8]) -> bool
     requires { ⌜ Numbers (now numbers) × Names (now names) ⌝ }
-    ensures { λ r. ⌜ r ≡ keepsRules (cardOf (now (numbers .entry)) (now (names .entry))) ⌝ }
+    ensures { λ r. ⌜ r ≡ keepsRows (cardOf (now (numbers .entry)) (now (names .entry))) ⌝ }
 {
     save_rules_rows::routes_good(numbers, names)
         & save_rules_rows::roots_once(numbers, names)

@@ -16,7 +16,7 @@ use Rattle.meaning.specs.Card.{Route, Tree, Use, Card, treeAt, bare, isBranch, 
 use Rattle.meaning.specs.Events.{notRoot, upstream, holderOf, holder}
 use Rattle.meaning.specs.Save.{isName, onceEach, isRoute, sameRoot, isBranchLabel, isTree, sameName, isCarried, allCarried, holdsRight}
 use Rattle.octets.proofs.Tab.{tab-get}
-use Rattle.memory.specs.Memory.{baseIn, routeCount, treeCount, rootName, routeIn, labelIn, cardOf}
+use Rattle.memory.specs.Memory.{baseIn, routeCount, treeCount, rootName, entryIn, routeIn, labelIn, cardOf}
 use Rattle.memory.proofs.Memory.{routes-length, trees-length, labels-length}
 use Rattle.memory.proofs.Trees.{branches-length}
 
@@ -137,7 +137,7 @@ module _ (ns os : List ℕ) (i : ℕ) where
 
   module _ (via n : ℕ) (e : via ≡ routeIn ns os i .via) (h : via ≤ 16) (k : n ≡ length (rootName os i)) where
     route-sized : isRoute (routeIn ns os i) ≡ (eqb n 4 || eqb n 16)
-    unfolding isRoute notRoot routeIn
+    unfolding isRoute notRoot routeIn entryIn
     route-sized = rw (← e, le-leb via 16 h, ← k, and-true, Bool·not-not) refl
 
     pub route-four : n ≡ 4 → isRoute (routeIn ns os i) ≡ true
@@ -147,11 +147,11 @@ module _ (ns os : List ℕ) (i : ℕ) where
     route-sixteen ne = rw (route-sized, ne-eqb n 4 ne) refl
 
   pub route-for : (r a : List ℕ) → a ≡ rootName os i → same a r ≡ isFor r (routeIn ns os i)
-  unfolding isFor routeIn
+  unfolding isFor routeIn entryIn
   route-for r a e = rw e refl
 
   pub root-like : (a : List ℕ) (l : List Route) → a ≡ rootName os i → any (isFor a) l ≡ any (sameRoot (routeIn ns os i)) l
-  unfolding sameRoot routeIn
+  unfolding sameRoot routeIn entryIn
   root-like a l e = rw e refl
 
 -- ---- one tree

@@ -26,6 +26,9 @@ settle-requires c κs =
     let base = base-kept _ (s .args .octets .now) _ _ _ _ _ _ (s .pre .4) (c .before .before .before .before .before .before .before .before .before .before .read-uses .ensures) (c .before .before .before .label-trees .ensures) in
     (c .before .before .numbers2 .given ∙ c .before .before .before .before .before .before .before .before .before .numbers .given ∙ s .pre .0, block-kept _ _ _ _ base (s .pre .6))
 
+work-out-all-requires : tie.Need-work-out-all-requires
+work-out-all-requires c κs = search needs
+
 same-length : tie.Need-same-length
 same-length c = search needs
 
@@ -34,8 +37,9 @@ same-length-2 c = search needs
 
 returns : tie.Need-returns
 returns c =
-    let s = c .before .before .before .before .before .before .before .before .before .before .before .before .before .before .before .before .before .before .before .before in
-    table-whole _ (s .args .octets .now) _ (s .args .at) _ _ _ _ (s .pre .4) (s .pre .3) (c .before .before .before .before .before .before .before .before .before .before .before .before .before .read-uses .ensures) (c .before .before .before .before .before .before .label-trees .ensures) (c .before .before .before .before .before .before .before .before .before .before .before .before .before .before .before .before .two-at .ensures .0) (c .before .before .settle .ensures _)
+    let w = c .before .before .before .before .before in
+    let s = w .before .before .before .before .before .before .before .before .before .before .before .before .before .before .before .before .before .before .before .before in
+    table-whole _ (s .args .octets .now) _ (s .args .at) _ _ _ _ _ (s .pre .4) (s .pre .3) (w .before .before .before .before .before .before .before .before .before .before .before .before .before .read-uses .ensures) (w .before .before .before .before .before .before .label-trees .ensures) (w .before .before .before .before .before .before .before .before .before .before .before .before .before .before .before .before .two-at .ensures .0) (w .before .before .settle .ensures _) (c .before .before .work-out-all .ensures)
 
 pub read-labels-spec : {M : Type 1} → statement M
 read-labels-spec =
@@ -45,6 +49,7 @@ read-labels-spec =
     read-uses-requires
     label-trees-requires
     settle-requires
+    work-out-all-requires
     same-length
     same-length-2
     returns)

@@ -1,5 +1,5 @@
 -- `save_records::put_route_record` meets its contract: four octets and a space are the route. Assumes nothing.
-use Rattle.memory.specs.Memory.{routeIn}
+use Rattle.memory.specs.Memory.{entryIn, routeIn}
 use Rattle.save_records.proofs.Records.{route-put}
 use borrow.Author.Needs.{needs}
 use Rattle.save_records.proofs.put_route_record.Statement.{statement}
@@ -49,7 +49,7 @@ same-length : tie.Need-same-length
 same-length c = search needs
 
 returns : tie.Need-returns
-unfolding routeIn
+unfolding routeIn entryIn
 returns c =
     let p = c .before .before in
     let d = p .before .before .before .before .before in
