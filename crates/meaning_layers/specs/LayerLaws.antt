@@ -4,7 +4,7 @@ use Prim.Native.Nat.{ℕ, _+_, _*_, _-_, _/_, _%_, _≤_, _<_}
 use native.Mathlib.Nat.{le-refl, le-trans}
 use native.Mathlib.Omega.{arith}
 use mathlib.Core.Path.{_≡_, refl, sym, ap, ap₂, _∙_}
-use mathlib.Core.Bool.{Bool, true, false, not, _||_}
+use mathlib.Core.Bool.{Bool, true, false, not, _&&_, _||_}
 use mathlib.Core.List.{List, [], _∷_, _++_}
 use lib.ListN.{take, drop, getD, length, length-append, length-drop, length-take, take-append-drop}
 use lib.Seq.{drop-drop, drop-length, take-append-seam, drop-append-seam}
@@ -26,6 +26,9 @@ no-way z = absurd (let z′ : _≡_ {A = ℕ} 0 1 = cc in omega arith)
 neither : (x y : Bool) → (x || y) ≡ false → (x ≡ false) × (y ≡ false)
 neither true y e = no-way e
 neither false y e = (refl, e)
+
+three : {x y z : Bool} → x ≡ true → y ≡ true → z ≡ true → (x && y && z) ≡ true
+three {x} {y} {z} p q r = rw (p, q, r) refl
 
 -- ---- a name that 6, 7 and 18 pass
 
@@ -111,7 +114,9 @@ module _ (eight name : List ℕ) (right : notEight eight ≡ false) (short : len
 
   pub holding-wraps : elementRefusal name ≡ 0 → wraps o ≡ true
   unfolding wraps
-  holding-wraps ok = rw (its-kind, its-field, eq-eqb (length o) (3 + length (eight ++ name)) its-length, holding-inner, eq-eqb (elementRefusal name) 0 ok) refl
+  holding-wraps ok =
+      let alone : length o ≡ 3 + twoAt o 1 = its-length ∙ ap (λ (n : ℕ). 3 + n) (sym its-field) in
+      three its-kind (eq-eqb (length o) (3 + twoAt o 1) alone) (eq-eqb (elementRefusal (innerIn o)) 0 (ap elementRefusal holding-inner ∙ ok))
 
 -- ---- wrapping
 
