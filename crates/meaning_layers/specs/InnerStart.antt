@@ -39,10 +39,10 @@ start-bounds e l =
     let long : 13 ≤ length (innerOf e) = unfold innerOf in name-long (innerIn (opaqueIn e)) (wraps-so (opaqueIn e) (unfold isLast in not-false _ l) .inner) in
     (omega (arith, start-more e l), omega (arith, ap length (start-inner e l), length-drop (innerStart e) e))
 
-start-not : (e : List ℕ) → (innerStart e ≡ 0 → ⊥) → isLast e ≡ false
+pub start-not : (e : List ℕ) → (innerStart e ≡ 0 → ⊥) → isLast e ≡ false
 start-not e d = by-test (isLast e) (λ l. absurd (d (start-last e l))) (λ l. l)
 
-start-none : (e : List ℕ) → innerStart e ≡ 0 → isLast e ≡ true
+pub start-none : (e : List ℕ) → innerStart e ≡ 0 → isLast e ≡ true
 start-none e z = by-test (isLast e) (λ l. l) (λ l. absurd (omega (arith, start-bounds e l)))
 
 -- the part from there on, as it is lent
