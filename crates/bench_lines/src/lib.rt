@@ -15,7 +15,7 @@ pub const TEXT_SPACE: usize = SAVE_DIGITS + 418;
 
 // ---- parts of a line
 
-fn add(text: &mut [u8], at: usize, part: &[u8]) -> usize
+pub fn add(text: &mut [u8], at: usize, part: &[u8]) -> usize
     requires { ⌜ at + length (now part) ≤ length (now text) ⌝ }
     ensures { λ r. ⌜ Adds (now (part .entry)) (now (text .entry)) (now (text .exit)) at r ⌝ }
 {
@@ -30,7 +30,7 @@ fn add_number(text: &mut [u8], at: usize, n: u64) -> usize
     at + bench_words::put_number(&mut text[at..], n)
 }
 
-fn add_hex(text: &mut [u8], at: usize, octets: &[u8]) -> usize
+pub fn add_hex(text: &mut [u8], at: usize, octets: &[u8]) -> usize
     requires { ⌜ at + length (now octets) * 2 ≤ length (now text) ⌝ }
     ensures { λ r. ⌜ Adds (hexOf (now (octets .entry))) (now (text .entry)) (now (text .exit)) at r ⌝ }
     ensures { λ r. ⌜ r ≡ at + length (now (octets .entry)) * 2 ⌝ }

@@ -24,7 +24,7 @@ pub start-last : (e : List ℕ) → isLast e ≡ true → innerStart e ≡ 0
 unfolding innerStart
 start-last e l = rw l refl
 
-start-more : (e : List ℕ) → isLast e ≡ false → innerStart e ≡ 9 + rootLength e + beforeInner (opaqueIn e)
+pub start-more : (e : List ℕ) → isLast e ≡ false → innerStart e ≡ 9 + rootLength e + beforeInner (opaqueIn e)
 unfolding innerStart
 start-more e l = rw l refl
 
