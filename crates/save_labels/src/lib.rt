@@ -1,5 +1,6 @@
 // A save's labels in use, and with them the label that each tree carries and the last label given: out of its octets, in either form, into
 // the memory that holds its trees.
+// With them the table is whole but for the counts, which are worked out.
 ghost use mathlib.Core.Path.{_≡_};
 ghost use mathlib.Core.Bool.{true};
 ghost use mathlib.Core.List.{List};
