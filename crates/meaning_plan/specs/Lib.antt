@@ -1,0 +1,7 @@
+pub mod Plan
+pub mod PlanOctets
+pub mod Absurd
+pub mod Cheapest
+pub mod Rising
+pub mod Loops
+pub mod PlanExamples
