@@ -139,6 +139,14 @@ loss-taken c gs S R room n near h = rw (lost-taken c n (unfold noNeighbour in le
     le-ltb : (n : ℕ) → n < 16 → ltb 15 n ≡ false
     le-ltb n k = by-test (ltb 15 n) (λ e. absurd (let z = ltb-true 15 n e in omega arith)) (λ e. e)
 
+-- the octets of one route order, of any table that is sound and keeps the rules
+pub order-short : (c : Card) (gs : List Given) → Sound c gs → Ruled c → (room : ℕ) (r : List ℕ) (via : ℕ) → length (event room c (route r via) .octets) ≤ sentLimit
+unfolding event outcome
+order-short c gs S R room r via =
+    let most = most-octets c gs (route r via) room (length (c .trees) * 2) (onRoute c r via) (route-most c r via) (unfold outcome in event-keeps c gs S (route r via)) in
+    let few = R .trees in
+    omega arith
+
 -- After any history.
 pub sizes-kept : (base : ℕ) (steps : List Step) → Sized (history base steps .card)
 sizes-kept base steps =
@@ -149,7 +157,7 @@ sizes-kept base steps =
       routes = u .ruled .routes;
       labels = u .sound .many;
       short = λ s. all-short _ (sends-said p s u);
-      order = λ room r via. ordered (p .card) (p .live) (u .sound) (u .ruled) room r via;
+      order = λ room r via. order-short (p .card) (p .live) (u .sound) (u .ruled) room r via;
       loss = λ room n. parting (p .card) (p .live) (u .sound) (u .ruled) room n;
     }
   where
@@ -157,12 +165,5 @@ sizes-kept base steps =
     parting c gs S R room n =
         unfold event outcome in
         let most = most-octets c gs (lost n) room (length (c .trees)) (onLost c n) (lost-most c n) (unfold outcome in event-keeps c gs S (lost n)) in
-        let few = R .trees in
-        omega arith
-
-    ordered : (c : Card) (gs : List Given) → Sound c gs → Ruled c → (room : ℕ) (r : List ℕ) (via : ℕ) → length (event room c (route r via) .octets) ≤ sentLimit
-    ordered c gs S R room r via =
-        unfold event outcome in
-        let most = most-octets c gs (route r via) room (length (c .trees) * 2) (onRoute c r via) (route-most c r via) (unfold outcome in event-keeps c gs S (route r via)) in
         let few = R .trees in
         omega arith
