@@ -56,6 +56,15 @@ pub fn take_all(numbers: &[u64], names: &[u8], root: &[u8], u: u64) -> Takes
     Takes { labels, octets }
 }
 
+// How many free labels that takes.
+pub fn need_all(numbers: &[u64], names: &[u8], root: &[u8], u: u64) -> usize
+    requires { ⌜ Numbers (now numbers) × Names (now names) ⌝ }
+    ensures { λ r. ⌜ (r ≡ needAll (now (root .entry)) u (cardOf (now (numbers .entry)) (now (names .entry)))) × (r ≤ treeLimit) ⌝ }
+{
+    let t = take_all(numbers, names, root, u);
+    t.labels
+}
+
 fn move_one(
     numbers: &mut [u64],
     names: &mut [u8],
