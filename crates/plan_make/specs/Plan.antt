@@ -1,0 +1,18 @@
+-- What the planner's answer is, and the octets that it lays into the list that is lent. Assumes nothing.
+use Prim.Native.Nat.{ℕ}
+use mathlib.Core.List.{List, []}
+use lib.ListN.{length}
+use Rattle.meaning_plan.specs.Plan as Plan
+use Rattle.meaning_plan.specs.PlanOctets.{listOf}
+use Rattle.plan_make.specs.declared.Planned as Made
+
+-- this paper's number of a refusal; that there is no list; how many entries it has
+unfoldable pub planOf : Plan.Plan → Made.Planned
+planOf (Plan.refused number) = Made.Planned.Refused number
+planOf Plan.none = Made.Planned.None
+planOf (Plan.listed ms) = Made.Planned.Listed (length ms)
+
+unfoldable pub listMade : Plan.Plan → List ℕ
+listMade (Plan.refused number) = []
+listMade Plan.none = []
+listMade (Plan.listed ms) = listOf ms
