@@ -4,20 +4,20 @@ use Prim.Native.Nat.{ℕ, zero, suc, _+_, _≤_, _<_}
 use native.Mathlib.Nat.{le-refl}
 use native.Mathlib.Omega.{arith}
 use mathlib.Core.Path.{_≡_, ap, _∙_, subst}
-use mathlib.Core.Bool.{Bool, true, false, _&&_, _||_}
-use lib.Dec.{eqb, leb}
+use mathlib.Core.Bool.{Bool, true, false, _&&_}
+use lib.Dec.{eqb}
 use borrow.Author.Tests.{eqb-true, eqb-false, leb-true, leb-false, ne-eqb}
 use Rattle.meaning.specs.Lists.{by-test}
 use Rattle.meaning.specs.RoundTrip.{both}
 use Rattle.meaning_plan.specs.Absurd.{no-way}
-use Rattle.meaning_plan.specs.Plan.{cheapest}
+use Rattle.meaning_plan.specs.Plan.{goesFirst, cheapest}
 
 module _ (ok : ℕ → Bool) (cost : ℕ → ℕ) where
   pub cheapest-most : (k v : ℕ) → v + k ≤ 16 → cheapest ok cost k v ≤ 16
   unfolding cheapest
   cheapest-most zero v h = le-refl 16
   cheapest-most (suc k) v h =
-      by-test (ok v && (eqb (cheapest ok cost k (suc v)) 16 || leb (cost v) (cost (cheapest ok cost k (suc v)))))
+      by-test (ok v && goesFirst cost v (cheapest ok cost k (suc v)))
       (λ e. rw e (omega arith))
       (λ e. rw e (cheapest-most k (suc v) (omega arith)))
 
@@ -26,7 +26,7 @@ module _ (ok : ℕ → Bool) (cost : ℕ → ℕ) where
   unfolding cheapest
   cheapest-in zero v h lt = absurd (omega arith)
   cheapest-in (suc k) v h lt =
-      by-test (ok v && (eqb (cheapest ok cost k (suc v)) 16 || leb (cost v) (cost (cheapest ok cost k (suc v)))))
+      by-test (ok v && goesFirst cost v (cheapest ok cost k (suc v)))
       (λ e. rw e (le-refl v, both (ok v) _ e .0))
       (λ e. let p = cheapest-in k (suc v) (omega arith) (rw e at lt) in rw e (lower v _ (p .0), p .1))
     where
@@ -40,12 +40,14 @@ module _ (ok : ℕ → Bool) (cost : ℕ → ℕ) where
     pub lowest : cost b ≡ cost w → b ≤ w
 
   -- of the first, with what comes later
-  first-beats : (v later w : ℕ) → v < 16 → (eqb later 16 || leb (cost v) (cost later)) ≡ true → (v ≡ w → ⊥) → v ≤ w → Beats later w → Beats v w
+  first-beats : (v later w : ℕ) → v < 16 → goesFirst cost v later ≡ true → (v ≡ w → ⊥) → v ≤ w → Beats later w → Beats v w
+  unfolding goesFirst
   first-beats v later w near e d h B =
       let cheaper : cost v ≤ cost later = leb-true _ _ (rw (ne-eqb later 16 (λ z. let f = B .found in omega arith)) at e) in
       record { found = near; cheap = omega (arith, B .cheap); lowest = λ _. h }
 
-  later-beats : (v later : ℕ) → later ≤ 16 → (eqb later 16 || leb (cost v) (cost later)) ≡ false → Beats later v
+  later-beats : (v later : ℕ) → later ≤ 16 → goesFirst cost v later ≡ false → Beats later v
+  unfolding goesFirst
   later-beats v later most e =
       by-test (eqb later 16)
       (λ k. no-way (rw k at e))
@@ -63,7 +65,7 @@ module _ (ok : ℕ → Bool) (cost : ℕ → ℕ) where
   unfolding cheapest
   cheapest-beats zero v h w lo hi good = absurd (omega arith)
   cheapest-beats (suc k) v h w lo hi good =
-      by-test (ok v && (eqb (cheapest ok cost k (suc v)) 16 || leb (cost v) (cost (cheapest ok cost k (suc v)))))
+      by-test (ok v && goesFirst cost v (cheapest ok cost k (suc v)))
       (λ e. rw e (by-test (eqb v w)
       (λ z. subst (λ (x : ℕ). Beats v x) (eqb-true v w z) (same-beats v (omega arith)))
       (λ z. let d : v ≡ w → ⊥ = eqb-false v w z in first-beats v (cheapest ok cost k (suc v)) w (omega arith) (both (ok v) _ e .1) d lo (cheapest-beats k (suc v) (omega arith) w (omega arith) (omega arith) good))))

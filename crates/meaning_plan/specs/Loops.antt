@@ -4,15 +4,14 @@ use Prim.Native.Nat.{ℕ, zero, suc, _+_, _*_, _<_}
 use native.Mathlib.Nat.{le-of-suc-le-suc, not-suc-le-zero}
 use native.Mathlib.Omega.{arith}
 use mathlib.Core.Path.{_≡_, refl, ap, _∙_}
-use mathlib.Core.Bool.{Bool, _&&_, _||_}
+use mathlib.Core.Bool.{Bool, _&&_}
 use mathlib.Core.List.{List, [], _∷_}
 use lib.ListN.{take, drop, getD, length}
 use lib.Seq.{drop-cons, drop-drop}
-use lib.Dec.{eqb, leb}
 use Rattle.meaning.specs.Octets.{pick}
 use Rattle.meaning.specs.Card.{Route, Card}
 use Rattle.meaning.specs.Events.{needAll}
-use Rattle.meaning_plan.specs.Plan.{Move, Allowed, goesBy, needList, cheapest, noChoice, insert, asMove, through}
+use Rattle.meaning_plan.specs.Plan.{Move, Allowed, goesBy, needList, goesFirst, cheapest, insert, asMove, through}
 use Rattle.meaning_plan.specs.PlanOctets.{setSize, setIn, setsIn, entrySize, entryIn, entriesIn}
 
 -- ---- rows of octets: the entry at place i
@@ -55,7 +54,7 @@ need-take c (m ∷ ms) (suc i) d h = omega (arith, need-take c ms i d (le-of-suc
 
 -- ---- the choice, downwards: from v + 1 on to v on
 
-pub cheapest-step : (ok : ℕ → Bool) (cost : ℕ → ℕ) (k v : ℕ) → cheapest ok cost (suc k) v ≡ pick (ok v && (eqb (cheapest ok cost k (suc v)) noChoice || leb (cost v) (cost (cheapest ok cost k (suc v))))) v (cheapest ok cost k (suc v))
+pub cheapest-step : (ok : ℕ → Bool) (cost : ℕ → ℕ) (k v : ℕ) → cheapest ok cost (suc k) v ≡ pick (ok v && goesFirst cost v (cheapest ok cost k (suc v))) v (cheapest ok cost k (suc v))
 unfolding cheapest
 cheapest-step ok cost k v = refl
 

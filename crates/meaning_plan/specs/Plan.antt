@@ -78,12 +78,16 @@ checked c n ps ms = pick (noNeighbour n) (refusal 1) (pick (accepts c n ps ms) a
 abbrev pub noChoice : ℕ
 noChoice = neighbourCount
 
+-- v goes before what was found later: nothing was, or v costs no more
+unfoldable pub goesFirst : (ℕ → ℕ) → ℕ → ℕ → Bool
+goesFirst cost v later = eqb later noChoice || leb (cost v) (cost later)
+
 -- Of the k neighbours from v on, the one that passes the test and costs least, ties to the lowest; no choice where none passes.
 unfoldable pub cheapest : (ℕ → Bool) → (ℕ → ℕ) → ℕ → ℕ → ℕ
 cheapest ok cost zero v = noChoice
 cheapest ok cost (suc k) v =
     let later = cheapest ok cost k (suc v) in
-    pick (ok v && (eqb later noChoice || leb (cost v) (cost later))) v later
+    pick (ok v && goesFirst cost v later) v later
 
 -- the permitted neighbour that needs fewest labels
 unfoldable pub choice : Card → ℕ → List Allowed → List ℕ → ℕ

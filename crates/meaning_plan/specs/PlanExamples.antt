@@ -13,7 +13,7 @@ use Rattle.meaning.specs.Computing.{computing}
 use Rattle.meaning.specs.Examples.{NoneWrong, heard}
 use Rattle.meaning.specs.Corners.{scarce, left}
 use Rattle.meaning.specs.Save.{padded, spaced, spacedIn}
-use Rattle.meaning_plan.specs.Plan.{Move, moveFor, Allowed, allowedFor, setOf, permits, goesBy, needList, mayHave, isMove, listedOnce, accepts, Verdict, refusal, rejected, accepted, checked, cheapest, choice, isBelow, isBefore, insert, asMove, through, chosen, proposal, isFound, Plan, refused, none, listed, planned, ordered, carriedOut, answers, isTaken, noRefusal, someThrough}
+use Rattle.meaning_plan.specs.Plan.{Move, moveFor, Allowed, allowedFor, setOf, permits, goesBy, needList, mayHave, isMove, listedOnce, accepts, Verdict, refusal, rejected, accepted, checked, goesFirst, cheapest, choice, isBelow, isBefore, insert, asMove, through, chosen, proposal, isFound, Plan, refused, none, listed, planned, ordered, carriedOut, answers, isTaken, noRefusal, someThrough}
 use Rattle.meaning_plan.specs.PlanOctets.{setIn, setsIn, allowedIn, entryOf, listOf, entryIn, entriesIn, isList, listIn, checkedOctets, plannedOctets}
 
 -- ---- a card
@@ -239,5 +239,5 @@ wrongTests i [] = []
 wrongTests i (b ∷ bs) = let later = wrongTests (suc i) bs in let here = i ∷ later in pick b later here
 
 pub plans-shown : NoneWrong (wrongAsks 1 asks) × NoneWrong (wrongLooks 1 looks) × NoneWrong (wrongTests 1 octetTests)
-unfolding computing moveFor asMove padded spaced spacedIn setIn setsIn allowedIn entryOf listOf entryIn entriesIn isList listIn checkedOctets plannedOctets inSpace sets toZero octetsOf octetTests wrongTests scarce left heard all A B D X W one done leaf card sameList samePlan agrees wrongAsks asks sameVerdict isRight wrongLooks looks allowedFor setOf permits goesBy needList mayHave isMove listedOnce accepts checked cheapest choice isBelow isBefore insert through chosen proposal isFound planned ordered carriedOut answers isTaken noRefusal someThrough
+unfolding computing moveFor asMove padded spaced spacedIn setIn setsIn allowedIn entryOf listOf entryIn entriesIn isList listIn checkedOctets plannedOctets inSpace sets toZero octetsOf octetTests wrongTests scarce left heard all A B D X W one done leaf card sameList samePlan agrees wrongAsks asks sameVerdict isRight wrongLooks looks allowedFor setOf permits goesBy needList mayHave isMove listedOnce accepts checked goesFirst cheapest choice isBelow isBefore insert through chosen proposal isFound planned ordered carriedOut answers isTaken noRefusal someThrough
 plans-shown = (tt, tt, tt)

@@ -2,15 +2,15 @@
 use Prim.Native.Nat.{ℕ, suc, _+_, _-_, _≤_, _<_}
 use native.Mathlib.Omega.{arith}
 use mathlib.Core.Path.{_≡_, refl, sym, ap, _∙_}
-use mathlib.Core.Bool.{Bool, true, false, _&&_, _||_}
+use mathlib.Core.Bool.{Bool, true, false, _&&_}
 use mathlib.Core.List.{List}
-use lib.Dec.{eqb, leb}
+use lib.Dec.{eqb}
 use borrow.Author.Tests.{eqb-false, eq-eqb, ne-eqb, le-leb, lt-leb}
 use Rattle.meaning.specs.Octets.{pick}
 use Rattle.meaning.specs.Card.{Card, treeLimit}
 use Rattle.meaning.specs.Events.{needAll}
 use Rattle.meaning.specs.Lists.{by-test}
-use Rattle.meaning_plan.specs.Plan.{Allowed, mayHave, noChoice, cheapest, choice}
+use Rattle.meaning_plan.specs.Plan.{Allowed, mayHave, noChoice, goesFirst, cheapest, choice}
 use Rattle.meaning_plan.specs.Absurd.{no-way}
 use Rattle.meaning_plan.specs.Loops.{cheapest-step}
 
@@ -34,7 +34,7 @@ module _ (ok : ℕ → Bool) (cost : ℕ → ℕ) where
   unfolding leastOf
   least-none = refl
 
-  one-more : (w : ℕ) → 0 < w → w ≤ noChoice → bestFrom (w - 1) ≡ pick (ok (w - 1) && (eqb (bestFrom w) noChoice || leb (cost (w - 1)) (cost (bestFrom w)))) (w - 1) (bestFrom w)
+  one-more : (w : ℕ) → 0 < w → w ≤ noChoice → bestFrom (w - 1) ≡ pick (ok (w - 1) && goesFirst cost (w - 1) (bestFrom w)) (w - 1) (bestFrom w)
   unfolding bestFrom
   one-more w low high =
       let k : noChoice - (w - 1) ≡ suc (noChoice - w) = omega arith in
@@ -61,8 +61,8 @@ module _ (ok : ℕ → Bool) (cost : ℕ → ℕ) where
         (λ e. (sym (one-more w low high ∙ rw (← is, e) (better e)), offer ∙ offered-ok (w - 1) e ∙ sym (least-found (w - 1) (λ z. omega arith))))
         (λ e. absurd (omega (arith, offer, offered-not (w - 1) e)))
       where
-        better : ok (w - 1) ≡ true → pick (eqb best noChoice || leb (cost (w - 1)) (cost best)) (w - 1) best ≡ w - 1
-        better e =
+        better : ok (w - 1) ≡ true → pick (goesFirst cost (w - 1) best) (w - 1) best ≡ w - 1
+        better e = unfold goesFirst in
             by-test (eqb best noChoice)
             (λ k. rw k refl)
             (λ k. rw (k, le-leb (cost (w - 1)) (cost best) (omega (arith, offer, offered-ok (w - 1) e, cheap, least-found best (eqb-false best noChoice k)))) refl)
@@ -76,8 +76,8 @@ module _ (ok : ℕ → Bool) (cost : ℕ → ℕ) where
         some : need ≤ treeLimit → best ≡ noChoice → ⊥
         some m z = let none : leastOf best ≡ treeLimit = unfold leastOf in rw (eq-eqb best noChoice z) refl in omega (arith, none, cheap)
 
-        worse : ok (w - 1) ≡ true → need ≤ treeLimit → pick (eqb best noChoice || leb (cost (w - 1)) (cost best)) (w - 1) best ≡ best
-        worse e m = rw (ne-eqb best noChoice (some m), lt-leb (cost (w - 1)) (cost best) (omega (arith, offer, offered-ok (w - 1) e, cheap, least-found best (some m)))) refl
+        worse : ok (w - 1) ≡ true → need ≤ treeLimit → pick (goesFirst cost (w - 1) best) (w - 1) best ≡ best
+        worse e m = unfold goesFirst in rw (ne-eqb best noChoice (some m), lt-leb (cost (w - 1)) (cost best) (omega (arith, offer, offered-ok (w - 1) e, cheap, least-found best (some m)))) refl
 
 module _ (c : Card) (n : ℕ) (ps : List Allowed) (r : List ℕ) where
   abbrev pub ok : ℕ → Bool
