@@ -16,3 +16,9 @@ unfoldable pub listMade : Plan.Plan → List ℕ
 listMade (Plan.refused number) = []
 listMade Plan.none = []
 listMade (Plan.listed ms) = listOf ms
+
+-- how many entries are listed
+unfoldable pub entriesOf : Made.Planned → ℕ
+entriesOf (Made.Planned.Refused number) = 0
+entriesOf Made.Planned.None = 0
+entriesOf (Made.Planned.Listed k) = k

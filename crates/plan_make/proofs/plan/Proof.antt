@@ -1,10 +1,13 @@
+use native.Mathlib.Omega.{arith}
+use Rattle.plan_make.specs.Plan.{entriesOf}
 use Rattle.plan_make.proofs.Proposing.{plan-far, plan-listed, plan-none}
 use borrow.Author.Needs.{needs}
 use Rattle.plan_make.proofs.plan.Statement.{statement}
 use Rattle.plan_make.proofs.plan.Tie as tie
 
 returns : tie.Need-returns
-returns c = plan-far _ _ _ (c .if1 .taken) _
+unfolding entriesOf
+returns c = (plan-far _ _ _ (c .if1 .taken) _, omega arith)
 
 slice-aggregate-propose : tie.Need-slice-aggregate-propose
 slice-aggregate-propose c = search needs
@@ -40,10 +43,12 @@ put-front-requires : tie.Need-put-front-requires
 put-front-requires c κs = search needs
 
 returns-2 : tie.Need-returns-2
-returns-2 c = plan-listed _ _ _ (c .before .before .before .before .before .before .before .before .before .before .before .before .before .before .before .if1 .left) _ _ (c .before .before .before .before .before .before .before .before .before .before .before .propose .ensures .2) _ (c .before .before .before .before .before .is-plan .ensures) (c .before .before .before .before .if2 .taken) _ _ (c .put-front .ensures)
+unfolding entriesOf
+returns-2 c = (plan-listed _ _ _ (c .before .before .before .before .before .before .before .before .before .before .before .before .before .before .before .if1 .left) _ _ (c .before .before .before .before .before .before .before .before .before .before .before .propose .ensures .2) _ (c .before .before .before .before .before .is-plan .ensures) (c .before .before .before .before .if2 .taken) _ _ (c .put-front .ensures), c .before .before .before .before .before .before .before .before .before .before .before .propose .ensures .1)
 
 returns-3 : tie.Need-returns-3
-returns-3 c = plan-none _ _ _ (c .before .before .before .before .before .before .before .before .before .before .before .if1 .left) _ _ (c .before .before .before .before .before .before .before .propose .ensures .2) _ (c .before .is-plan .ensures) (c .if2 .left) _
+unfolding entriesOf
+returns-3 c = (plan-none _ _ _ (c .before .before .before .before .before .before .before .before .before .before .before .if1 .left) _ _ (c .before .before .before .before .before .before .before .propose .ensures .2) _ (c .before .is-plan .ensures) (c .if2 .left) _, omega arith)
 
 pub plan-spec : {M : Type 1} → statement M
 plan-spec = tie.close (tie.spec returns slice-aggregate-propose propose-requires mul-e sub-is-plan part-is-plan-start part-is-plan-end is-plan-requires sub-put-front part-put-front-start part-put-front-end put-front-requires returns-2 returns-3)
