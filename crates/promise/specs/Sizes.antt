@@ -52,18 +52,18 @@ unfolding AllSendable AllShort
 all-short [] p = tt
 all-short (m ∷ ms) p = ((λ id. record-short id m (p .0)), all-short ms (p .1))
 
-records-short : (id : ℕ) (ms : List Sent) → AllSendable ms → length (records id ms) ≤ length ms * recordLimit
+pub records-short : (id : ℕ) (ms : List Sent) → AllSendable ms → length (records id ms) ≤ length ms * recordLimit
 unfolding records AllSendable
 records-short id [] p = zero-le
 records-short id (m ∷ ms) p = omega (arith, length-append (recordOf id m) (records (nextId id) ms), record-short id m (p .0), records-short (nextId id) ms (p .1))
 
 -- ---- the messages of a route order
 
-let-go-one : (i : ℕ) (c : Card) → length (letGo i c .sent) ≤ 1
+pub let-go-one : (i : ℕ) (c : Card) → length (letGo i c .sent) ≤ 1
 unfolding letGo still giveUp
 let-go-one i c = picked (λ (m : Moved). length (m .sent) ≤ 1) (eqb (treeAt i c .label) 0) (λ _. omega arith) (λ _. omega arith)
 
-take-up-one : (i u : ℕ) (c : Card) → length (takeUp i u c .sent) ≤ 1
+pub take-up-one : (i u : ℕ) (c : Card) → length (takeUp i u c .sent) ≤ 1
 unfolding takeUp still give
 take-up-one i u c = picked (λ (m : Moved). length (m .sent) ≤ 1) (eqb u nobody) (λ _. omega arith) (λ _. omega arith)
 

@@ -1,0 +1,12 @@
+pub mod Stream
+pub mod StreamLaws
+pub mod Session
+pub mod Kept
+pub mod Cuts
+pub mod Ends
+pub mod Pack
+pub mod PackLaws
+pub mod PackRecords
+pub mod PackCuts
+pub mod Calls
+pub mod Lent
