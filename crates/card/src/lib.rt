@@ -13,9 +13,10 @@ ghost use Rattle.memory.specs.Sizes.{Numbers, Names};
 ghost use Rattle.memory.specs.Memory.{cardOf};
 ghost use Rattle.card.specs.Calls.{onRead};
 ghost use Rattle.card_lookups.specs.Feed.{feedIn};
-use memory::NUMBER_COUNT;
-use memory::OCTET_COUNT;
 use wire_reader::Read;
+// The lengths of the card's two arrays, and in specs/Table the card that they denote, are handed on: whoever is above needs no more of the memory.
+pub use memory::NUMBER_COUNT;
+pub use memory::OCTET_COUNT;
 
 // ---- start
 

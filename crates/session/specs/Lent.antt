@@ -13,6 +13,9 @@ use Rattle.session.specs.Session.{streamRoom}
 use Rattle.session.specs.Stream.{bodyLimit, Stream, stopped, reading, limit}
 use Rattle.session.specs.Kept.{Fits, limit-most}
 
+abbrev pub streamNumbers : ℕ
+streamNumbers = 4
+
 -- 0: reading; any other number: stopped
 abbrev pub markIn : List ℕ → ℕ
 markIn ns = getD ns 0 0

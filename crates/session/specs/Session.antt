@@ -69,10 +69,10 @@ calledBy (suc k) step id n c s offered = record { answer = suc k; eaten = 0; mes
 unfoldable pub called : Label → List ℕ → ℕ → ℕ → ℕ → Card → Stream → List ℕ → Called
 called step id n room lent c s offered = calledBy (callRefusal n room lent) step id n c s offered
 
--- the neighbour was lost: the order's answer, and the stream after it
-unfoldable pub lost : ℕ → Stream → Stream
-lost zero s = empty
-lost (suc k) s = s
+-- the neighbour was lost: by the order's answer, the stream after it
+unfoldable pub afterLoss : ℕ → Stream → Stream
+afterLoss zero s = empty
+afterLoss (suc k) s = s
 
 -- ---- calls one after the other
 

@@ -15,3 +15,5 @@ pub const BODY_LIMIT: usize = MOST_LENGTH - IDENTIFIER_SIZE;
 pub const MESSAGE_ROOM: usize = 2 * RECORD_LIMIT;
 
 pub const STREAM_ROOM: usize = 4 + MOST_LENGTH;
+
+pub const STREAM_NUMBERS: usize = 4;

@@ -1,0 +1,27 @@
+-- `session_serve::serve` meets its contract. Assumes nothing.
+use mathlib.Core.Path.{refl}
+use Rattle.session_serve.proofs.Serving.{handed-over, handed-over-count}
+use borrow.Author.Needs.{needs}
+use Rattle.session_serve.proofs.serve.Statement.{statement}
+use Rattle.session_serve.proofs.serve.Tie as tie
+
+serve-core-requires : tie.Need-serve-core-requires
+serve-core-requires c κs = search needs
+
+slice-aggregate-result : tie.Need-slice-aggregate-result
+slice-aggregate-result c = handed-over-count _ _ _ _ _ _ _ _ (c .before .before .before .before .before .serve-core .ensures)
+
+same-length : tie.Need-same-length
+same-length c = search needs
+
+returns : tie.Need-returns
+returns c = (handed-over _ _ _ _ _ _ _ _ (c .before .before .before .before .before .serve-core .ensures), refl)
+
+pub serve-spec : {M : Type 1} → statement M
+serve-spec =
+    tie.close
+    (tie.spec
+    serve-core-requires
+    slice-aggregate-result
+    same-length
+    returns)
