@@ -122,7 +122,7 @@ pdus-back id six (g ∷ gs) f =
 
 -- ---- the groups
 
-joined-append : (g h : List (List ℕ)) → joined (g ++ h) ≡ joined g ++ joined h
+pub joined-append : (g h : List (List ℕ)) → joined (g ++ h) ≡ joined g ++ joined h
 unfolding joined
 joined-append [] h = refl
 joined-append (m ∷ g) h = rw (joined-append g h) (sym (append-assoc m (joined g) (joined h)))
@@ -130,7 +130,7 @@ joined-append (m ∷ g) h = rw (joined-append g h) (sym (append-assoc m (joined 
 joined-snoc : (g : List (List ℕ)) (m : List ℕ) → length (joined (g ++ (m ∷ []))) ≡ length (joined g) + length m
 joined-snoc g m = rw (joined-append g (m ∷ [])) (unfold joined in rw (append-nil m) (length-append (joined g) m))
 
-joined-one : (m : List ℕ) → length (joined (m ∷ [])) ≡ length m
+pub joined-one : (m : List ℕ) → length (joined (m ∷ [])) ≡ length m
 unfolding joined
 joined-one m = rw (append-nil m) refl
 
