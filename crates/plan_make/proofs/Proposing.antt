@@ -25,7 +25,7 @@ use Rattle.save_rules_rows.proofs.RowRules.{At}
 use Rattle.meaning_plan.specs.Plan.{Move, Allowed, goesBy, needList, noChoice, choice, isBefore, insert, asMove, through, chosen, proposal, isFound, none, listed, planned}
 use Rattle.meaning_plan.specs.PlanOctets.{allowedIn, entrySize, entryOf, listOf, listIn, plannedOctets, Carriable, AllCarriable, list-back}
 use Rattle.plan_make.specs.declared.Planned.{Planned}
-use Rattle.plan_make.specs.Plan.{planOf, listMade}
+use Rattle.plan_make.specs.Plan.{planOf, listMade, Readable}
 use Rattle.plan_make.specs.Rows.{Holds}
 
 -- ---- one row
@@ -116,9 +116,9 @@ module _ (c : Card) (n : ℕ) (sets : List ℕ) where
   abbrev ms : List Move
   ms = proposal c n (allowedIn sets)
 
-  pub plan-far : 15 < n → (list : List ℕ) → (Planned.Refused 1 ≡ planOf (plannedOctets c n sets)) × (list ≡ over (listMade (plannedOctets c n sets)) list)
-  unfolding plannedOctets planned noNeighbour planOf listMade over
-  plan-far h list = rw (lt-ltb 15 n h) (refl, refl)
+  pub plan-far : 15 < n → (list : List ℕ) → (Planned.Refused 1 ≡ planOf (plannedOctets c n sets)) × (list ≡ over (listMade (plannedOctets c n sets)) list) × Readable (plannedOctets c n sets)
+  unfolding plannedOctets planned noNeighbour planOf listMade over Readable
+  plan-far h list = rw (lt-ltb 15 n h) (refl, refl, tt)
 
   module _ (near : n ≤ 15) (xs : List ℕ) (k : ℕ) (H : Holds xs k ms) where
     part : take (k * entrySize - 0) (drop 0 xs) ≡ listOf ms
@@ -139,10 +139,10 @@ module _ (c : Card) (n : ℕ) (sets : List ℕ) where
       unfolding plannedOctets planned noNeighbour
       is-none h = rw (le-ltb 15 n near, ← test, h) refl
 
-      pub plan-listed : b ≡ true → (list out : List ℕ) → out ≡ over (take (k * entrySize - 0) (drop 0 xs)) list → (Planned.Listed k ≡ planOf (plannedOctets c n sets)) × (out ≡ over (listMade (plannedOctets c n sets)) list)
-      unfolding planOf listMade
-      plan-listed h list out e = rw (is-listed h) (ap Planned.Listed (sym (H .many)), e ∙ ap (λ (o : List ℕ). over o list) part)
+      pub plan-listed : b ≡ true → (list out : List ℕ) → out ≡ over (take (k * entrySize - 0) (drop 0 xs)) list → (Planned.Listed k ≡ planOf (plannedOctets c n sets)) × (out ≡ over (listMade (plannedOctets c n sets)) list) × Readable (plannedOctets c n sets)
+      unfolding planOf listMade Readable
+      plan-listed h list out e = rw (is-listed h) (ap Planned.Listed (sym (H .many)), e ∙ ap (λ (o : List ℕ). over o list) part, H .short)
 
-      pub plan-none : b ≡ false → (list : List ℕ) → (Planned.None ≡ planOf (plannedOctets c n sets)) × (list ≡ over (listMade (plannedOctets c n sets)) list)
-      unfolding planOf listMade over
-      plan-none h list = rw (is-none h) (refl, refl)
+      pub plan-none : b ≡ false → (list : List ℕ) → (Planned.None ≡ planOf (plannedOctets c n sets)) × (list ≡ over (listMade (plannedOctets c n sets)) list) × Readable (plannedOctets c n sets)
+      unfolding planOf listMade over Readable
+      plan-none h list = rw (is-none h) (refl, refl, tt)

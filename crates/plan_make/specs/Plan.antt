@@ -3,7 +3,7 @@ use Prim.Native.Nat.{ℕ}
 use mathlib.Core.List.{List, []}
 use lib.ListN.{length}
 use Rattle.meaning_plan.specs.Plan as Plan
-use Rattle.meaning_plan.specs.PlanOctets.{listOf}
+use Rattle.meaning_plan.specs.PlanOctets.{listOf, AllCarriable}
 use Rattle.plan_make.specs.declared.Planned as Made
 
 -- this paper's number of a refusal; that there is no list; how many entries it has
@@ -22,3 +22,9 @@ unfoldable pub entriesOf : Made.Planned → ℕ
 entriesOf (Made.Planned.Refused number) = 0
 entriesOf Made.Planned.None = 0
 entriesOf (Made.Planned.Listed k) = k
+
+-- the octets of what is listed are read back as it
+unfoldable pub Readable : Plan.Plan → Type 0
+Readable (Plan.refused number) = Unit {0}
+Readable Plan.none = Unit {0}
+Readable (Plan.listed ms) = AllCarriable ms

@@ -14,7 +14,7 @@ ghost use Rattle.memory.specs.Sizes.{Numbers, Names};
 ghost use Rattle.memory.specs.Memory.{cardOf};
 ghost use Rattle.meaning_plan.specs.Plan.{Move, mayHave, noChoice, choice, isBelow, isBefore, insert, needList, proposal, isFound};
 ghost use Rattle.meaning_plan.specs.PlanOctets.{allowedIn, entrySize, entryOf, entriesIn, listIn, listLimit, plannedOctets};
-ghost use Rattle.plan_make.specs.Plan.{planOf, listMade, entriesOf};
+ghost use Rattle.plan_make.specs.Plan.{planOf, listMade, entriesOf, Readable};
 ghost use Rattle.plan_make.specs.Rows.{isAfter, Holds, Opened};
 use meaning::NEIGHBOUR_COUNT;
 use meaning::ROOT_LIMIT;
@@ -219,7 +219,7 @@ pub fn plan(
 ) -> Planned
     ensures { λ r. ⌜ (let p = plannedOctets (cardOf (now (numbers .entry)) (now (names .entry))) n (now (sets .entry)) in
         (r ≡ planOf p) × (now (list .exit) ≡ over (listMade p) (now (list .entry)))) ⌝ }
-    ensures { λ r. ⌜ entriesOf r ≤ routeLimit ⌝ }
+    ensures { λ r. ⌜ (entriesOf r ≤ routeLimit) × Readable (plannedOctets (cardOf (now (numbers .entry)) (now (names .entry))) n (now (sets .entry))) ⌝ }
 {
     if 15 < n {
         return Planned::Refused(1);

@@ -7,7 +7,9 @@ use Rattle.plan_make.proofs.plan.Tie as tie
 
 returns : tie.Need-returns
 unfolding entriesOf
-returns c = (plan-far _ _ _ (c .if1 .taken) _, omega arith)
+returns c =
+    let l = plan-far _ _ _ (c .if1 .taken) _ in
+    ((l .0, l .1), (omega arith, l .2))
 
 slice-aggregate-propose : tie.Need-slice-aggregate-propose
 slice-aggregate-propose c = search needs
@@ -44,11 +46,15 @@ put-front-requires c κs = search needs
 
 returns-2 : tie.Need-returns-2
 unfolding entriesOf
-returns-2 c = (plan-listed _ _ _ (c .before .before .before .before .before .before .before .before .before .before .before .before .before .before .before .if1 .left) _ _ (c .before .before .before .before .before .before .before .before .before .before .before .propose .ensures .2) _ (c .before .before .before .before .before .is-plan .ensures) (c .before .before .before .before .if2 .taken) _ _ (c .put-front .ensures), c .before .before .before .before .before .before .before .before .before .before .before .propose .ensures .1)
+returns-2 c =
+    let l = plan-listed _ _ _ (c .before .before .before .before .before .before .before .before .before .before .before .before .before .before .before .if1 .left) _ _ (c .before .before .before .before .before .before .before .before .before .before .before .propose .ensures .2) _ (c .before .before .before .before .before .is-plan .ensures) (c .before .before .before .before .if2 .taken) _ _ (c .put-front .ensures) in
+    ((l .0, l .1), (c .before .before .before .before .before .before .before .before .before .before .before .propose .ensures .1, l .2))
 
 returns-3 : tie.Need-returns-3
 unfolding entriesOf
-returns-3 c = (plan-none _ _ _ (c .before .before .before .before .before .before .before .before .before .before .before .if1 .left) _ _ (c .before .before .before .before .before .before .before .propose .ensures .2) _ (c .before .is-plan .ensures) (c .if2 .left) _, omega arith)
+returns-3 c =
+    let l = plan-none _ _ _ (c .before .before .before .before .before .before .before .before .before .before .before .if1 .left) _ _ (c .before .before .before .before .before .before .before .propose .ensures .2) _ (c .before .is-plan .ensures) (c .if2 .left) _ in
+    ((l .0, l .1), (omega arith, l .2))
 
 pub plan-spec : {M : Type 1} → statement M
 plan-spec = tie.close (tie.spec returns slice-aggregate-propose propose-requires mul-e sub-is-plan part-is-plan-start part-is-plan-end is-plan-requires sub-put-front part-put-front-start part-put-front-end put-front-requires returns-2 returns-3)
