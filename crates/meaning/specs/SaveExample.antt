@@ -12,7 +12,7 @@ use Rattle.meaning.specs.Card.{Card, free, mapped, fresh, withLabels, wi
 use Rattle.meaning.specs.Events.{Out, Event, join, leave, route, event, start}
 use Rattle.meaning.specs.Computing.{computing}
 use Rattle.meaning.specs.Examples.{enough, A, wide, heard}
-use Rattle.meaning.specs.Save.{old, padded, spaced, nameSaved, marked, lastSaved, headSaved, routeSaved, foursOf, treeSaved, useSaved, routesSaved, treesSaved, usesSaved, saved, isShort, isShortTree, isShortUse, fitsSave, save, spacedIn, nameIn, routeRead, foursIn, treeRead, useRead, routesRead, treesRead, usesRead, isMappedFor, labelled, allLabelled, allWorkedOut, tableIn, isName, onceEach, isRoute, sameRoot, isBranchLabel, isTree, sameName, isUse, isCarried, allCarried, carriesOwn, holdsRight, isCounted, countsRight, keepsRows, keepsRules, isSave, restore, highestUsed, settled, carriedBy, lastIn, treeEnd, treesEnd, useEnd, lastRight, ruled, Moved, notMoved, move, newer, older}
+use Rattle.meaning.specs.Save.{old, new, padded, spaced, nameSaved, marked, lastSaved, headSaved, routeSaved, foursOf, treeSaved, useSaved, routesSaved, treesSaved, usesSaved, saved, isShort, isShortTree, isShortUse, fitsSave, save, spacedIn, nameIn, routeRead, foursIn, treeRead, useRead, routesRead, treesRead, usesRead, isMappedFor, labelled, allLabelled, allWorkedOut, tableIn, isName, onceEach, isRoute, sameRoot, isBranchLabel, isTree, sameName, isUse, isCarried, allCarried, carriesOwn, holdsRight, isCounted, countsRight, keepsRows, keepsRules, isSave, restore, highestUsed, settled, carriedBy, lastIn, treeEnd, treesEnd, useEnd, lastRight, ruled, Moved, notMoved, move, newer, older}
 
 -- as `computing`, for the definitions of saves
 unfoldable pub computingSaves : ℕ
@@ -150,18 +150,6 @@ example-restored = refl
 unfoldable pub agrees : Out → ℕ → List ℕ → List ℕ → Bool
 agrees o answer octets table = eqb (o .answer) answer && same (o .octets) octets && same (saved old (o .card)) table
 
-unfoldable pub savesRight : Bool
-savesRight =
-    agrees (save old 389 swapped) 16 [] example && agrees (save old 390 swapped) 0 example example
-    -- the last label given is not carried: reading takes the highest in use for it, or none where none is
-    && same (saved old (withLast 200 swapped)) example && eqb (restore old example (fresh 99) .card .last) 17
-    && eqb (restore old (saved old (withLast 200 (fresh 16))) (fresh 99) .card .last) 0
-    && agrees (save old 14 (fresh 16)) 16 [] (saved old (fresh 16)) && agrees (save old 15 (fresh 16)) 0 (saved old (fresh 16)) (saved old (fresh 16))
-
-pub room-shown : savesRight ≡ true
-unfolding computingSaves computing agrees savesRight B after swapped headOf routeA treeA treeB label16 label17 example A heard
-room-shown = refl
-
 -- ---- values of 32 octets, which have their space, and longer ones
 
 -- a name of B's root with a value of n octets, as `wide` is one of A's
@@ -183,6 +171,22 @@ inAwaiting n = after (inBoth n) (leave (wide n) ∷ [])
 -- in a mapped label alone, as no history leaves it
 unfoldable pub inMapped : ℕ → Card
 inMapped n = withLabels (mapped 0 (wideB n) ∷ replicate 255 free) (fresh 16)
+
+unfoldable pub savesRight : Bool
+savesRight =
+    agrees (save old 389 swapped) 16 [] example && agrees (save old 390 swapped) 0 example example
+    -- the last label given is not carried: reading takes the highest in use for it, or none where none is
+    && same (saved old (withLast 200 swapped)) example && eqb (restore old example (fresh 99) .card .last) 17
+    && eqb (restore old (saved old (withLast 200 (fresh 16))) (fresh 99) .card .last) 0
+    -- and the new form carries it; a value that is longer than the old form's space is not moved back
+    && eqb (restore new (saved new (withLast 200 swapped)) (fresh 99) .card .last) 200 && eqb (older 23343 (saved new (inBoth 33)) .answer) 19
+    -- what is no save of the form is refused 19, and the table stays
+    && agrees (restore old [] swapped) 19 [] example && agrees (restore old (saved new swapped) swapped) 19 [] example && agrees (restore new example swapped) 19 [] example
+    && agrees (save old 14 (fresh 16)) 16 [] (saved old (fresh 16)) && agrees (save old 15 (fresh 16)) 0 (saved old (fresh 16)) (saved old (fresh 16))
+
+pub room-shown : savesRight ≡ true
+unfolding computingSaves computing agrees savesRight inBoth wide B after swapped headOf routeA treeA treeB label16 label17 example A heard
+room-shown = refl
 
 -- the answers in so much room
 unfoldable pub answersIn : List ℕ → Card → List ℕ
