@@ -1,10 +1,9 @@
 // What a line is answered with: the order that it is, obeyed, and the line that tells of it, at the front of a lent text.
 ghost use mathlib.Core.Path.{_≡_};
 ghost use mathlib.Core.List.{List};
-ghost use Prim.Native.Nat.{ℕ, _≤_, _*_};
+ghost use Prim.Native.Nat.{ℕ, _≤_};
 ghost use lib.ListN.{length};
 ghost use Rattle.meaning.specs.Card.{Card};
-ghost use Rattle.meaning.specs.Save.{saveLimit};
 ghost use Rattle.bench_lines.specs.Text.{textSpace};
 ghost use Rattle.memory.specs.Memory.{cardOf};
 ghost use Rattle.bench_words.specs.Words.{octetsOf};
@@ -12,7 +11,6 @@ ghost use Rattle.bench_verbs.specs.Line.{Said, orderOf};
 ghost use Rattle.bench_orders.specs.Tells.{meant, InLine};
 ghost use Rattle.bench_replies.specs.Reply.{replyTo, Says, Answers};
 use bench_orders::Order;
-use meaning::SAVE_LIMIT;
 use memory::NUMBER_COUNT;
 use memory::OCTET_COUNT;
 
@@ -47,63 +45,6 @@ fn on_tree(
     bench_lines::put_feed(text, b"tree", leaf, &branches)
 }
 
-// ---- saves
-
-// The longest save: 32 routes, 64 trees and 256 labels behind the head.
-fn longest_save() -> [u8; SAVE_LIMIT]
-    ensures { λ r. ⌜ saveLimit ≡ length r ⌝ }
-{
-    [0; SAVE_LIMIT]
-}
-
-// The table as octets, for a card swap.
-fn on_save(
-    numbers: &[u64; NUMBER_COUNT],
-    names: &[u8; OCTET_COUNT],
-    room: u32,
-    text: &mut [u8],
-) -> usize
-    requires { ⌜ textSpace ≤ length (now text) ⌝ }
-    ensures { λ r. ⌜ (let c = cardOf (now (numbers .entry)) (now (names .entry)) in
-        ((number : ℕ) → Says (replyTo number room c Said.save) r (now (text .exit)) c)) ⌝ }
-{
-    let mut out = longest_save();
-    let mut answer: u32 = 0;
-    let octets = save_writer::save(
-        numbers,
-        names,
-        bench_replies::lent(&mut out, room),
-        &mut answer,
-    );
-    bench_lines::put_event(text, b"save", answer, octets)
-}
-
-fn on_restore(
-    numbers: &mut [u64; NUMBER_COUNT],
-    names: &mut [u8; OCTET_COUNT],
-    hex: &[u8],
-    text: &mut [u8],
-) -> usize
-    requires { ⌜ (length (now hex) ≤ 2 * saveLimit) × (textSpace ≤ length (now text)) ⌝ }
-    ensures { λ r. ⌜ ((number room : ℕ) → Says (replyTo number room (cardOf (now (numbers .entry)) (now (names .entry))) (Said.restore (octetsOf (now (hex .entry)))))
-        r (now (text .exit)) (cardOf (now (numbers .exit)) (now (names .exit)))) ⌝ }
-{
-    let mut octets = longest_save();
-    let n = bench_words::decode_hex(hex, &mut octets);
-    let mut spare_numbers = [0u64; NUMBER_COUNT];
-    let mut spare_names = [0u8; OCTET_COUNT];
-    let mut spare_save = [0u8; SAVE_LIMIT];
-    let answer = save_reader::restore(
-        numbers,
-        names,
-        &octets[..n],
-        &mut spare_numbers,
-        &mut spare_names,
-        &mut spare_save,
-    );
-    bench_lines::put_count(text, b"restore", answer as u64)
-}
-
 // ---- any order
 
 // Does what is ordered.
@@ -132,8 +73,13 @@ fn obey(
         Order::Label(label) => on_label(numbers, label, text),
         Order::Tree { start, end } => on_tree(numbers, names, &line[start..end], text),
         Order::Free => bench_lines::put_count(text, b"free", card::free_labels(numbers) as u64),
-        Order::Save => on_save(numbers, names, room, text),
-        Order::Restore { start, end } => on_restore(numbers, names, &line[start..end], text),
+        Order::Save(second) => bench_saves::on_save(numbers, names, second, room, text),
+        Order::Restore { second, start, end } => {
+            bench_saves::on_restore(numbers, names, second, &line[start..end], text)
+        }
+        Order::Move { second, start, end } => {
+            bench_saves::on_move(second, &line[start..end], room, text)
+        }
         _ => bench_replies::on_event(numbers, names, line, order, room, text),
     }
 }

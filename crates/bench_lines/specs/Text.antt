@@ -6,12 +6,12 @@ use mathlib.Core.List.{List, [], _∷_, _++_}
 use lib.ListN.{length, take}
 use Rattle.meaning.specs.Octets.{pick}
 use Rattle.meaning.specs.Card.{Branch, Feed}
-use Rattle.meaning.specs.Save.{saveLimit}
+use Rattle.meaning.specs.Save.{new, saveLimit}
 use Rattle.bench_words.specs.Words.{ascii, numeral, hexOf}
 
 -- the space of a line's text: the digits of the longest save, and what stands around them
 abbrev pub textSpace : ℕ
-textSpace = 2 * saveLimit + 418
+textSpace = 2 * saveLimit new + 418
 
 -- `WORD N`
 unfoldable pub countLine : List ℕ → ℕ → List ℕ

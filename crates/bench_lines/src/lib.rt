@@ -4,7 +4,7 @@ ghost use mathlib.Core.Path.{_≡_};
 ghost use mathlib.Core.List.{[], _∷_};
 ghost use lib.ListN.{length, take};
 ghost use Rattle.meaning.specs.Card.{branchesFrom};
-ghost use Rattle.meaning.specs.Save.{saveLimit};
+ghost use Rattle.meaning.specs.Save.{new, saveLimit};
 ghost use Rattle.bench_words.specs.Words.{numeral, hexOf};
 ghost use Rattle.card_lookups.specs.Feed.{feedIn};
 ghost use Rattle.bench_lines.specs.Text.{countLine, recordsText, eventLine, branchesText, leafText, feedLine, Adds, textSpace};
@@ -114,7 +114,7 @@ pub fn put_count(text: &mut [u8], word: &[u8], n: u64) -> usize
 
 // `WORD ANSWER`, and the records' octets where there are any. A save is the longest that is written so.
 pub fn put_event(text: &mut [u8], word: &[u8], answer: u32, records: &[u8]) -> usize
-    requires { ⌜ (length (now word) ≤ 8) × (length (now records) ≤ saveLimit) × (textSpace ≤ length (now text)) ⌝ }
+    requires { ⌜ (length (now word) ≤ 8) × (length (now records) ≤ saveLimit new) × (textSpace ≤ length (now text)) ⌝ }
     ensures { λ r. ⌜ take r (now (text .exit)) ≡ eventLine (now (word .entry)) answer (now (records .entry)) ⌝ }
     ensures { λ r. ⌜ r ≤ textSpace ⌝ }
 {

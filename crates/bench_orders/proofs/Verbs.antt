@@ -9,7 +9,7 @@ use lib.Seq.{length-take-le}
 use denote.Enum.Declared.{tagOf}
 use types.Run.{OneOf, miss}
 use Rattle.meaning.specs.Octets.{pick}
-use Rattle.meaning.specs.Save.{saveLimit}
+use Rattle.meaning.specs.Save.{Form, old, new, formOf, saveLimit}
 use Rattle.bench_words.specs.Words.{part, isHexTo, isHex, isNumber, octetsOf}
 use Rattle.bench_verbs.specs.Line.{isSaveHex, Said, withNumber, withHex, withSave, withNumberHex, withHexNumber, withNumbersHex, does}
 use Rattle.bench_orders.specs.Tells.{meant, Lies, SaveLies, Tells}
@@ -69,16 +69,26 @@ pub lies : (l : List ℕ) (s e : ℕ) (b : Bool) → s ≤ e → e ≤ length l 
 unfolding isHex
 lies l s e b h k p q = let n = length-take-le (e - s) (drop s l) (simp length-drop (omega arith)) in let m = hex-short 8192 (part s e l) (omega arith) (sym p ∙ q) in (h, k, omega arith)
 
-pub save-lies : (l : List ℕ) (s e : ℕ) (b : Bool) → s ≤ e → e ≤ length l → b ≡ isHexTo (2 * saveLimit) (part s e l) → b ≡ true → SaveLies l s e
-save-lies l s e b h k p q = let n = length-take-le (e - s) (drop s l) (simp length-drop (omega arith)) in let m = hex-short (2 * saveLimit) (part s e l) (omega arith) (sym p ∙ q) in (h, k, omega arith)
+pub save-lies : (f : Form) (l : List ℕ) (s e : ℕ) (b : Bool) → s ≤ e → e ≤ length l → b ≡ isSaveHex f (part s e l) → b ≡ true → SaveLies f l s e
+unfolding isSaveHex
+save-lies old l s e b h k p q = let n = length-take-le (e - s) (drop s l) (simp length-drop (omega arith)) in let m = hex-short (2 * saveLimit old) (part s e l) (omega arith) (sym p ∙ q) in (h, k, omega arith)
+save-lies new l s e b h k p q = let n = length-take-le (e - s) (drop s l) (simp length-drop (omega arith)) in let m = hex-short (2 * saveLimit new) (part s e l) (omega arith) (sym p ∙ q) in (h, k, omega arith)
 
-pub one-save : (w : List ℕ) (b : Bool) → b ≡ isHexTo (2 * saveLimit) w → b ≡ true → Said.restore (octetsOf w) ≡ withSave (w ∷ [])
-unfolding withSave isSaveHex
-one-save w b e g = rw (sym e ∙ g)
+pub one-save : (g : Form → List ℕ → Said) (f : Form) (w : List ℕ) (b : Bool) → b ≡ isSaveHex f w → b ≡ true → g f (octetsOf w) ≡ withSave g f (w ∷ [])
+unfolding withSave
+one-save g f w b e h = rw (sym e ∙ h)
 
-pub no-save : (w : List ℕ) (b : Bool) → b ≡ isHexTo (2 * saveLimit) w → b ≡ false → withSave (w ∷ []) ≡ Said.bad
-unfolding withSave isSaveHex
-no-save w b e g = rw (sym e ∙ g)
+pub no-save : (g : Form → List ℕ → Said) (f : Form) (w : List ℕ) (b : Bool) → b ≡ isSaveHex f w → b ≡ false → withSave g f (w ∷ []) ≡ Said.bad
+unfolding withSave
+no-save g f w b e h = rw (sym e ∙ h)
+
+pub hex-new : (s : Bool) (w : List ℕ) (b : Bool) → s ≡ true → b ≡ isHexTo (2 * saveLimit new) w → b ≡ isSaveHex (formOf s) w
+unfolding formOf isSaveHex
+hex-new s w b e h = rw e h
+
+pub hex-old : (s : Bool) (w : List ℕ) (b : Bool) → s ≡ false → b ≡ isHexTo (2 * saveLimit old) w → b ≡ isSaveHex (formOf s) w
+unfolding formOf isSaveHex
+hex-old s w b e h = rw e h
 
 -- ---- the other verbs
 
@@ -86,7 +96,7 @@ pub tells-bad : (l : List ℕ) (s : Said) → s ≡ Said.bad → Tells l s Order
 unfolding meant
 tells-bad l s e = record { means = rw e; lies = tt }
 
-pub none-bad : (l : List ℕ) (v : Verb) → OneOf (0 ∷ 1 ∷ 2 ∷ 3 ∷ 4 ∷ 5 ∷ 6 ∷ 7 ∷ 9 ∷ 11 ∷ 12 ∷ 13 ∷ []) (tagOf the-type v) → Tells l (does v []) Order.Bad
+pub none-bad : (l : List ℕ) (v : Verb) → OneOf (0 ∷ 1 ∷ 2 ∷ 3 ∷ 4 ∷ 5 ∷ 6 ∷ 7 ∷ 9 ∷ 11 ∷ 12 ∷ 13 ∷ 14 ∷ []) (tagOf the-type v) → Tells l (does v []) Order.Bad
 unfolding does withNumber withHex withSave withNumberHex withHexNumber withNumbersHex
 none-bad l Verb.Start h = tells-bad l _ refl
 none-bad l Verb.Room h = tells-bad l _ refl
@@ -96,11 +106,12 @@ none-bad l Verb.Leave h = tells-bad l _ refl
 none-bad l Verb.Route h = tells-bad l _ refl
 none-bad l Verb.Label h = tells-bad l _ refl
 none-bad l Verb.Tree h = tells-bad l _ refl
-none-bad l Verb.Free h = absurd (miss (0 ∷ 1 ∷ 2 ∷ 3 ∷ 4 ∷ 5 ∷ 6 ∷ 7 ∷ 9 ∷ 11 ∷ 12 ∷ 13 ∷ []) 8 tt h)
+none-bad l Verb.Free h = absurd (miss (0 ∷ 1 ∷ 2 ∷ 3 ∷ 4 ∷ 5 ∷ 6 ∷ 7 ∷ 9 ∷ 11 ∷ 12 ∷ 13 ∷ 14 ∷ []) 8 tt h)
 none-bad l Verb.Notice h = tells-bad l _ refl
-none-bad l Verb.Save h = absurd (miss (0 ∷ 1 ∷ 2 ∷ 3 ∷ 4 ∷ 5 ∷ 6 ∷ 7 ∷ 9 ∷ 11 ∷ 12 ∷ 13 ∷ []) 10 tt h)
-none-bad l Verb.Restore h = tells-bad l _ refl
+none-bad l (Verb.Save b) h = absurd (miss (0 ∷ 1 ∷ 2 ∷ 3 ∷ 4 ∷ 5 ∷ 6 ∷ 7 ∷ 9 ∷ 11 ∷ 12 ∷ 13 ∷ 14 ∷ []) 10 tt h)
+none-bad l (Verb.Restore b) h = tells-bad l _ refl
 none-bad l Verb.Lost h = tells-bad l _ refl
+none-bad l (Verb.Move b) h = tells-bad l _ refl
 none-bad l Verb.Other h = tells-bad l _ refl
 
 either : (b : Bool) (s : Said) → s ≡ Said.bad → pick b s Said.bad ≡ Said.bad
@@ -125,38 +136,40 @@ pub no-as-hex : (v : Verb) (w : List ℕ) (b : Bool) → b ≡ isHex w → b ≡
 unfolding asHex
 no-as-hex v w b e g = rw (sym e ∙ g)
 
-pub numbered-other : (v : Verb) (n : ℕ) → OneOf (2 ∷ 3 ∷ 4 ∷ 5 ∷ 7 ∷ 8 ∷ 9 ∷ 10 ∷ 11 ∷ 13 ∷ []) (tagOf the-type v) → numbered v n ≡ Said.bad
+pub numbered-other : (v : Verb) (n : ℕ) → OneOf (2 ∷ 3 ∷ 4 ∷ 5 ∷ 7 ∷ 8 ∷ 9 ∷ 10 ∷ 11 ∷ 13 ∷ 14 ∷ []) (tagOf the-type v) → numbered v n ≡ Said.bad
 unfolding numbered
-numbered-other Verb.Start n h = absurd (miss (2 ∷ 3 ∷ 4 ∷ 5 ∷ 7 ∷ 8 ∷ 9 ∷ 10 ∷ 11 ∷ 13 ∷ []) 0 tt h)
-numbered-other Verb.Room n h = absurd (miss (2 ∷ 3 ∷ 4 ∷ 5 ∷ 7 ∷ 8 ∷ 9 ∷ 10 ∷ 11 ∷ 13 ∷ []) 1 tt h)
+numbered-other Verb.Start n h = absurd (miss (2 ∷ 3 ∷ 4 ∷ 5 ∷ 7 ∷ 8 ∷ 9 ∷ 10 ∷ 11 ∷ 13 ∷ 14 ∷ []) 0 tt h)
+numbered-other Verb.Room n h = absurd (miss (2 ∷ 3 ∷ 4 ∷ 5 ∷ 7 ∷ 8 ∷ 9 ∷ 10 ∷ 11 ∷ 13 ∷ 14 ∷ []) 1 tt h)
 numbered-other Verb.Take n h = refl
 numbered-other Verb.Join n h = refl
 numbered-other Verb.Leave n h = refl
 numbered-other Verb.Route n h = refl
-numbered-other Verb.Label n h = absurd (miss (2 ∷ 3 ∷ 4 ∷ 5 ∷ 7 ∷ 8 ∷ 9 ∷ 10 ∷ 11 ∷ 13 ∷ []) 6 tt h)
+numbered-other Verb.Label n h = absurd (miss (2 ∷ 3 ∷ 4 ∷ 5 ∷ 7 ∷ 8 ∷ 9 ∷ 10 ∷ 11 ∷ 13 ∷ 14 ∷ []) 6 tt h)
 numbered-other Verb.Tree n h = refl
 numbered-other Verb.Free n h = refl
 numbered-other Verb.Notice n h = refl
-numbered-other Verb.Save n h = refl
-numbered-other Verb.Restore n h = refl
-numbered-other Verb.Lost n h = absurd (miss (2 ∷ 3 ∷ 4 ∷ 5 ∷ 7 ∷ 8 ∷ 9 ∷ 10 ∷ 11 ∷ 13 ∷ []) 12 tt h)
+numbered-other (Verb.Save b) n h = refl
+numbered-other (Verb.Restore b) n h = refl
+numbered-other Verb.Lost n h = absurd (miss (2 ∷ 3 ∷ 4 ∷ 5 ∷ 7 ∷ 8 ∷ 9 ∷ 10 ∷ 11 ∷ 13 ∷ 14 ∷ []) 12 tt h)
+numbered-other (Verb.Move b) n h = refl
 numbered-other Verb.Other n h = refl
 
-pub octets-other : (v : Verb) (o : List ℕ) → OneOf (0 ∷ 1 ∷ 2 ∷ 5 ∷ 6 ∷ 8 ∷ 9 ∷ 10 ∷ 11 ∷ 12 ∷ 13 ∷ []) (tagOf the-type v) → withOctets v o ≡ Said.bad
+pub octets-other : (v : Verb) (o : List ℕ) → OneOf (0 ∷ 1 ∷ 2 ∷ 5 ∷ 6 ∷ 8 ∷ 9 ∷ 10 ∷ 11 ∷ 12 ∷ 13 ∷ 14 ∷ []) (tagOf the-type v) → withOctets v o ≡ Said.bad
 unfolding withOctets
 octets-other Verb.Start o h = refl
 octets-other Verb.Room o h = refl
 octets-other Verb.Take o h = refl
-octets-other Verb.Join o h = absurd (miss (0 ∷ 1 ∷ 2 ∷ 5 ∷ 6 ∷ 8 ∷ 9 ∷ 10 ∷ 11 ∷ 12 ∷ 13 ∷ []) 3 tt h)
-octets-other Verb.Leave o h = absurd (miss (0 ∷ 1 ∷ 2 ∷ 5 ∷ 6 ∷ 8 ∷ 9 ∷ 10 ∷ 11 ∷ 12 ∷ 13 ∷ []) 4 tt h)
+octets-other Verb.Join o h = absurd (miss (0 ∷ 1 ∷ 2 ∷ 5 ∷ 6 ∷ 8 ∷ 9 ∷ 10 ∷ 11 ∷ 12 ∷ 13 ∷ 14 ∷ []) 3 tt h)
+octets-other Verb.Leave o h = absurd (miss (0 ∷ 1 ∷ 2 ∷ 5 ∷ 6 ∷ 8 ∷ 9 ∷ 10 ∷ 11 ∷ 12 ∷ 13 ∷ 14 ∷ []) 4 tt h)
 octets-other Verb.Route o h = refl
 octets-other Verb.Label o h = refl
-octets-other Verb.Tree o h = absurd (miss (0 ∷ 1 ∷ 2 ∷ 5 ∷ 6 ∷ 8 ∷ 9 ∷ 10 ∷ 11 ∷ 12 ∷ 13 ∷ []) 7 tt h)
+octets-other Verb.Tree o h = absurd (miss (0 ∷ 1 ∷ 2 ∷ 5 ∷ 6 ∷ 8 ∷ 9 ∷ 10 ∷ 11 ∷ 12 ∷ 13 ∷ 14 ∷ []) 7 tt h)
 octets-other Verb.Free o h = refl
 octets-other Verb.Notice o h = refl
-octets-other Verb.Save o h = refl
-octets-other Verb.Restore o h = refl
+octets-other (Verb.Save b) o h = refl
+octets-other (Verb.Restore b) o h = refl
 octets-other Verb.Lost o h = refl
+octets-other (Verb.Move b) o h = refl
 octets-other Verb.Other o h = refl
 
 pub one-number-does : (v : Verb) (w : List ℕ) → OneOf (0 ∷ 1 ∷ 6 ∷ 12 ∷ []) (tagOf the-type v) → does v (w ∷ []) ≡ asNumber v w
@@ -171,49 +184,52 @@ one-number-does Verb.Label w h = refl
 one-number-does Verb.Tree w h = absurd (miss (0 ∷ 1 ∷ 6 ∷ 12 ∷ []) 7 tt h)
 one-number-does Verb.Free w h = absurd (miss (0 ∷ 1 ∷ 6 ∷ 12 ∷ []) 8 tt h)
 one-number-does Verb.Notice w h = absurd (miss (0 ∷ 1 ∷ 6 ∷ 12 ∷ []) 9 tt h)
-one-number-does Verb.Save w h = absurd (miss (0 ∷ 1 ∷ 6 ∷ 12 ∷ []) 10 tt h)
-one-number-does Verb.Restore w h = absurd (miss (0 ∷ 1 ∷ 6 ∷ 12 ∷ []) 11 tt h)
+one-number-does (Verb.Save b) w h = absurd (miss (0 ∷ 1 ∷ 6 ∷ 12 ∷ []) 10 tt h)
+one-number-does (Verb.Restore b) w h = absurd (miss (0 ∷ 1 ∷ 6 ∷ 12 ∷ []) 11 tt h)
 one-number-does Verb.Lost w h = refl
-one-number-does Verb.Other w h = absurd (miss (0 ∷ 1 ∷ 6 ∷ 12 ∷ []) 13 tt h)
+one-number-does (Verb.Move b) w h = absurd (miss (0 ∷ 1 ∷ 6 ∷ 12 ∷ []) 13 tt h)
+one-number-does Verb.Other w h = absurd (miss (0 ∷ 1 ∷ 6 ∷ 12 ∷ []) 14 tt h)
 
-pub one-hex-does : (v : Verb) (w : List ℕ) → OneOf (2 ∷ 3 ∷ 4 ∷ 5 ∷ 7 ∷ 8 ∷ 9 ∷ 10 ∷ 13 ∷ []) (tagOf the-type v) → does v (w ∷ []) ≡ asHex v w
+pub one-hex-does : (v : Verb) (w : List ℕ) → OneOf (2 ∷ 3 ∷ 4 ∷ 5 ∷ 7 ∷ 8 ∷ 9 ∷ 10 ∷ 14 ∷ []) (tagOf the-type v) → does v (w ∷ []) ≡ asHex v w
 unfolding does withNumber withHex withSave withNumberHex withHexNumber withNumbersHex asHex withOctets
-one-hex-does Verb.Start w h = absurd (miss (2 ∷ 3 ∷ 4 ∷ 5 ∷ 7 ∷ 8 ∷ 9 ∷ 10 ∷ 13 ∷ []) 0 tt h)
-one-hex-does Verb.Room w h = absurd (miss (2 ∷ 3 ∷ 4 ∷ 5 ∷ 7 ∷ 8 ∷ 9 ∷ 10 ∷ 13 ∷ []) 1 tt h)
+one-hex-does Verb.Start w h = absurd (miss (2 ∷ 3 ∷ 4 ∷ 5 ∷ 7 ∷ 8 ∷ 9 ∷ 10 ∷ 14 ∷ []) 0 tt h)
+one-hex-does Verb.Room w h = absurd (miss (2 ∷ 3 ∷ 4 ∷ 5 ∷ 7 ∷ 8 ∷ 9 ∷ 10 ∷ 14 ∷ []) 1 tt h)
 one-hex-does Verb.Take w h = either (isNumber w) Said.bad refl ∙ sym (either (isHex w) Said.bad refl)
 one-hex-does Verb.Join w h = refl
 one-hex-does Verb.Leave w h = refl
 one-hex-does Verb.Route w h = refl
-one-hex-does Verb.Label w h = absurd (miss (2 ∷ 3 ∷ 4 ∷ 5 ∷ 7 ∷ 8 ∷ 9 ∷ 10 ∷ 13 ∷ []) 6 tt h)
+one-hex-does Verb.Label w h = absurd (miss (2 ∷ 3 ∷ 4 ∷ 5 ∷ 7 ∷ 8 ∷ 9 ∷ 10 ∷ 14 ∷ []) 6 tt h)
 one-hex-does Verb.Tree w h = refl
 one-hex-does Verb.Free w h = sym (either (isHex w) Said.bad refl)
 one-hex-does Verb.Notice w h = either (isNumber w) Said.bad refl ∙ sym (either (isHex w) Said.bad refl)
-one-hex-does Verb.Save w h = sym (either (isHex w) Said.bad refl)
-one-hex-does Verb.Restore w h = absurd (miss (2 ∷ 3 ∷ 4 ∷ 5 ∷ 7 ∷ 8 ∷ 9 ∷ 10 ∷ 13 ∷ []) 11 tt h)
-one-hex-does Verb.Lost w h = absurd (miss (2 ∷ 3 ∷ 4 ∷ 5 ∷ 7 ∷ 8 ∷ 9 ∷ 10 ∷ 13 ∷ []) 12 tt h)
+one-hex-does (Verb.Save b) w h = sym (either (isHex w) Said.bad refl)
+one-hex-does (Verb.Restore b) w h = absurd (miss (2 ∷ 3 ∷ 4 ∷ 5 ∷ 7 ∷ 8 ∷ 9 ∷ 10 ∷ 14 ∷ []) 11 tt h)
+one-hex-does Verb.Lost w h = absurd (miss (2 ∷ 3 ∷ 4 ∷ 5 ∷ 7 ∷ 8 ∷ 9 ∷ 10 ∷ 14 ∷ []) 12 tt h)
+one-hex-does (Verb.Move b) w h = absurd (miss (2 ∷ 3 ∷ 4 ∷ 5 ∷ 7 ∷ 8 ∷ 9 ∷ 10 ∷ 14 ∷ []) 13 tt h)
 one-hex-does Verb.Other w h = sym (either (isHex w) Said.bad refl)
 
 -- ---- two further words, and more
 
-pub two-bad : (l : List ℕ) (v : Verb) (w x : List ℕ) → OneOf (0 ∷ 1 ∷ 3 ∷ 4 ∷ 6 ∷ 7 ∷ 8 ∷ 9 ∷ 10 ∷ 11 ∷ 12 ∷ 13 ∷ []) (tagOf the-type v) → Tells l (does v (w ∷ x ∷ [])) Order.Bad
+pub two-bad : (l : List ℕ) (v : Verb) (w x : List ℕ) → OneOf (0 ∷ 1 ∷ 3 ∷ 4 ∷ 6 ∷ 7 ∷ 8 ∷ 9 ∷ 10 ∷ 11 ∷ 12 ∷ 13 ∷ 14 ∷ []) (tagOf the-type v) → Tells l (does v (w ∷ x ∷ [])) Order.Bad
 unfolding does withNumber withHex withSave withNumberHex withHexNumber withNumbersHex
 two-bad l Verb.Start w x h = tells-bad l _ refl
 two-bad l Verb.Room w x h = tells-bad l _ refl
-two-bad l Verb.Take w x h = absurd (miss (0 ∷ 1 ∷ 3 ∷ 4 ∷ 6 ∷ 7 ∷ 8 ∷ 9 ∷ 10 ∷ 11 ∷ 12 ∷ 13 ∷ []) 2 tt h)
+two-bad l Verb.Take w x h = absurd (miss (0 ∷ 1 ∷ 3 ∷ 4 ∷ 6 ∷ 7 ∷ 8 ∷ 9 ∷ 10 ∷ 11 ∷ 12 ∷ 13 ∷ 14 ∷ []) 2 tt h)
 two-bad l Verb.Join w x h = tells-bad l _ refl
 two-bad l Verb.Leave w x h = tells-bad l _ refl
-two-bad l Verb.Route w x h = absurd (miss (0 ∷ 1 ∷ 3 ∷ 4 ∷ 6 ∷ 7 ∷ 8 ∷ 9 ∷ 10 ∷ 11 ∷ 12 ∷ 13 ∷ []) 5 tt h)
+two-bad l Verb.Route w x h = absurd (miss (0 ∷ 1 ∷ 3 ∷ 4 ∷ 6 ∷ 7 ∷ 8 ∷ 9 ∷ 10 ∷ 11 ∷ 12 ∷ 13 ∷ 14 ∷ []) 5 tt h)
 two-bad l Verb.Label w x h = tells-bad l _ refl
 two-bad l Verb.Tree w x h = tells-bad l _ refl
 two-bad l Verb.Free w x h = tells-bad l _ refl
 two-bad l Verb.Notice w x h = tells-bad l _ (either (isNumber w) _ (either (isNumber x) Said.bad refl))
-two-bad l Verb.Save w x h = tells-bad l _ refl
-two-bad l Verb.Restore w x h = tells-bad l _ refl
+two-bad l (Verb.Save b) w x h = tells-bad l _ refl
+two-bad l (Verb.Restore b) w x h = tells-bad l _ refl
 two-bad l Verb.Lost w x h = tells-bad l _ refl
+two-bad l (Verb.Move b) w x h = tells-bad l _ refl
 two-bad l Verb.Other w x h = tells-bad l _ refl
 
 -- three further words, and four or more
-pub three-bad : (l : List ℕ) (v : Verb) (w x y : List ℕ) (ws : List (List ℕ)) → OneOf (0 ∷ 1 ∷ 2 ∷ 3 ∷ 4 ∷ 5 ∷ 6 ∷ 7 ∷ 8 ∷ 10 ∷ 11 ∷ 12 ∷ 13 ∷ []) (tagOf the-type v) → Tells l (does v (w ∷ x ∷ y ∷ ws)) Order.Bad
+pub three-bad : (l : List ℕ) (v : Verb) (w x y : List ℕ) (ws : List (List ℕ)) → OneOf (0 ∷ 1 ∷ 2 ∷ 3 ∷ 4 ∷ 5 ∷ 6 ∷ 7 ∷ 8 ∷ 10 ∷ 11 ∷ 12 ∷ 13 ∷ 14 ∷ []) (tagOf the-type v) → Tells l (does v (w ∷ x ∷ y ∷ ws)) Order.Bad
 unfolding does withNumber withHex withSave withNumberHex withHexNumber
 three-bad l Verb.Start w x y ws h = tells-bad l _ refl
 three-bad l Verb.Room w x y ws h = tells-bad l _ refl
@@ -224,10 +240,11 @@ three-bad l Verb.Route w x y ws h = tells-bad l _ (either (isHex w) Said.bad ref
 three-bad l Verb.Label w x y ws h = tells-bad l _ refl
 three-bad l Verb.Tree w x y ws h = tells-bad l _ refl
 three-bad l Verb.Free w x y ws h = tells-bad l _ refl
-three-bad l Verb.Notice w x y ws h = absurd (miss (0 ∷ 1 ∷ 2 ∷ 3 ∷ 4 ∷ 5 ∷ 6 ∷ 7 ∷ 8 ∷ 10 ∷ 11 ∷ 12 ∷ 13 ∷ []) 9 tt h)
-three-bad l Verb.Save w x y ws h = tells-bad l _ refl
-three-bad l Verb.Restore w x y ws h = tells-bad l _ refl
+three-bad l Verb.Notice w x y ws h = absurd (miss (0 ∷ 1 ∷ 2 ∷ 3 ∷ 4 ∷ 5 ∷ 6 ∷ 7 ∷ 8 ∷ 10 ∷ 11 ∷ 12 ∷ 13 ∷ 14 ∷ []) 9 tt h)
+three-bad l (Verb.Save b) w x y ws h = tells-bad l _ refl
+three-bad l (Verb.Restore b) w x y ws h = tells-bad l _ refl
 three-bad l Verb.Lost w x y ws h = tells-bad l _ refl
+three-bad l (Verb.Move b) w x y ws h = tells-bad l _ refl
 three-bad l Verb.Other w x y ws h = tells-bad l _ refl
 
 pub more-bad : (l : List ℕ) (v : Verb) (w x y z : List ℕ) (ws : List (List ℕ)) → Tells l (does v (w ∷ x ∷ y ∷ z ∷ ws)) Order.Bad
@@ -242,7 +259,8 @@ more-bad l Verb.Label w x y z ws = tells-bad l _ refl
 more-bad l Verb.Tree w x y z ws = tells-bad l _ refl
 more-bad l Verb.Free w x y z ws = tells-bad l _ refl
 more-bad l Verb.Notice w x y z ws = tells-bad l _ (either (isNumber w) _ (either (isNumber x) Said.bad refl))
-more-bad l Verb.Save w x y z ws = tells-bad l _ refl
-more-bad l Verb.Restore w x y z ws = tells-bad l _ refl
+more-bad l (Verb.Save b) w x y z ws = tells-bad l _ refl
+more-bad l (Verb.Restore b) w x y z ws = tells-bad l _ refl
 more-bad l Verb.Lost w x y z ws = tells-bad l _ refl
+more-bad l (Verb.Move b) w x y z ws = tells-bad l _ refl
 more-bad l Verb.Other w x y z ws = tells-bad l _ refl

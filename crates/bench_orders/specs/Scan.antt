@@ -18,9 +18,10 @@ numbered Verb.Label n = Said.label n
 numbered Verb.Tree n = Said.bad
 numbered Verb.Free n = Said.bad
 numbered Verb.Notice n = Said.bad
-numbered Verb.Save n = Said.bad
-numbered Verb.Restore n = Said.bad
+numbered (Verb.Save b) n = Said.bad
+numbered (Verb.Restore b) n = Said.bad
 numbered Verb.Lost n = Said.lost n
+numbered (Verb.Move b) n = Said.bad
 numbered Verb.Other n = Said.bad
 
 unfoldable pub asNumber : Verb → List ℕ → Said
@@ -37,9 +38,10 @@ withOctets Verb.Label o = Said.bad
 withOctets Verb.Tree o = Said.tree o
 withOctets Verb.Free o = Said.bad
 withOctets Verb.Notice o = Said.bad
-withOctets Verb.Save o = Said.bad
-withOctets Verb.Restore o = Said.bad
+withOctets (Verb.Save b) o = Said.bad
+withOctets (Verb.Restore b) o = Said.bad
 withOctets Verb.Lost o = Said.bad
+withOctets (Verb.Move b) o = Said.bad
 withOctets Verb.Other o = Said.bad
 
 unfoldable pub asHex : Verb → List ℕ → Said

@@ -3,9 +3,9 @@ use Prim.Native.Nat.{ℕ, _+_, _≤_, _*_}
 use mathlib.Core.Path.{_≡_}
 use mathlib.Core.List.{List}
 use lib.ListN.{length}
-use Rattle.meaning.specs.Save.{saveLimit}
+use Rattle.meaning.specs.Save.{Form, formOf, saveLimit}
 use Rattle.bench_words.specs.Words.{part, octetsOf}
-use Rattle.bench_verbs.specs.Line.{Said, nothing, bad, start, room, take, join, leave, route, label, tree, free, notice, save, restore, lost}
+use Rattle.bench_verbs.specs.Line.{Said, nothing, bad, start, room, take, join, leave, route, label, tree, free, notice, save, restore, lost, moves}
 use Rattle.bench_orders.specs.declared.Order.{Order}
 
 -- the order that the code hands on says so much, with the line it was read from
@@ -22,16 +22,17 @@ meant l (Order.Label n) = label n
 meant l (Order.Tree s e) = tree (octetsOf (part s e l))
 meant l Order.Free = free
 meant l (Order.Notice n k s e) = notice n k (octetsOf (part s e l))
-meant l Order.Save = save
-meant l (Order.Restore s e) = restore (octetsOf (part s e l))
+meant l (Order.Save b) = save (formOf b)
+meant l (Order.Restore b s e) = restore (formOf b) (octetsOf (part s e l))
 meant l (Order.Lost n) = lost n
+meant l (Order.Move b s e) = moves (formOf b) (octetsOf (part s e l))
 
 -- the word of HEX lies in the line
 abbrev pub Lies : List ℕ → ℕ → ℕ → Type 0
 Lies l s e = (s ≤ e) × (e ≤ length l) × (e ≤ s + 8192)
 
-abbrev pub SaveLies : List ℕ → ℕ → ℕ → Type 0
-SaveLies l s e = (s ≤ e) × (e ≤ length l) × (e ≤ s + 2 * saveLimit)
+abbrev pub SaveLies : Form → List ℕ → ℕ → ℕ → Type 0
+SaveLies f l s e = (s ≤ e) × (e ≤ length l) × (e ≤ s + 2 * saveLimit f)
 
 abbrev pub InLine : List ℕ → Order → Type 0
 InLine l Order.Blank = Unit
@@ -46,9 +47,10 @@ InLine l (Order.Label n) = Unit
 InLine l (Order.Tree s e) = Lies l s e
 InLine l Order.Free = Unit
 InLine l (Order.Notice n k s e) = Lies l s e
-InLine l Order.Save = Unit
-InLine l (Order.Restore s e) = SaveLies l s e
+InLine l (Order.Save b) = Unit
+InLine l (Order.Restore b s e) = SaveLies (formOf b) l s e
 InLine l (Order.Lost n) = Unit
+InLine l (Order.Move b s e) = SaveLies (formOf b) l s e
 
 -- what is said is what the order means
 pub record Tells (l : List ℕ) (said : Said) (r : Order) : Type 0 where

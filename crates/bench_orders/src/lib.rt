@@ -5,15 +5,35 @@ ghost use Prim.Native.Nat.{_≤_};
 ghost use lib.ListN.{length, drop};
 ghost use Rattle.bench_words.specs.Words.{part, words};
 ghost use Rattle.bench_words.specs.Scan.{numberIn};
-ghost use Rattle.bench_verbs.specs.Line.{withSave, does, orderOf};
+ghost use Rattle.bench_verbs.specs.Line.{isSaveHex, withSave, restore, moves, does, orderOf};
+ghost use Rattle.meaning.specs.Save.{formOf};
 ghost use Rattle.bench_orders.specs.Tells.{Tells};
 ghost use Rattle.bench_orders.specs.Scan.{asNumber, asHex};
 use bench_verbs::Verb;
 use bench_words::Number;
 use bench_words::Word;
+use meaning::LABEL_COUNT;
+use meaning::LAST_PLACE;
+use meaning::ROUTE_LIMIT;
+use meaning::ROUTE_SIZE;
 use meaning::SAVE_DIGITS;
+use meaning::SPACED_NAME;
+use meaning::TREE_BESIDE;
+use meaning::TREE_LIMIT;
+use meaning::USE_BESIDE;
 
-// What a line orders. `start..end` is where the word of HEX lies in the line.
+// the longest save of the old form, and its digits in hex
+pub const OLD_SAVE_LIMIT: usize = LAST_PLACE
+    + ROUTE_LIMIT * ROUTE_SIZE
+    + TREE_LIMIT * (TREE_BESIDE + SPACED_NAME)
+    + LABEL_COUNT * (USE_BESIDE + SPACED_NAME);
+
+const OLD_SAVE_DIGITS: usize = 2 * OLD_SAVE_LIMIT;
+
+// the longest line
+pub const LINE_LIMIT: usize = 131072;
+
+// What a line orders. `start..end` is where the word of HEX lies in the line. `second` says that a save is of the new form.
 pub enum Order {
     Blank,
     Bad,
@@ -49,12 +69,18 @@ pub enum Order {
         start: usize,
         end: usize,
     },
-    Save,
+    Save(bool),
     Restore {
+        second: bool,
         start: usize,
         end: usize,
     },
     Lost(u32),
+    Move {
+        second: bool,
+        start: usize,
+        end: usize,
+    },
 }
 
 // An order with no further word.
@@ -63,7 +89,7 @@ fn with_none(line: &[u8], verb: Verb) -> Order
 {
     match verb {
         Verb::Free => Order::Free,
-        Verb::Save => Order::Save,
+        Verb::Save(second) => Order::Save(second),
         _ => Order::Bad,
     }
 }
@@ -101,13 +127,35 @@ fn with_hex(line: &[u8], verb: Verb, start: usize, end: usize) -> Order
     Order::Bad
 }
 
-// HEX of a save, as `restore` takes it: of at most 23343 octets.
-fn with_save(line: &[u8], start: usize, end: usize) -> Order
+// Whether a word is HEX of no more octets than the longest save of the form.
+fn is_save_hex(line: &[u8], second: bool, start: usize, end: usize) -> bool
     requires { ⌜ (start ≤ end) × (end ≤ length (now line)) ⌝ }
-    ensures { λ r. ⌜ Tells (now (line .entry)) (withSave (part start end (now (line .entry)) ∷ [])) r ⌝ }
+    ensures { λ r. ⌜ r ≡ isSaveHex (formOf second) (part start end (now (line .entry))) ⌝ }
 {
-    if bench_words::is_hex_to(&line[start..end], SAVE_DIGITS) {
-        return Order::Restore { start, end };
+    if second {
+        return bench_words::is_hex_to(&line[start..end], SAVE_DIGITS);
+    }
+    bench_words::is_hex_to(&line[start..end], OLD_SAVE_DIGITS)
+}
+
+// HEX of a save, as `restore` and `restore2` take it.
+fn with_restore(line: &[u8], second: bool, start: usize, end: usize) -> Order
+    requires { ⌜ (start ≤ end) × (end ≤ length (now line)) ⌝ }
+    ensures { λ r. ⌜ Tells (now (line .entry)) (withSave restore (formOf second) (part start end (now (line .entry)) ∷ [])) r ⌝ }
+{
+    if is_save_hex(line, second, start, end) {
+        return Order::Restore { second, start, end };
+    }
+    Order::Bad
+}
+
+// The same, as `newer` and `older` take it.
+fn with_move(line: &[u8], second: bool, start: usize, end: usize) -> Order
+    requires { ⌜ (start ≤ end) × (end ≤ length (now line)) ⌝ }
+    ensures { λ r. ⌜ Tells (now (line .entry)) (withSave moves (formOf second) (part start end (now (line .entry)) ∷ [])) r ⌝ }
+{
+    if is_save_hex(line, second, start, end) {
+        return Order::Move { second, start, end };
     }
     Order::Bad
 }
@@ -121,7 +169,8 @@ fn with_one(line: &[u8], verb: Verb, start: usize, end: usize) -> Order
         Verb::Start | Verb::Room | Verb::Label | Verb::Lost => {
             with_number(line, verb, start, end)
         }
-        Verb::Restore => with_save(line, start, end),
+        Verb::Restore(second) => with_restore(line, second, start, end),
+        Verb::Move(second) => with_move(line, second, start, end),
         _ => with_hex(line, verb, start, end),
     }
 }
@@ -226,7 +275,7 @@ fn with_words(line: &[u8], verb: Verb, at: usize) -> Order
 pub fn read_order(line: &[u8]) -> Order
     ensures { λ r. ⌜ Tells (now (line .entry)) (orderOf (now (line .entry))) r ⌝ }
 {
-    if 65536 < line.len() {
+    if LINE_LIMIT < line.len() {
         return Order::Bad;
     }
     let word = bench_words::next_word(line, 0);

@@ -13,14 +13,14 @@ use Rattle.meaning.specs.Wire.{records}
 use Rattle.meaning.specs.Card.{Card, Feed, sentLimit}
 use Rattle.meaning.specs.Events.{Out, Outcome, refused, taken, refuse, accept, roomShort, noNeighbour, finish, Event, outcome, event}
 use Rattle.meaning.specs.Notice.{noticeDue, noticeRecord, notice}
-use Rattle.meaning.specs.Save.{saved, save, fitsSave, saveLimit}
+use Rattle.meaning.specs.Save.{Form, new, saved, save, fitsSave, saveLimit}
 use Rattle.meaning.specs.Calls.{Hands}
 use Rattle.bench_words.specs.Words.{Puts}
 use Rattle.bench_orders.specs.Tells.{meant, Lies, SaveLies, InLine}
 use Rattle.bench_orders.specs.declared.Order.{Order}
 use Rattle.bench_orders.proofs.Order.{the-type}
 use Rattle.bench_lines.specs.Text.{countLine, eventLine, feedLine, textSpace}
-use Rattle.bench_replies.specs.Reply.{only, counted, told, eventRoom, replyTo, Says, WritesRecords}
+use Rattle.bench_replies.specs.Reply.{only, counted, told, shifted, eventRoom, replyTo, Says, WritesRecords}
 
 -- ---- octets that are no longer than the room
 
@@ -47,13 +47,13 @@ notice-fits room c n number s =
     (λ f. rw (e, d, f) (ltb-false room (length (noticeRecord (c .next) n number s)) f)))
     (λ d. rw (e, d) (omega arith)))
 
-pub save-fits : (room : ℕ) (c : Card) → length (save room c .octets) ≤ room
+pub save-fits : (f : Form) (room : ℕ) (c : Card) → length (save f room c .octets) ≤ room
 unfolding save refuse roomShort
-save-fits room c =
-    by-test (fitsSave c)
-    (λ s. by-test (roomShort room (saved c))
+save-fits f room c =
+    by-test (fitsSave f c)
+    (λ s. by-test (roomShort room (saved f c))
     (λ e. rw (s, e) (omega arith))
-    (λ e. rw (s, e) (ltb-false room (length (saved c)) e)))
+    (λ e. rw (s, e) (ltb-false room (length (saved f c)) e)))
     (λ s. rw s (omega arith))
 
 -- of a part that a call handed back
@@ -78,8 +78,8 @@ says-told f {a = a} {part} word text room r el h k e = record {
 -- AN ORDER THAT WRITES RECORDS: HEX is decoded to the front of some space, a call f is lent as many octets of the output as the room says, and what it answers and hands back is told
 module _ (f : ℕ → List ℕ → Out) (room : ℕ) {l whole n a : ℕ} {os before after part : List ℕ} {card : Card}
     (all : sentLimit ≡ whole) (lent : l ≡ min room whole) (p : Puts os before after n) (h : Hands (f l (take n after)) a part card) where
-  pub record-fits : ((l : ℕ) (s : List ℕ) → length (f l s .octets) ≤ l) → length part ≤ saveLimit
-  record-fits fits = part-fits l saveLimit h (fits l _) (omega arith)
+  pub record-fits : ((l : ℕ) (s : List ℕ) → length (f l s .octets) ≤ l) → length part ≤ saveLimit new
+  record-fits fits = part-fits l (saveLimit new) h (fits l _) (omega arith)
 
   pub says-record : (word text : List ℕ) (r : ℕ) → r ≤ textSpace → take r text ≡ eventLine word a part → Says (told word (f (eventRoom room) os) room) r text card
   says-record word text r k e = says-told (λ m. f m os) word text room r (omega arith) (rw (decoded p) at h) k e
@@ -100,22 +100,23 @@ says-fed word text c room r h k e = says-only _ text c room r k (e ∙ ap (feedL
 pub lies : (l : List ℕ) (r o : Order) → InLine l r → r ≡ o → InLine l o
 lies l r o h e = rw e at h
 
-pub not-written : (o : Order) → OneOf (0 ∷ 1 ∷ 2 ∷ 3 ∷ 8 ∷ 9 ∷ 10 ∷ 12 ∷ 13 ∷ []) (tagOf the-type o) → WritesRecords o → ⊥
+pub not-written : (o : Order) → OneOf (0 ∷ 1 ∷ 2 ∷ 3 ∷ 8 ∷ 9 ∷ 10 ∷ 12 ∷ 13 ∷ 15 ∷ []) (tagOf the-type o) → WritesRecords o → ⊥
 not-written Order.Blank h w = w
 not-written Order.Bad h w = w
 not-written (Order.Start n) h w = w
 not-written (Order.Room n) h w = w
-not-written (Order.Take n s e) h w = miss (0 ∷ 1 ∷ 2 ∷ 3 ∷ 8 ∷ 9 ∷ 10 ∷ 12 ∷ 13 ∷ []) 4 tt h
-not-written (Order.Join s e) h w = miss (0 ∷ 1 ∷ 2 ∷ 3 ∷ 8 ∷ 9 ∷ 10 ∷ 12 ∷ 13 ∷ []) 5 tt h
-not-written (Order.Leave s e) h w = miss (0 ∷ 1 ∷ 2 ∷ 3 ∷ 8 ∷ 9 ∷ 10 ∷ 12 ∷ 13 ∷ []) 6 tt h
-not-written (Order.Route s e n) h w = miss (0 ∷ 1 ∷ 2 ∷ 3 ∷ 8 ∷ 9 ∷ 10 ∷ 12 ∷ 13 ∷ []) 7 tt h
+not-written (Order.Take n s e) h w = miss (0 ∷ 1 ∷ 2 ∷ 3 ∷ 8 ∷ 9 ∷ 10 ∷ 12 ∷ 13 ∷ 15 ∷ []) 4 tt h
+not-written (Order.Join s e) h w = miss (0 ∷ 1 ∷ 2 ∷ 3 ∷ 8 ∷ 9 ∷ 10 ∷ 12 ∷ 13 ∷ 15 ∷ []) 5 tt h
+not-written (Order.Leave s e) h w = miss (0 ∷ 1 ∷ 2 ∷ 3 ∷ 8 ∷ 9 ∷ 10 ∷ 12 ∷ 13 ∷ 15 ∷ []) 6 tt h
+not-written (Order.Route s e n) h w = miss (0 ∷ 1 ∷ 2 ∷ 3 ∷ 8 ∷ 9 ∷ 10 ∷ 12 ∷ 13 ∷ 15 ∷ []) 7 tt h
 not-written (Order.Label n) h w = w
 not-written (Order.Tree s e) h w = w
 not-written Order.Free h w = w
-not-written (Order.Notice n k s e) h w = miss (0 ∷ 1 ∷ 2 ∷ 3 ∷ 8 ∷ 9 ∷ 10 ∷ 12 ∷ 13 ∷ []) 11 tt h
-not-written Order.Save h w = w
-not-written (Order.Restore s e) h w = w
-not-written (Order.Lost n) h w = miss (0 ∷ 1 ∷ 2 ∷ 3 ∷ 8 ∷ 9 ∷ 10 ∷ 12 ∷ 13 ∷ []) 14 tt h
+not-written (Order.Notice n k s e) h w = miss (0 ∷ 1 ∷ 2 ∷ 3 ∷ 8 ∷ 9 ∷ 10 ∷ 12 ∷ 13 ∷ 15 ∷ []) 11 tt h
+not-written (Order.Save b) h w = w
+not-written (Order.Restore b s e) h w = w
+not-written (Order.Lost n) h w = miss (0 ∷ 1 ∷ 2 ∷ 3 ∷ 8 ∷ 9 ∷ 10 ∷ 12 ∷ 13 ∷ 15 ∷ []) 14 tt h
+not-written (Order.Move b s e) h w = w
 
 pub written : (o : Order) → OneOf (4 ∷ 5 ∷ 6 ∷ 7 ∷ 11 ∷ 14 ∷ []) (tagOf the-type o) → WritesRecords o
 written Order.Blank h = miss (4 ∷ 5 ∷ 6 ∷ 7 ∷ 11 ∷ 14 ∷ []) 0 tt h
@@ -130,16 +131,17 @@ written (Order.Label n) h = miss (4 ∷ 5 ∷ 6 ∷ 7 ∷ 11 ∷ 14 ∷ []) 8 tt
 written (Order.Tree s f) h = miss (4 ∷ 5 ∷ 6 ∷ 7 ∷ 11 ∷ 14 ∷ []) 9 tt h
 written Order.Free h = miss (4 ∷ 5 ∷ 6 ∷ 7 ∷ 11 ∷ 14 ∷ []) 10 tt h
 written (Order.Notice n k s f) h = tt
-written Order.Save h = miss (4 ∷ 5 ∷ 6 ∷ 7 ∷ 11 ∷ 14 ∷ []) 12 tt h
-written (Order.Restore s f) h = miss (4 ∷ 5 ∷ 6 ∷ 7 ∷ 11 ∷ 14 ∷ []) 13 tt h
+written (Order.Save b) h = miss (4 ∷ 5 ∷ 6 ∷ 7 ∷ 11 ∷ 14 ∷ []) 12 tt h
+written (Order.Restore b s f) h = miss (4 ∷ 5 ∷ 6 ∷ 7 ∷ 11 ∷ 14 ∷ []) 13 tt h
 written (Order.Lost n) h = tt
+written (Order.Move b s f) h = miss (4 ∷ 5 ∷ 6 ∷ 7 ∷ 11 ∷ 14 ∷ []) 15 tt h
 
-pub room-stays : (number room : ℕ) (c : Card) (l : List ℕ) (o : Order) → OneOf (0 ∷ 1 ∷ 2 ∷ 4 ∷ 5 ∷ 6 ∷ 7 ∷ 8 ∷ 9 ∷ 10 ∷ 11 ∷ 12 ∷ 13 ∷ 14 ∷ []) (tagOf the-type o) → room ≡ replyTo number room c (meant l o) .room
-unfolding meant replyTo only counted told
+pub room-stays : (number room : ℕ) (c : Card) (l : List ℕ) (o : Order) → OneOf (0 ∷ 1 ∷ 2 ∷ 4 ∷ 5 ∷ 6 ∷ 7 ∷ 8 ∷ 9 ∷ 10 ∷ 11 ∷ 12 ∷ 13 ∷ 14 ∷ 15 ∷ []) (tagOf the-type o) → room ≡ replyTo number room c (meant l o) .room
+unfolding meant replyTo only counted told shifted
 room-stays number room c l Order.Blank h = refl
 room-stays number room c l Order.Bad h = refl
 room-stays number room c l (Order.Start n) h = refl
-room-stays number room c l (Order.Room n) h = absurd (miss (0 ∷ 1 ∷ 2 ∷ 4 ∷ 5 ∷ 6 ∷ 7 ∷ 8 ∷ 9 ∷ 10 ∷ 11 ∷ 12 ∷ 13 ∷ 14 ∷ []) 3 tt h)
+room-stays number room c l (Order.Room n) h = absurd (miss (0 ∷ 1 ∷ 2 ∷ 4 ∷ 5 ∷ 6 ∷ 7 ∷ 8 ∷ 9 ∷ 10 ∷ 11 ∷ 12 ∷ 13 ∷ 14 ∷ 15 ∷ []) 3 tt h)
 room-stays number room c l (Order.Take n s e) h = refl
 room-stays number room c l (Order.Join s e) h = refl
 room-stays number room c l (Order.Leave s e) h = refl
@@ -148,12 +150,13 @@ room-stays number room c l (Order.Label n) h = refl
 room-stays number room c l (Order.Tree s e) h = refl
 room-stays number room c l Order.Free h = refl
 room-stays number room c l (Order.Notice n k s e) h = refl
-room-stays number room c l Order.Save h = refl
-room-stays number room c l (Order.Restore s e) h = refl
+room-stays number room c l (Order.Save b) h = refl
+room-stays number room c l (Order.Restore b s e) h = refl
 room-stays number room c l (Order.Lost n) h = refl
+room-stays number room c l (Order.Move b s e) h = refl
 
 pub short : (l : List ℕ) (s e : ℕ) → Lies l s e → length (take (e - s) (drop s l)) ≤ 8192
 short l s e h = let n = length-take-le (e - s) (drop s l) (simp length-drop (omega arith)) in omega arith
 
-pub save-short : (l : List ℕ) (s e : ℕ) → SaveLies l s e → length (take (e - s) (drop s l)) ≤ 2 * saveLimit
-save-short l s e h = let n = length-take-le (e - s) (drop s l) (simp length-drop (omega arith)) in omega arith
+pub save-short : (f : Form) (l : List ℕ) (s e : ℕ) → SaveLies f l s e → length (take (e - s) (drop s l)) ≤ 2 * saveLimit f
+save-short f l s e h = let n = length-take-le (e - s) (drop s l) (simp length-drop (omega arith)) in let m = h .2 in omega (arith, n, m)

@@ -7,7 +7,7 @@ use lib.ListN.{take}
 use Rattle.meaning.specs.Card.{Card, freeLabels, lookupLabel, lookupName, sentLimit}
 use Rattle.meaning.specs.Events.{Out, start, event, receive, join, leave, route, lost}
 use Rattle.meaning.specs.Notice.{notice}
-use Rattle.meaning.specs.Save.{save, restore, saveLimit}
+use Rattle.meaning.specs.Save.{Form, old, new, save, restore, Moved, move, saveLimit}
 use Rattle.bench_words.specs.Words.{ascii}
 use Rattle.bench_verbs.specs.Line.{Said}
 use Rattle.bench_lines.specs.Text.{countLine, eventLine, feedLine, textSpace}
@@ -31,12 +31,35 @@ counted word o room = record { text = countLine word (o .answer); card = o .card
 unfoldable pub told : List ℕ → Out → ℕ → Reply
 told word o room = record { text = eventLine word (o .answer) (o .octets); card = o .card; room = room }
 
--- an event and a notice are lent 22272 octets and a save 23343, or the room where that is less
+-- what a move gives: its answer and the octets; the card stays
+unfoldable pub shifted : List ℕ → Moved → Card → ℕ → Reply
+shifted word m c room = record { text = eventLine word (m .answer) (m .octets); card = c; room = room }
+
+-- an event and a notice are lent 22272 octets, a save as many as the longest of its form has, or the room where that is less
 abbrev pub eventRoom : ℕ → ℕ
 eventRoom room = min room sentLimit
 
-abbrev pub saveRoom : ℕ → ℕ
-saveRoom room = min room saveLimit
+abbrev pub saveRoom : Form → ℕ → ℕ
+saveRoom f room = min room (saveLimit f)
+
+-- ---- the orders on saves, by the form
+
+unfoldable pub saveWord : Form → List ℕ
+saveWord old = ascii "save"
+saveWord new = ascii "save2"
+
+unfoldable pub restoreWord : Form → List ℕ
+restoreWord old = ascii "restore"
+restoreWord new = ascii "restore2"
+
+-- from this form to the other
+unfoldable pub moveWord : Form → List ℕ
+moveWord old = ascii "newer"
+moveWord new = ascii "older"
+
+unfoldable pub other : Form → Form
+other old = new
+other new = old
 
 -- THE REPLY to what a line says, by the number of the line, the room and the card. The room is another only after `room`.
 unfoldable pub replyTo : (number room : ℕ) → Card → Said → Reply
@@ -53,12 +76,13 @@ replyTo number room c (Said.notice n refusal octets) = told (ascii "notice") (no
 replyTo number room c (Said.label n) = only (feedLine (ascii "label") (lookupLabel n c)) c room
 replyTo number room c (Said.tree element) = only (feedLine (ascii "tree") (lookupName element c)) c room
 replyTo number room c Said.free = only (countLine (ascii "free") (freeLabels c)) c room
-replyTo number room c Said.save = told (ascii "save") (save (saveRoom room) c) room
-replyTo number room c (Said.restore octets) = counted (ascii "restore") (restore octets c) room
+replyTo number room c (Said.save f) = told (saveWord f) (save f (saveRoom f room) c) room
+replyTo number room c (Said.restore f octets) = counted (restoreWord f) (restore f octets c) room
+replyTo number room c (Said.moves f octets) = shifted (moveWord f) (move f (other f) (saveRoom (other f) room) octets) c room
 
 -- ---- what the functions state
 
--- the first r octets of a text, no more than 47104, are the text of the reply, and the card is its card
+-- the first r octets of a text, no more than `textSpace`, are the text of the reply, and the card is its card
 pub record Says (reply : Reply) (r : ℕ) (text : List ℕ) (card : Card) : Type 0 where
   pub short : r ≤ textSpace
   pub line : take r text ≡ reply .text
@@ -69,7 +93,7 @@ pub record Answers (reply : Reply) (r : ℕ) (text : List ℕ) (card : Card) (ro
   pub says : Says reply r text card
   pub next : room ≡ reply .room
 
--- the orders that write records, but for a save
+-- the orders that write records, but for saves
 abbrev pub WritesRecords : Order → Type 0
 WritesRecords Order.Blank = ⊥
 WritesRecords Order.Bad = ⊥
@@ -83,6 +107,7 @@ WritesRecords (Order.Label n) = ⊥
 WritesRecords (Order.Tree s e) = ⊥
 WritesRecords Order.Free = ⊥
 WritesRecords (Order.Notice n k s e) = Unit
-WritesRecords Order.Save = ⊥
-WritesRecords (Order.Restore s e) = ⊥
+WritesRecords (Order.Save b) = ⊥
+WritesRecords (Order.Restore b s e) = ⊥
 WritesRecords (Order.Lost n) = Unit
+WritesRecords (Order.Move b s e) = ⊥

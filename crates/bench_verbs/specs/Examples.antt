@@ -5,7 +5,8 @@ use mathlib.Core.List.{[], _∷_, _++_}
 use lib.ListN.{replicate}
 use Rattle.meaning.specs.Octets.{same, all}
 use Rattle.bench_words.specs.Words.{ascii, uncommented, lengthen, pieces, filled, words, valueFrom, value, isNumber, digit, isHexTo, isHex, octetsOf}
-use Rattle.bench_verbs.specs.Line.{isSaveHex, Said, requestedVerb, verbOf, withNumber, withHex, withSave, withNumberHex, withHexNumber, withNumbersHex, does, saidBy, orderOf}
+use Rattle.meaning.specs.Save.{old, new, formOf}
+use Rattle.bench_verbs.specs.Line.{isSaveHex, Said, saveVerb, requestedVerb, verbOf, withNumber, withHex, withSave, withNumberHex, withHexNumber, withNumbersHex, does, saidBy, orderOf}
 
 unfoldable pub says : String → Said
 says s = orderOf (ascii s)
@@ -45,15 +46,15 @@ pub examples-shown : (says "" ≡ Said.nothing)
     × (says "notice 1 3 040" ≡ Said.bad)
     × (says "notice 1 0400 g3" ≡ Said.bad)
     × (says "Notice 1 3 0400" ≡ Said.bad)
-    × (says "save" ≡ Said.save)
-    × (says " save # the table" ≡ Said.save)
+    × (says "save" ≡ Said.save old)
+    × (says " save # the table" ≡ Said.save old)
     × (says "save 1" ≡ Said.bad)
     × (says "save -" ≡ Said.bad)
     × (says "Save" ≡ Said.bad)
     × (says "saved" ≡ Said.bad)
-    × (says "restore 4c5301" ≡ Said.restore (76 ∷ 83 ∷ 1 ∷ []))
-    × (says "restore 4C53" ≡ Said.restore (76 ∷ 83 ∷ []))
-    × (says "restore -" ≡ Said.restore [])
+    × (says "restore 4c5301" ≡ Said.restore old (76 ∷ 83 ∷ 1 ∷ []))
+    × (says "restore 4C53" ≡ Said.restore old (76 ∷ 83 ∷ []))
+    × (says "restore -" ≡ Said.restore old [])
     × (says "restore" ≡ Said.bad)
     × (says "restore 4c5" ≡ Said.bad)
     × (says "restore 4g" ≡ Said.bad)
@@ -70,15 +71,26 @@ pub examples-shown : (says "" ≡ Said.nothing)
     × (says "lost 3 -" ≡ Said.bad)
     × (says "Lost 3" ≡ Said.bad)
     × (says "los 3" ≡ Said.bad)
-unfolding says ascii all uncommented lengthen pieces filled words valueFrom value isNumber digit isHexTo isHex isSaveHex octetsOf requestedVerb verbOf withNumber withHex withSave withNumberHex withHexNumber withNumbersHex does saidBy orderOf same
-examples-shown = (refl, refl, refl, refl, refl, refl, refl, refl, refl, refl, refl, refl, refl, refl, refl, refl, refl, refl, refl, refl, refl, refl, refl, refl, refl, refl, refl, refl, refl, refl, refl, refl, refl, refl, refl, refl, refl, refl, refl, refl, refl, refl, refl, refl, refl, refl, refl, refl, refl, refl, refl, refl, refl, refl, refl, refl, refl, refl, refl, refl)
+    × (says "save2" ≡ Said.save new)
+    × (says "save2 1" ≡ Said.bad)
+    × (says "save3" ≡ Said.bad)
+    × (says "restore2 4c5305" ≡ Said.restore new (76 ∷ 83 ∷ 5 ∷ []))
+    × (says "restore2" ≡ Said.bad)
+    × (says "newer 4c5301" ≡ Said.moves old (76 ∷ 83 ∷ 1 ∷ []))
+    × (says "older -" ≡ Said.moves new [])
+    × (says "older 4c 53" ≡ Said.bad)
+    × (says "newest 4c" ≡ Said.bad)
+unfolding says ascii all uncommented lengthen pieces filled words valueFrom value isNumber digit isHexTo isHex isSaveHex octetsOf saveVerb requestedVerb verbOf withNumber withHex withSave withNumberHex withHexNumber withNumbersHex does saidBy orderOf same formOf
+examples-shown = (refl, refl, refl, refl, refl, refl, refl, refl, refl, refl, refl, refl, refl, refl, refl, refl, refl, refl, refl, refl, refl, refl, refl, refl, refl, refl, refl, refl, refl, refl, refl, refl, refl, refl, refl, refl, refl, refl, refl, refl, refl, refl, refl, refl, refl, refl, refl, refl, refl, refl, refl, refl, refl, refl, refl, refl, refl, refl, refl, refl, refl, refl, refl, refl, refl, refl, refl, refl, refl)
 
 -- the longest HEX of a message, the longest of a save, and the longest line, and one more of each
 pub limits-shown : (orderOf (ascii "join " ++ replicate 8192 48) ≡ Said.join (replicate 4096 0))
     × (orderOf (ascii "join " ++ replicate 8194 48) ≡ Said.bad)
-    × (orderOf (ascii "restore " ++ replicate 46686 48) ≡ Said.restore (replicate 23343 0))
+    × (orderOf (ascii "restore " ++ replicate 46686 48) ≡ Said.restore old (replicate 23343 0))
     × (orderOf (ascii "restore " ++ replicate 46688 48) ≡ Said.bad)
-    × (orderOf (replicate 65536 32) ≡ Said.nothing)
-    × (orderOf (replicate 65537 32) ≡ Said.bad)
-unfolding ascii all uncommented lengthen pieces filled words valueFrom value isNumber digit isHexTo isHex isSaveHex octetsOf requestedVerb verbOf withNumber withHex withSave withNumberHex withHexNumber withNumbersHex does saidBy orderOf same
-limits-shown = (refl, refl, refl, refl, refl, refl)
+    × (orderOf (ascii "restore2 " ++ replicate 111334 48) ≡ Said.restore new (replicate 55667 0))
+    × (orderOf (ascii "older " ++ replicate 111336 48) ≡ Said.bad)
+    × (orderOf (replicate 131072 32) ≡ Said.nothing)
+    × (orderOf (replicate 131073 32) ≡ Said.bad)
+unfolding ascii all uncommented lengthen pieces filled words valueFrom value isNumber digit isHexTo isHex isSaveHex octetsOf saveVerb requestedVerb verbOf withNumber withHex withSave withNumberHex withHexNumber withNumbersHex does saidBy orderOf same formOf
+limits-shown = (refl, refl, refl, refl, refl, refl, refl, refl)

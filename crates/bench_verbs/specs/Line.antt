@@ -1,29 +1,40 @@
 -- What a line of the bench program says. Assumes nothing.
 use Prim.Native.Nat.{ℕ, _*_}
-use mathlib.Core.Bool.{Bool}
+use mathlib.Core.Bool.{Bool, true, false}
 use mathlib.Core.List.{List, [], _∷_}
 use lib.ListN.{length}
 use lib.Dec.{leb}
 use Rattle.meaning.specs.Octets.{pick, same}
-use Rattle.meaning.specs.Save.{saveLimit}
+use Rattle.meaning.specs.Save.{Form, formOf, saveLimit}
 use Rattle.bench_words.specs.Words.{ascii, words, value, isNumber, isHexTo, isHex, octetsOf}
 use Rattle.bench_verbs.specs.declared.Verb.{Verb}
 
+-- A save is of a form; a move is from it to the other one.
 pub data Said : Type 0 where
-  nothing bad free save : Said
+  nothing bad free : Said
   start room label lost : ℕ → Said
   take : ℕ → List ℕ → Said
-  join leave tree restore : List ℕ → Said
+  join leave tree : List ℕ → Said
   route : List ℕ → ℕ → Said
   notice : ℕ → ℕ → List ℕ → Said
+  save : Form → Said
+  restore moves : Form → List ℕ → Said
+
+unfoldable pub saveVerb : List ℕ → Verb
+saveVerb w =
+    pick (same w (ascii "save")) (Verb.Save false)
+    (pick (same w (ascii "restore")) (Verb.Restore false)
+    (pick (same w (ascii "save2")) (Verb.Save true)
+    (pick (same w (ascii "restore2")) (Verb.Restore true)
+    (pick (same w (ascii "newer")) (Verb.Move false)
+    (pick (same w (ascii "older")) (Verb.Move true)
+    Verb.Other)))))
 
 unfoldable pub requestedVerb : List ℕ → Verb
 requestedVerb w =
     pick (same w (ascii "notice")) Verb.Notice
-    (pick (same w (ascii "save")) Verb.Save
-    (pick (same w (ascii "restore")) Verb.Restore
     (pick (same w (ascii "lost")) Verb.Lost
-    Verb.Other)))
+    (saveVerb w))
 
 unfoldable pub verbOf : List ℕ → Verb
 verbOf w =
@@ -48,14 +59,14 @@ withHex f [] = bad
 withHex f (w ∷ []) = pick (isHex w) (f (octetsOf w)) bad
 withHex f (w ∷ v ∷ ws) = bad
 
--- for at most 23343 octets, the longest save
-unfoldable pub isSaveHex : List ℕ → Bool
-isSaveHex w = isHexTo (2 * saveLimit) w
+-- for no more octets than the longest save of the form: 23343 or 55667
+unfoldable pub isSaveHex : Form → List ℕ → Bool
+isSaveHex f w = isHexTo (2 * saveLimit f) w
 
-unfoldable pub withSave : List (List ℕ) → Said
-withSave [] = bad
-withSave (w ∷ []) = pick (isSaveHex w) (restore (octetsOf w)) bad
-withSave (w ∷ v ∷ ws) = bad
+unfoldable pub withSave : (Form → List ℕ → Said) → Form → List (List ℕ) → Said
+withSave g f [] = bad
+withSave g f (w ∷ []) = pick (isSaveHex f w) (g f (octetsOf w)) bad
+withSave g f (w ∷ v ∷ ws) = bad
 
 unfoldable pub withNumberHex : (ℕ → List ℕ → Said) → List (List ℕ) → Said
 withNumberHex f [] = bad
@@ -81,16 +92,21 @@ does Verb.Tree ws = withHex tree ws
 does Verb.Free [] = free
 does Verb.Free (w ∷ ws) = bad
 does Verb.Notice ws = withNumbersHex notice ws
-does Verb.Save [] = save
-does Verb.Save (w ∷ ws) = bad
-does Verb.Restore ws = withSave ws
+does (Verb.Save second) [] = save (formOf second)
+does (Verb.Save second) (w ∷ ws) = bad
+does (Verb.Restore second) ws = withSave restore (formOf second) ws
 does Verb.Lost ws = withNumber lost ws
+does (Verb.Move second) ws = withSave moves (formOf second) ws
 does Verb.Other ws = bad
 
 unfoldable pub saidBy : List (List ℕ) → Said
 saidBy [] = nothing
 saidBy (w ∷ ws) = does (verbOf w) ws
 
--- what a line says; one of more than 65536 octets is bad whatever it holds
+-- the longest line has a place for the digits of the longest save, and for the word before them
+abbrev pub lineLimit : ℕ
+lineLimit = 131072
+
+-- what a line says; one of more than 131072 octets is bad whatever it holds
 unfoldable pub orderOf : List ℕ → Said
-orderOf l = pick (leb (length l) 65536) (saidBy (words l)) bad
+orderOf l = pick (leb (length l) lineLimit) (saidBy (words l)) bad

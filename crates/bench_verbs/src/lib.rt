@@ -1,8 +1,8 @@
 // The verb of a line of the bench program.
 ghost use mathlib.Core.Path.{_≡_};
-ghost use Rattle.bench_verbs.specs.Line.{requestedVerb, verbOf};
+ghost use Rattle.bench_verbs.specs.Line.{saveVerb, requestedVerb, verbOf};
 
-// The word that begins an order.
+// The word that begins an order. Where an order is of a save, the mark says that it is one of the new form.
 pub enum Verb {
     Start,
     Room,
@@ -14,29 +14,49 @@ pub enum Verb {
     Tree,
     Free,
     Notice,
-    Save,
-    Restore,
+    Save(bool),
+    Restore(bool),
     Lost,
+    Move(bool),
     Other,
 }
 
-// The verbs of the orders that requests brought.
+// The verbs of the orders on saves.
+fn save_verb(word: &[u8]) -> Verb
+    ensures { λ r. ⌜ r ≡ saveVerb (now (word .entry)) ⌝ }
+{
+    if octets::equal(word, b"save") {
+        return Verb::Save(false);
+    }
+    if octets::equal(word, b"restore") {
+        return Verb::Restore(false);
+    }
+    if octets::equal(word, b"save2") {
+        return Verb::Save(true);
+    }
+    if octets::equal(word, b"restore2") {
+        return Verb::Restore(true);
+    }
+    if octets::equal(word, b"newer") {
+        return Verb::Move(false);
+    }
+    if octets::equal(word, b"older") {
+        return Verb::Move(true);
+    }
+    Verb::Other
+}
+
+// The verbs of the other orders that requests brought.
 fn requested_verb(word: &[u8]) -> Verb
     ensures { λ r. ⌜ r ≡ requestedVerb (now (word .entry)) ⌝ }
 {
     if octets::equal(word, b"notice") {
         return Verb::Notice;
     }
-    if octets::equal(word, b"save") {
-        return Verb::Save;
-    }
-    if octets::equal(word, b"restore") {
-        return Verb::Restore;
-    }
     if octets::equal(word, b"lost") {
         return Verb::Lost;
     }
-    Verb::Other
+    save_verb(word)
 }
 
 pub fn verb_of(word: &[u8]) -> Verb

@@ -1,12 +1,13 @@
-use native.Mathlib.Omega.{arith}
-use mathlib.Core.Path.{refl, ap, _∙_}
-use mathlib.Core.List.{[]}
-use Rattle.bench_replies.proofs.Reply.{lies, short, save-short, written, says-only, says-counted}
-use Rattle.bench_replies.specs.Reply.{only, counted, replyTo}
-use Rattle.meaning.specs.Events.{start}
-use Rattle.bench_lines.specs.Text.{countLine}
-use Rattle.bench_words.specs.Words.{ascii}
+use Rattle.bench_saves.proofs.Saves.{lies-most}
 use Rattle.bench_orders.specs.Tells.{meant}
+use Rattle.bench_words.specs.Words.{ascii}
+use Rattle.bench_lines.specs.Text.{countLine}
+use Rattle.meaning.specs.Events.{start}
+use Rattle.bench_replies.specs.Reply.{only, counted, replyTo}
+use Rattle.bench_replies.proofs.Reply.{lies, short, written, says-only, says-counted}
+use mathlib.Core.List.{[]}
+use mathlib.Core.Path.{refl, ap, _∙_}
+use native.Mathlib.Omega.{arith}
 use borrow.Author.Needs.{needs}
 use Rattle.bench_answers.proofs.obey.Statement.{statement}
 use Rattle.bench_answers.proofs.obey.Tie as tie
@@ -88,33 +89,44 @@ cast-put-count-3 c = search needs
 put-count-requires-4 : tie.Need-put-count-requires-4
 put-count-requires-4 c κs = search needs
 
-enum-told-4 : tie.Need-enum-told-4
-enum-told-4 c = search needs
+enum-known-order-5 : tie.Need-enum-known-order-5
+enum-known-order-5 c = search needs
 
 on-save-requires : tie.Need-on-save-requires
 on-save-requires c κs = search needs
 
-enum-known-order-5 : tie.Need-enum-known-order-5
-enum-known-order-5 c = search needs
+enum-known-order-6 : tie.Need-enum-known-order-6
+enum-known-order-6 c = search needs
 
 sub-on-restore : tie.Need-sub-on-restore
-sub-on-restore c = lies _ _ _ (c .before .before .before .before .before .before .before .pre .0) (c .before .before .before .order5 .given .1) .0
+sub-on-restore c = lies _ _ _ (c .before .before .before .before .before .before .before .pre .0) (c .before .before .before .order6 .given .1) .0
 
 part-on-restore-start : tie.Need-part-on-restore-start
-part-on-restore-start c = lies _ _ _ (c .before .before .before .before .before .before .before .pre .0) (c .before .before .before .order5 .given .1) .0
+part-on-restore-start c = lies _ _ _ (c .before .before .before .before .before .before .before .pre .0) (c .before .before .before .order6 .given .1) .0
 
 part-on-restore-end : tie.Need-part-on-restore-end
-part-on-restore-end c = lies _ _ _ (c .before .before .before .before .before .before .before .pre .0) (c .before .before .before .order5 .given .1) .1
+part-on-restore-end c = lies _ _ _ (c .before .before .before .before .before .before .before .pre .0) (c .before .before .before .order6 .given .1) .1
 
 on-restore-requires : tie.Need-on-restore-requires
-on-restore-requires c κs =
-    let start = c .before .before .before .before .before .before .before .before .before in
-    (save-short _ _ _ (lies _ _ _ (start .pre .0) (c .before .before .before .before .before .order5 .given .1)), start .pre .1)
+on-restore-requires c κs = (lies-most _ _ _ _ (lies _ _ _ (c .before .before .before .before .before .before .before .before .before .pre .0) (c .before .before .before .before .before .order6 .given .1)), c .before .before .before .before .before .before .before .before .before .pre .1)
+
+enum-known-order-7 : tie.Need-enum-known-order-7
+enum-known-order-7 c = search needs
+
+sub-on-move : tie.Need-sub-on-move
+sub-on-move c = lies _ _ _ (c .before .before .before .before .before .pre .0) (c .before .order7 .given .1) .0
+
+part-on-move-start : tie.Need-part-on-move-start
+part-on-move-start c = lies _ _ _ (c .before .before .before .before .before .pre .0) (c .before .order7 .given .1) .0
+
+part-on-move-end : tie.Need-part-on-move-end
+part-on-move-end c = lies _ _ _ (c .before .before .before .before .before .pre .0) (c .before .order7 .given .1) .1
+
+on-move-requires : tie.Need-on-move-requires
+on-move-requires c κs = (lies-most _ _ _ _ (lies _ _ _ (c .before .before .before .before .before .before .before .pre .0) (c .before .before .before .order7 .given .1)), c .before .before .before .before .before .before .before .pre .1)
 
 on-event-requires : tie.Need-on-event-requires
-on-event-requires c κs =
-    let start = c .before .before .before .before .before .before in
-    (start .pre .0, written (start .args .order) (c .before .before .before .match .keys10), start .pre .1)
+on-event-requires c κs = (c .before .before .before .before .before .before .pre .0, written (c .before .before .before .before .before .before .args .order) (c .before .before .before .match .keys11), c .before .before .before .before .before .before .pre .1)
 
 returns : tie.Need-returns
 unfolding meant replyTo only counted ascii
@@ -172,20 +184,27 @@ same-length-7 c = search needs
 
 returns-8 : tie.Need-returns-8
 unfolding meant
-returns-8 c = rw (c .before .before .before .before .before .before .enum-told4 .given .1) (c .before .before .on-save .ensures _)
+returns-8 c = rw (c .before .before .before .before .before .before .before .order5 .given .1) (c .before .before .on-save .ensures _)
 
 same-length-8 : tie.Need-same-length-8
 same-length-8 c = search needs
 
 returns-9 : tie.Need-returns-9
 unfolding meant
-returns-9 c = rw (c .before .before .before .before .before .before .before .before .order5 .given .1) (c .before .before .on-restore .ensures _ _)
+returns-9 c = rw (c .before .before .before .before .before .before .before .before .order6 .given .1) (c .before .before .on-restore .ensures _ _)
 
 same-length-9 : tie.Need-same-length-9
 same-length-9 c = search needs
 
 returns-10 : tie.Need-returns-10
-returns-10 c = c .before .before .on-event .ensures _
+unfolding meant
+returns-10 c = rw (c .before .before .before .before .before .before .order7 .given .1) (c .before .before .on-move .ensures _ _)
+
+same-length-10 : tie.Need-same-length-10
+same-length-10 c = search needs
+
+returns-11 : tie.Need-returns-11
+returns-11 c = c .before .before .on-event .ensures _
 
 pub obey-spec : {M : Type 1} → statement M
 obey-spec =
@@ -216,13 +235,18 @@ obey-spec =
     free-labels-requires
     cast-put-count-3
     put-count-requires-4
-    enum-told-4
-    on-save-requires
     enum-known-order-5
+    on-save-requires
+    enum-known-order-6
     sub-on-restore
     part-on-restore-start
     part-on-restore-end
     on-restore-requires
+    enum-known-order-7
+    sub-on-move
+    part-on-move-start
+    part-on-move-end
+    on-move-requires
     on-event-requires
     returns
     same-length
@@ -242,4 +266,6 @@ obey-spec =
     same-length-8
     returns-9
     same-length-9
-    returns-10)
+    returns-10
+    same-length-10
+    returns-11)

@@ -1,7 +1,7 @@
 use native.Mathlib.Omega.{arith}
 use lib.ListN.{length}
 use borrow.Author.Tests.{le-leb, lt-leb}
-use Rattle.bench_verbs.specs.Line.{orderOf, saidBy}
+use Rattle.bench_verbs.specs.Line.{lineLimit, orderOf, saidBy}
 use Rattle.bench_orders.specs.Tells.{meant}
 use Rattle.bench_words.proofs.Words.{word-none, word-some}
 use borrow.Author.Needs.{needs}
@@ -10,14 +10,14 @@ use Rattle.bench_orders.proofs.read_order.Tie as tie
 
 returns : tie.Need-returns
 unfolding orderOf saidBy meant
-returns c = record { means = rw (lt-leb (length (c .before .before .args .line .now)) 65536 (omega arith)); lies = tt }
+returns c = record { means = rw (lt-leb (length (c .before .before .args .line .now)) lineLimit (omega arith)); lies = tt }
 
 next-word-requires : tie.Need-next-word-requires
 next-word-requires c κs = search needs
 
 returns-2 : tie.Need-returns-2
 unfolding orderOf saidBy meant
-returns-2 c = record { means = rw (le-leb (length (c .before .before .before .before .args .line .now)) 65536 (omega arith), word-none (c .before .next-word .ensures) (c .if2 .taken)); lies = tt }
+returns-2 c = record { means = rw (le-leb (length (c .before .before .before .before .args .line .now)) lineLimit (omega arith), word-none (c .before .next-word .ensures) (c .if2 .taken)); lies = tt }
 
 sub-verb-of : tie.Need-sub-verb-of
 sub-verb-of c = search needs
@@ -38,7 +38,7 @@ returns-3 : tie.Need-returns-3
 unfolding orderOf saidBy meant
 returns-3 c =
     let start = c .before .before .before .before .before .before .before in
-    rw (le-leb (length (start .args .line .now)) 65536 (omega arith), word-some (c .before .before .before .before .next-word .ensures) (c .before .before .before .if2 .left), ← c .before .verb-of .ensures) (c .with-words .ensures)
+    rw (le-leb (length (start .args .line .now)) lineLimit (omega arith), word-some (c .before .before .before .before .next-word .ensures) (c .before .before .before .if2 .left), ← c .before .verb-of .ensures) (c .with-words .ensures)
 
 pub read-order-spec : {M : Type 1} → statement M
 read-order-spec =

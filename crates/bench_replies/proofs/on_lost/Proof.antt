@@ -1,6 +1,6 @@
 -- `bench_replies::on_lost` meets its contract: the card's `lost`, told as every order that writes records. Assumes nothing.
 use native.Mathlib.Omega.{arith}
-use Rattle.meaning.specs.Save.{saveLimit}
+use Rattle.meaning.specs.Save.{new, saveLimit}
 use Rattle.meaning.specs.Events.{event, lost}
 use Rattle.memory.specs.Memory.{cardOf}
 use Rattle.bench_words.specs.Words.{ascii}
@@ -18,7 +18,7 @@ put-event-requires c κs =
     let start = output .before .before in
     let all = output .output .ensures in
     let given = lent .lent .ensures .1 in
-    (omega arith, part-fits _ saveLimit (call .lost .ensures .0) (event-fits _ _ _) (omega arith), start .pre)
+    (omega arith, part-fits _ (saveLimit new) (call .lost .ensures .0) (event-fits _ _ _) (omega arith), start .pre)
 
 returns : tie.Need-returns
 unfolding replyTo ascii

@@ -1,4 +1,4 @@
-use mathlib.Core.Path.{refl}
+-- `bench_verbs::requested_verb` meets its contract: the words in turn. Assumes nothing.
 use Rattle.bench_words.specs.Words.{ascii}
 use Rattle.bench_verbs.specs.Line.{requestedVerb}
 use Rattle.bench_verbs.proofs.Chain.{found, passed}
@@ -26,38 +26,12 @@ returns-2 : tie.Need-returns-2
 unfolding requestedVerb ascii
 returns-2 c = passed _ (c .before .before .before .before .equal .ensures) (c .before .before .before .if1 .left) (found _ _ (c .before .equal2 .ensures) (c .if2 .taken))
 
-slice-aggregate-equal-3 : tie.Need-slice-aggregate-equal-3
-slice-aggregate-equal-3 c = search needs
-
-equal-requires-3 : tie.Need-equal-requires-3
-equal-requires-3 c κs = search needs
+save-verb-requires : tie.Need-save-verb-requires
+save-verb-requires c κs = search needs
 
 returns-3 : tie.Need-returns-3
 unfolding requestedVerb ascii
-returns-3 c =
-    let at-if1 = c .before .before .before .before .before .before in
-    let at-equal = at-if1 .before in
-    passed _ (at-equal .equal .ensures) (at-if1 .if1 .left) (passed _ (c .before .before .before .before .equal2 .ensures) (c .before .before .before .if2 .left) (found _ _ (c .before .equal3 .ensures) (c .if3 .taken)))
-
-slice-aggregate-equal-4 : tie.Need-slice-aggregate-equal-4
-slice-aggregate-equal-4 c = search needs
-
-equal-requires-4 : tie.Need-equal-requires-4
-equal-requires-4 c κs = search needs
-
-returns-4 : tie.Need-returns-4
-unfolding requestedVerb ascii
-returns-4 c =
-    let at-if2 = c .before .before .before .before .before .before in
-    let at-if1 = at-if2 .before .before .before in
-    passed _ (at-if1 .before .equal .ensures) (at-if1 .if1 .left) (passed _ (at-if2 .before .equal2 .ensures) (at-if2 .if2 .left) (passed _ (c .before .before .before .before .equal3 .ensures) (c .before .before .before .if3 .left) (found _ _ (c .before .equal4 .ensures) (c .if4 .taken))))
-
-returns-5 : tie.Need-returns-5
-unfolding requestedVerb ascii
-returns-5 c =
-    let at-if2 = c .before .before .before .before .before .before in
-    let at-if1 = at-if2 .before .before .before in
-    passed _ (at-if1 .before .equal .ensures) (at-if1 .if1 .left) (passed _ (at-if2 .before .equal2 .ensures) (at-if2 .if2 .left) (passed _ (c .before .before .before .before .equal3 .ensures) (c .before .before .before .if3 .left) (passed _ (c .before .equal4 .ensures) (c .if4 .left) refl)))
+returns-3 c = passed _ (c .before .before .before .before .before .equal .ensures) (c .before .before .before .before .if1 .left) (passed _ (c .before .before .equal2 .ensures) (c .before .if2 .left) (c .save-verb .ensures))
 
 pub requested-verb-spec : {M : Type 1} → statement M
 requested-verb-spec =
@@ -69,10 +43,5 @@ requested-verb-spec =
     slice-aggregate-equal-2
     equal-requires-2
     returns-2
-    slice-aggregate-equal-3
-    equal-requires-3
-    returns-3
-    slice-aggregate-equal-4
-    equal-requires-4
-    returns-4
-    returns-5)
+    save-verb-requires
+    returns-3)
