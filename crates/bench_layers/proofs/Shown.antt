@@ -7,7 +7,7 @@ use lib.ListN.{length, take, drop, length-drop, length-take}
 use lib.Seq.{take-all}
 use borrow.Author.Tests.{eq-eqb, ne-eqb}
 use Rattle.meaning.specs.Wire.{rootLength, rootIn, opaqueIn, elementRefusal}
-use Rattle.meaning.specs.RoundTrip.{whole}
+use Rattle.meaning_laws.specs.RoundTrip.{whole}
 use Rattle.meaning_layers.specs.Layers.{beforeInner, eightIn, innerOf, layerOf, under, peel, read}
 use Rattle.meaning_layers.specs.LayerLaws.{inner-named}
 use Rattle.meaning_layers.specs.InnerStart.{innerStart, start-not, start-more, start-inner, peel-end, peel-part}

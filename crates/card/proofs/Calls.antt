@@ -10,7 +10,7 @@ use borrow.Author.Tests.{eq-eqb, ne-eqb, eqb-true, le-leb, lt-leb, le-ltb, lt-lt
 use Rattle.meaning.specs.Octets.{_when_else_}
 use Rattle.meaning.specs.Lists.{positive, by-test}
 use Rattle.meaning.specs.Wire.{Message, mapping, withdraw, release, messageIn, messageRefusal, elementRefusal, nameLimit}
-use Rattle.meaning.specs.RoundTrip.{heard, name-fits}
+use Rattle.meaning_laws.specs.RoundTrip.{heard, name-fits}
 use Rattle.meaning.specs.Card.{Card, fresh, withNext}
 use Rattle.meaning.specs.Events.{Outcome, refused, unless, refuse, accept, finish, onMapping, onWithdraw, onRelease, onMessage, noNeighbour, onOctets, onJoin, onLeave, notRoute, notRoot, onRoute, part, onLost, receive, join, leave, route, lost, outcome, event, baseOutside, start}
 use Rattle.meaning.specs.Calls.{Does}

@@ -11,7 +11,7 @@ use Rattle.meaning.specs.Octets.{place}
 use Rattle.meaning.specs.Lists.{by-test, getD-out, set-replicate}
 use Rattle.meaning.specs.Wire.{rootIn, elementRefusal}
 use Rattle.meaning.specs.Card.{Card, Tree, Use, free, mapped, awaiting, Feed, noRoute, bare, treePlace, treeAt, isBranch, notHeld, mappedTo, useOf, routeOf, Branch, nothing, branchesFrom, feedOf, carries, carrier, feedOfUse, lookupLabel, lookupName, labelCount}
-use Rattle.meaning.specs.Standing.{standing-at, not-standing}
+use Rattle.meaning_laws.specs.Standing.{standing-at, not-standing}
 use Rattle.octets.specs.Part.{tab}
 use Rattle.octets.proofs.Tab.{tab-length}
 use Rattle.memory.specs.Memory.{cardOf, baseIn, treeCount, markAt, markUse, isFreeAt, labelIn}

@@ -11,7 +11,7 @@ use Rattle.meaning.specs.Lists.{by-test, picked}
 use Rattle.meaning.specs.Wire.{records, idsAfter}
 use Rattle.meaning.specs.Card.{Card, withNext, treeAt, leadsOn, heldFor}
 use Rattle.meaning.specs.Events.{Moved, still, followedBy, letGo, holder, finish, parted, shed, shedFrom, sweptBelow, part}
-use Rattle.meaning.specs.Losses.{parted-size, loss-size}
+use Rattle.meaning_laws.specs.Losses.{parted-size, loss-size}
 use Rattle.meaning.specs.Calls.{Does}
 use Rattle.octets.specs.Part.{mid}
 use Rattle.memory.specs.Memory.{cardOf, treeCount}

@@ -9,7 +9,7 @@ use Rattle.meaning.specs.Lists.{by-test}
 use Rattle.meaning.specs.Wire.{recordSize}
 use Rattle.meaning.specs.Card.{Tree, Card, withBranch, withLeaf, treeAt, leadsOn, mappedTo, heldFor}
 use Rattle.meaning.specs.Events.{holder}
-use Rattle.meaning.specs.Losses.{lossSize}
+use Rattle.meaning_laws.specs.Losses.{lossSize}
 use Rattle.memory.specs.Memory.{cardOf, baseIn, treeCount, carriesAt, ownPlace, markAt, markUse}
 use Rattle.memory.proofs.Memory.{base-range}
 use Rattle.memory.proofs.Marks.{mapped-use, label-mapped, carried-out}

@@ -3,7 +3,7 @@ use Prim.Native.Nat.{ℕ}
 use lib.ListN.{length}
 use Rattle.meaning.specs.Card.{Card}
 use Rattle.meaning.specs.Events.{Moved, sumFrom, parted, shedFrom, sweptBelow}
-use Rattle.meaning.specs.Losses.{lossSize}
+use Rattle.meaning_laws.specs.Losses.{lossSize}
 
 -- all that is n's has gone, labels that lead nowhere are given up, empty trees have gone
 unfoldable pub lostTo : Card → ℕ → Moved

@@ -7,7 +7,7 @@ ghost use lib.ListN.{length};
 ghost use Rattle.meaning.specs.Wire.{records, recordLimit};
 ghost use Rattle.meaning.specs.Card.{treeAt, treeLimit};
 ghost use Rattle.meaning.specs.Events.{finish, swept, shed, shedFrom, sweptBelow, part};
-ghost use Rattle.meaning.specs.Losses.{lossSize};
+ghost use Rattle.meaning_laws.specs.Losses.{lossSize};
 ghost use Rattle.meaning.specs.Calls.{Does};
 ghost use Rattle.memory.specs.Sizes.{Numbers, Names};
 ghost use Rattle.memory.specs.Memory.{cardOf, treeCount};

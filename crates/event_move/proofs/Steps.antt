@@ -7,7 +7,7 @@ use lib.ListN.{getD, length}
 use borrow.Author.Tests.{eq-eqb, ne-eqb, le-leb}
 use Rattle.meaning.specs.Wire.{recordOf, nextId, records, idsAfter, recordSize}
 use Rattle.meaning.specs.Card.{Card, Use, free, mapped, withTrees, withLabels, withLast, treeAt, useOf, heldFor, freeLabels, nextFree, labelCount}
-use Rattle.meaning.specs.NextFree.{nextPlace, next-free}
+use Rattle.meaning_laws.specs.NextFree.{nextPlace, next-free}
 use Rattle.meaning.specs.Events.{still, tell, setUse, setLabel, ended, giveUp, give, letGo, takeUp, moveLabel, relabel, needMove}
 use Rattle.octets.specs.Part.{mid}
 use Rattle.memory.specs.Memory.{cardOf, baseIn, treeCount, labelBefore}

@@ -10,7 +10,7 @@ use Rattle.meaning.specs.Octets.{pick, cut}
 use Rattle.meaning.specs.Lists.{by-test}
 use Rattle.meaning.specs.Card.{Route, Tree, Card, noEntry, withRoutes, withTrees, withLabels, withBranch, withLabel, heldFor, useOf}
 use Rattle.meaning.specs.Events.{usesWithout, treeWithout, treesWithout, recountedWithout, routesWithout, parted}
-use Rattle.meaning.specs.Losses.{routesBelow, routes-below}
+use Rattle.meaning_laws.specs.Losses.{routesBelow, routes-below}
 use Rattle.octets.proofs.Tab.{tab-get}
 use Rattle.memory.specs.Memory.{cardOf, routeCount, routeIn}
 use Rattle.memory.proofs.Memory.{routes-length}

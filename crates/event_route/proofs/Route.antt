@@ -12,8 +12,8 @@ use Rattle.meaning.specs.Lists.{by-test, getD-out}
 use Rattle.meaning.specs.Wire.{records, idsAfter}
 use Rattle.meaning.specs.Card.{Route, Tree, Card, noRoute, noEntry, withNext, withRoutes, routePlace, routeOf, treeAt, freeLabels, routeLimit}
 use Rattle.meaning.specs.Events.{taken, unless, finish, still, labelsShort, upstream, moveOne, moveFrom, moveAll, sumFrom, needAll, workedOut, entryOf, entryWith, routesWith, quickNo, runsOut, routesFull, routeRefusal, reRoute}
-use Rattle.meaning.specs.RoutesStay.{all-routes}
-use Rattle.meaning.specs.Counts.{twelve-cases}
+use Rattle.meaning_laws.specs.RoutesStay.{all-routes}
+use Rattle.meaning_laws.specs.Counts.{twelve-cases}
 use Rattle.meaning.specs.Calls.{Does}
 use Rattle.octets.proofs.Parts.{mid-none}
 use Rattle.octets.proofs.Tab.{tab-get}

@@ -12,8 +12,8 @@ use Rattle.meaning.specs.Lists.{picked}
 use Rattle.meaning.specs.Wire.{Sent}
 use Rattle.meaning.specs.Card.{Route, Tree, Card, free, nobody, withRoutes, withTrees, withLabels, withLast, treePlace, treeOf, treeAt, isEmpty, heldFor, useOf, turn, nextFree}
 use Rattle.meaning.specs.Events.{taken, Moved, still, followedBy, setUse, setLabel, giveUp, give, letGo, takeUp, moveLabel, relabel, recount, recounted, holderOf, entered, swept, enter}
-use Rattle.meaning.specs.RoutesStay.{relabel-routes}
-use Rattle.meaning.specs.Standing.{standing-at, standing-name}
+use Rattle.meaning_laws.specs.RoutesStay.{relabel-routes}
+use Rattle.meaning_laws.specs.Standing.{standing-at, standing-name}
 use Rattle.memory.specs.Memory.{cardOf, treeCount, baseIn}
 use Rattle.memory.proofs.Memory.{trees-length, base-range}
 

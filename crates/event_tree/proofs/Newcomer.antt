@@ -12,8 +12,8 @@ use Rattle.meaning.specs.Lists.{append-nil, by-test, getD-all}
 use Rattle.meaning.specs.Wire.{Sent, records, rootIn, recordSize}
 use Rattle.meaning.specs.Card.{Route, Tree, Card, free, nobody, withRoutes, withTrees, bare, treePlace, treeOf, treeAt, stands, isBranch, isEmpty, notHeld, leadsOn, mappedTo, useOf, heldFor, freeLabels, treeLimit, routeOf}
 use Rattle.meaning.specs.Events.{Outcome, taken, unless, finish, Moved, still, followedBy, letGo, takeUp, moveLabel, relabel, needMove, need, labelsShort, upstream, holder, recounted, holderOf, entered, swept, treesFull, treeRefusal, enter, become}
-use Rattle.meaning.specs.Standing.{not-standing}
-use Rattle.meaning.specs.Counts.{recount-still}
+use Rattle.meaning_laws.specs.Standing.{not-standing}
+use Rattle.meaning_laws.specs.Counts.{recount-still}
 use Rattle.meaning.specs.Calls.{Does}
 use Rattle.octets.proofs.Tab.{put-end, cut-end}
 use Rattle.event_move.proofs.Alike.{take-up-stays, alike-empty}

@@ -12,8 +12,8 @@ use borrow.Author.Tests.{eqb-true, ltb-true}
 use Rattle.meaning.specs.Octets.{two, twoAt}
 use Rattle.meaning.specs.Wire.{addressLength, familyIn, rootLength, opaqueLength, rootIn, opaqueIn, isElement, elementRefusal, element}
 use Rattle.meaning.specs.Lists.{by-test}
-use Rattle.meaning.specs.RoundTrip.{both, element-ok, two-back}
-use Rattle.meaning.specs.WireLaws.{element-whole}
+use Rattle.meaning_laws.specs.RoundTrip.{both, element-ok, two-back}
+use Rattle.meaning_laws.specs.WireLaws.{element-whole}
 
 -- ---- reading what was made
 

@@ -14,9 +14,9 @@ use Rattle.meaning.specs.Octets.{pick, two, twoAt, _when_else_}
 use Rattle.meaning.specs.Wire.{addressLength, familyIn, rootLength, rootIn, opaqueIn, isElement, opaqueLimit, isOpaque, headLength, firstEnd, isFilled, elementRefusal, element}
 use Rattle.meaning.specs.Events.{notRoot}
 use Rattle.meaning.specs.Lists.{by-test, no-when}
-use Rattle.meaning.specs.RoundTrip.{both, element-ok, whole, two-back, root-size, element-parts}
-use Rattle.meaning.specs.WireLaws.{end-more, filled-end, filled-step, element-0}
-use Rattle.meaning.specs.SaveLists.{either}
+use Rattle.meaning_laws.specs.RoundTrip.{both, element-ok, whole, two-back, root-size, element-parts}
+use Rattle.meaning_laws.specs.WireLaws.{end-more, filled-end, filled-step, element-0}
+use Rattle.meaning_laws.specs.SaveLists.{either}
 use Rattle.meaning_layers.specs.Layers.{plainKind, eightKind, beforeInner, eightIn, innerIn, wraps, isLast, innerOf, Layer, layerOf, holding, familyOf, wrapped, notEight, wrapRefusal, wrap, unwrapRefusal, noLayer, unwrap}
 use Rattle.meaning_layers.specs.ElementLaws.{made-root, made-opaque, made-element, root-cases}
 

@@ -10,7 +10,7 @@ use lib.ListN.{length, length-drop}
 use borrow.Author.Tests.{not-false}
 use Rattle.meaning.specs.Wire.{rootLength, rootIn, opaqueIn, elementRefusal}
 use Rattle.meaning.specs.Lists.{by-test}
-use Rattle.meaning.specs.RoundTrip.{whole}
+use Rattle.meaning_laws.specs.RoundTrip.{whole}
 use Rattle.meaning_layers.specs.Layers.{beforeInner, eightIn, innerIn, isLast, innerOf, Layer, layerOf, Peeled, under, peelF, peel, wrapped, wrap, wrapAll}
 use Rattle.meaning_layers.specs.ElementLaws.{root-cases}
 use Rattle.meaning_layers.specs.LayerLaws.{name-long, Wrappable, wrapped-not-last, wrapped-inner, wrapped-layer, wraps-so, inner-named, wrapped-back, wrap-taken}

@@ -14,7 +14,7 @@ use Rattle.meaning.specs.Wire.{rootLimit}
 use Rattle.meaning.specs.Card.{Card, routeLimit}
 use Rattle.meaning.specs.Events.{noNeighbour}
 use Rattle.meaning.specs.Save.{spaced, spacedIn}
-use Rattle.meaning.specs.SaveFields.{spaced-length, spaced-back}
+use Rattle.meaning_laws.specs.SaveFields.{spaced-length, spaced-back}
 use Rattle.meaning_plan.specs.Plan.{Move, Allowed, accepts, Verdict, refusal, rejected, accepted, Plan, planned}
 
 -- ---- the permitted sets: 19 octets each, the set's 16 bits in two octets and the root

@@ -8,9 +8,9 @@ use lib.ListN.{length}
 use lib.Dec.{eqb, ltb}
 use borrow.Author.Tests.{eqb-true}
 use Rattle.meaning.specs.Lists.{by-test}
-use Rattle.meaning.specs.RoundTrip.{both}
+use Rattle.meaning_laws.specs.RoundTrip.{both}
 use Rattle.meaning.specs.Card.{Tree, treeAt, labelCount}
-use Rattle.meaning.specs.Losses.{Apart}
+use Rattle.meaning_laws.specs.Losses.{Apart}
 use Rattle.octets.proofs.Tab.{tab-length, tab-get}
 use Rattle.memory.specs.Memory.{baseIn, treeCount, isMappedAt, markAt, markPlace, ownPlace, carriesAt, ownLabel, treeIn, cardOf}
 use Rattle.memory.proofs.Memory.{base-range}

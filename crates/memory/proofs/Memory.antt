@@ -9,7 +9,7 @@ use lib.Dec.{leb, ltb}
 use borrow.Author.Tests.{le-ltb, ltb-true, ltb-false, leb-true, not-false}
 use Rattle.meaning.specs.Wire.{rootLimit, nameLimit}
 use Rattle.meaning.specs.Lists.{by-test}
-use Rattle.meaning.specs.RoundTrip.{both}
+use Rattle.meaning_laws.specs.RoundTrip.{both}
 use Rattle.meaning.specs.Card.{Route, Tree, Use, labelCount, withLabel, withRoutes, withTrees, withLabels, bare, treeAt, treeLimit, routeLimit}
 use Rattle.meaning.specs.Events.{baseOutside}
 use Rattle.octets.specs.Part.{tab}

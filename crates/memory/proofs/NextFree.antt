@@ -9,7 +9,7 @@ use lib.Count.{trailingZeros}
 use borrow.Author.Tests.{lt-ltb, le-ltb}
 use Rattle.meaning.specs.Octets.{place, placeFrom}
 use Rattle.meaning.specs.Card.{turn, isFree, labelCount}
-use Rattle.meaning.specs.NextFree.{nextPlace}
+use Rattle.meaning_laws.specs.NextFree.{nextPlace}
 use Rattle.octets.specs.Part.{tab}
 use Rattle.octets.proofs.Tab.{place-none}
 use Rattle.octets.proofs.Bits.{trailing-bit, trailing-wide, shifted-below, Says, says-shifted, place-word, place-empty}

@@ -14,7 +14,7 @@ use Rattle.meaning.specs.Lists.{by-test, positive}
 use Rattle.meaning.specs.Wire.{rootIn}
 use Rattle.meaning.specs.Card.{Route, Tree, Card, noEntry, withRoutes, withTrees, withCounts, routePlace, isFor, bare, treeAt, isBranch, isEmpty, isLone}
 use Rattle.meaning.specs.Events.{ofRoot, total, inRoot, oneStanding, oneLone, changed, recountedFor, recount, recounted}
-use Rattle.meaning.specs.Counts.{recount-still}
+use Rattle.meaning_laws.specs.Counts.{recount-still}
 use Rattle.octets.proofs.Tab.{tab-get}
 use Rattle.memory.specs.Memory.{cardOf, routeCount, treeCount, routeIn}
 use Rattle.memory.proofs.Memory.{trees-length}

@@ -5,7 +5,7 @@ ghost use mathlib.Core.List.{List};
 ghost use Prim.Native.Nat.{ℕ, _+_, _*_, _-_, _≤_, _<_};
 ghost use Rattle.meaning.specs.Card.{isFree, isAwaiting, mappedTo, useOf, freeLabels, free, awaiting, labelCount};
 ghost use Rattle.meaning.specs.Events.{setUse, labelsShort};
-ghost use Rattle.meaning.specs.NextFree.{nextPlace};
+ghost use Rattle.meaning_laws.specs.NextFree.{nextPlace};
 ghost use Rattle.memory.specs.Sizes.{Numbers, Names, wordCount};
 ghost use Rattle.memory.specs.Memory.{cardOf, baseIn, labelName, isFreeAt, isMappedAt, labelIn, Relabelled, InBlock, FirstFree};
 use meaning::LABEL_COUNT;

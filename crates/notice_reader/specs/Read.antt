@@ -6,7 +6,7 @@ use Prim.Native.Nat.{ℕ, _≤_, _<_}
 use lib.Dec.{eqb}
 use Rattle.meaning.specs.Octets.{pick}
 use Rattle.meaning.specs.Notice.{statusOf, copiedId, copiedType, noticeDue, noticeRecord, Notice, noticeIn, noticeRefusal}
-use Rattle.meaning.specs.NoticeLaws.{Octets, read-back, not-refused}
+use Rattle.meaning_laws.specs.NoticeLaws.{Octets, read-back, not-refused}
 use Rattle.notice_reader.specs.declared.Read.{Read}
 use Rattle.notice_reader.specs.declared.Read.the-variants.{Refused, Says}
 

@@ -13,7 +13,7 @@ use Rattle.meaning.specs.Card.{Card, withNext}
 use Rattle.meaning.specs.Events.{refuse, accept}
 use Rattle.meaning.specs.Calls.{over, Does}
 use Rattle.meaning.specs.Notice.{statusOf, statusCode, copiedId, copiedType, noticeDue, statusValue, noticeOctets, noticeRecord, notice}
-use Rattle.meaning.specs.NoticeLaws.{record-length, far, silent, short, tells}
+use Rattle.meaning_laws.specs.NoticeLaws.{record-length, far, silent, short, tells}
 use Rattle.octets.specs.Part.{mid}
 use Rattle.octets.proofs.Parts.{mid-mid}
 use Rattle.notice_status.proofs.Status.{heeded}

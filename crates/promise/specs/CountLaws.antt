@@ -14,7 +14,7 @@ use Rattle.meaning.specs.Wire.{rootIn}
 use Rattle.meaning.specs.Card.{Route, Tree, Card, noRoute, noEntry, withBranch, withLabel, isFor, routePlace, bare, isBranch, isEmpty, isLone}
 use Rattle.meaning.specs.Events.{ofRoot, total, inRoot, oneStanding, oneLone, workedOut, entryOf, changed, recountedFor, recount, entryWith, routesWith, treeWithout, treesWithout, recountedWithout, routesWithout}
 use Rattle.meaning.specs.Lists.{by-test, picked, getD-same, getD-out, place-finds, same-eq, same-refl, found-put, found-cut, other-put, other-cut, any-count}
-use Rattle.meaning.specs.Counts.{plains, plain-count, plain-place, plain-length, recount-plain, without-plain, changed-true, standing-most, lone-most, Counted}
+use Rattle.meaning_laws.specs.Counts.{plains, plain-count, plain-place, plain-length, recount-plain, without-plain, changed-true, standing-most, lone-most, Counted}
 use Rattle.promise.specs.CardLaws.{shape}
 use Rattle.promise.specs.PartedLaws.{route-found}
 

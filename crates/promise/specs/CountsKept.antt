@@ -11,8 +11,8 @@ use Rattle.meaning.specs.Octets.{pick, count, _when_else_}
 use Rattle.meaning.specs.Card.{Tree, Card, noEntry, bare, treeAt, isEmpty, isLone, routeOf}
 use Rattle.meaning.specs.Events.{Outcome, taken, unless, labelsShort, upstream, ofRoot, total, inRoot, oneStanding, oneLone, needAll, notRoute, notRoot, routesFull, routeShort, runsOut, reRoute, onRoute, route, outcome}
 use Rattle.meaning.specs.Lists.{by-test}
-use Rattle.meaning.specs.Counts.{Counted, quick-exact, counted-twelve}
-use Rattle.meaning.specs.SaveCounts.{counted-place}
+use Rattle.meaning_laws.specs.Counts.{Counted, quick-exact, counted-twelve}
+use Rattle.meaning_laws.specs.SaveCounts.{counted-place}
 use Rattle.promise.specs.Promise.{Step, begun, history}
 use Rattle.promise.specs.RuleLaws.{Ruled}
 use Rattle.promise.specs.PromiseProof.{history-upheld}

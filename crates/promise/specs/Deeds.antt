@@ -12,8 +12,8 @@ use Rattle.meaning.specs.Events.{Out, refuse, accept, roomShort, noNeighbour, h
 use Rattle.meaning.specs.Save.{Form, saved, save, ruled, isSave, restore, fitsSave}
 use Rattle.meaning.specs.Notice.{noticeDue, noticeRecord, notice}
 use Rattle.meaning.specs.Lists.{picked}
-use Rattle.meaning.specs.Counts.{Counted, counted-same}
-use Rattle.meaning.specs.NoticeLaws.{spread, record-spread}
+use Rattle.meaning_laws.specs.Counts.{Counted, counted-same}
+use Rattle.meaning_laws.specs.NoticeLaws.{spread, record-spread}
 use Rattle.promise.specs.Promise.{Given, noteSent, noteAll, Step, Past, thenStep, begun, Promise}
 use Rattle.promise.specs.LabelLaws.{spent-eq}
 use Rattle.promise.specs.PromiseProof.{Upheld, then-upheld, started, kept}

@@ -14,8 +14,8 @@ use Rattle.meaning.specs.Card.{Tree, Use, free, mapped, awaiting, Card, nobody,
 use Rattle.meaning.specs.Events.{Outcome, refused, taken, unless, Moved, tell, setUse, relabel, need, labelsShort, upstream, holderOf, entered, swept, treesFull, treeRefusal, enter, become, branch, otherLabel, onMapping, lessBranch, onWithdraw, notAwaited, onRelease, onMessage, noNeighbour, onOctets, onJoin, onLeave, moveAll, needAll, routesWith, routeRefusal, reRoute, onRoute, Event, receive, join, leave, route, outcome, part, onLost, lost, total, inRoot, workedOut, entryOf, recounted}
 use Rattle.promise.specs.Promise.{Given, remove, noteSent, noteAll, noteTaken, NoneLive, AllMapped, useBut, Untouched, without}
 use Rattle.meaning.specs.Lists.{by-test, picked, same-eq, count-new, no-when}
-use Rattle.meaning.specs.RoundTrip.{Heard, heard, AllSendable, sendable-append}
-use Rattle.meaning.specs.Counts.{plains, plain-length, plain-count, recount-plain, counted-same, enough-labels}
+use Rattle.meaning_laws.specs.RoundTrip.{Heard, heard, AllSendable, sendable-append}
+use Rattle.meaning_laws.specs.Counts.{plains, plain-length, plain-count, recount-plain, counted-same, enough-labels}
 use Rattle.promise.specs.CountLaws.{Tally, found, same-shapes, with-another, one-true, counted-of}
 use Rattle.promise.specs.LiveLaws.{linked-eq, upd, free-linked, books-eq, books-remove, books-removed}
 use Rattle.promise.specs.CardLaws.{use-after, in-block, shape, Proper, tree-name, tree-sized, entered-is, entered-tidy, put-within, swept-use, swept-routes, untouched-then, entered-untouched, swept-untouched, used-untouched}

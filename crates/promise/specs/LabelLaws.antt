@@ -15,7 +15,7 @@ use Rattle.meaning.specs.Card.{Tree, Use, free, mapped, awaiting, Card, nobody,
 use Rattle.meaning.specs.Events.{Moved, still, followedBy, setUse, setLabel, ended, giveUp, give, letGo, takeUp, moveLabel, relabel, needMove, need, holder, ofRoot, moveOne, moveFrom, moveAll, needOne, sumFrom, needAll}
 use Rattle.promise.specs.Promise.{Given, noteSent, noteAll, NoneLive, AllMapped, useBut, Untouched}
 use Rattle.meaning.specs.Lists.{by-test, picked, same-eq, same-refl, count-set, count-less}
-use Rattle.meaning.specs.RoundTrip.{AllSendable, sendable-append}
+use Rattle.meaning_laws.specs.RoundTrip.{AllSendable, sendable-append}
 use Rattle.promise.specs.LiveLaws.{isMapped, mapped-near, mapped-eq, stray-not, Linked, linked-eq, upd, carry, up-linked, give-linked, up-keeps, give-keeps, Books, books-eq, books-free, books-give, books-mark, books-standing, mark-length}
 use Rattle.promise.specs.CardLaws.{use-after, in-block, shape, Proper, Tidy, at-proper, at-place, at-named, labelled-is, labelled-tidy, labelled-at, untouched-same, untouched-then, untouched-last, labelled-untouched, used-untouched, next-within, next-use, next-from, next-free}
 

@@ -13,8 +13,8 @@ use Rattle.meaning.specs.Wire.{withdraw, Sent}
 use Rattle.meaning.specs.Card.{Tree, Route, Use, free, mapped, awaiting, Card, withRoutes, withTrees, withLabels, treeOf, treeAt, leadsOn, mappedTo, useOf, heldFor, withBranch, withLabel}
 use Rattle.meaning.specs.Events.{Outcome, taken, unless, Moved, still, followedBy, setUse, setLabel, ended, giveUp, letGo, branch, noNeighbour, swept, isOf, freedOf, routesWithout, parted, shed, shedFrom, sweptBelow, part, onLost, lost, outcome}
 use Rattle.meaning.specs.Lists.{by-test, picked}
-use Rattle.meaning.specs.RoutesStay.{part-routes}
-use Rattle.meaning.specs.Losses.{parted-use}
+use Rattle.meaning_laws.specs.RoutesStay.{part-routes}
+use Rattle.meaning_laws.specs.Losses.{parted-use}
 use Rattle.promise.specs.CardLaws.{shape, swept-use}
 use Rattle.promise.specs.Promise.{Given, Step, history}
 use Rattle.promise.specs.LabelLaws.{Sound}

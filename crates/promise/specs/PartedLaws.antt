@@ -14,8 +14,8 @@ use Rattle.meaning.specs.Wire.{elementRefusal}
 use Rattle.meaning.specs.Card.{Tree, Route, Use, free, mapped, awaiting, Card, noRoute, noEntry, withRoutes, withTrees, withLabels, withBranch, withLabel, isFor, routePlace, routeOf, treeOf, isFree, mappedTo, useOf, heldFor, freeLabels}
 use Rattle.meaning.specs.Events.{isOf, freedOf, treeWithout, treesWithout, recountedWithout, routesWithout, parted}
 use Rattle.meaning.specs.Lists.{by-test, picked, found-none}
-use Rattle.meaning.specs.Losses.{freed-free, uses-length, parted-use, without-name, without-size, trees-count, parted-tree}
-use Rattle.meaning.specs.Counts.{plains, plain-count, plain-route, without-plain}
+use Rattle.meaning_laws.specs.Losses.{freed-free, uses-length, parted-use, without-name, without-size, trees-count, parted-tree}
+use Rattle.meaning_laws.specs.Counts.{plains, plain-count, plain-route, without-plain}
 use Rattle.promise.specs.Promise.{Given, ofLabel, without}
 use Rattle.promise.specs.LiveLaws.{isMapped, stray, Linked, linked-eq, only, givens, Books, books-eq}
 use Rattle.promise.specs.CardLaws.{shape, Proper, AllProper, Tidy}

@@ -16,10 +16,10 @@ use Rattle.meaning.specs.Card.{Tree, Use, free, mapped, awaiting, Card, fresh, 
 use Rattle.meaning.specs.Events.{Out, Outcome, refused, taken, refuse, accept, roomShort, finish, upstream, holder, holderOf, branch, lessBranch, Event, receive, join, leave, route, outcome, event, baseOutside, start, otherLabel, lost}
 use Rattle.promise.specs.Promise.{Given, ofLabel, isAbout, isWithdrawn, Demand3, noteAll, noteTaken, leafBy, branchesBy, routeBy, feedBy, Step, Past, answerTo, sends, thenStep, thenSteps, history, Each, NoneLive, AllMapped, Leads, Promise, saidBy, branchesSaid, branchesTo, isTaken, liveAt, acceptedAt, Untouched, begun, withoutLabel}
 use Rattle.meaning.specs.Lists.{getD-same, by-test, picked, place-finds, place-count, same-eq, same-refl, getD-out, getD-all, count-some, set-replicate}
-use Rattle.meaning.specs.Counts.{counted-same, new-counted}
-use Rattle.meaning.specs.RoundTrip.{both, AllSendable, records-back}
-use Rattle.meaning.specs.Refusals.{refusal-keeps}
-use Rattle.meaning.specs.Standing.{standing-at, not-standing}
+use Rattle.meaning_laws.specs.Counts.{counted-same, new-counted}
+use Rattle.meaning_laws.specs.RoundTrip.{both, AllSendable, records-back}
+use Rattle.meaning_laws.specs.Refusals.{refusal-keeps}
+use Rattle.meaning_laws.specs.Standing.{standing-at, not-standing}
 use Rattle.promise.specs.LiveLaws.{isMapped, mapped-near, stray, Linked, mapped-one, mapped-not-free, Books, only, givens, count-only, books-one, books-none, each-only}
 use Rattle.promise.specs.CardLaws.{shape, tree-name, tree-sized, Proper, Tidy, AllProper, at-proper, at-named, untouched-same}
 use Rattle.promise.specs.LabelLaws.{Sound, spent-eq}

@@ -10,8 +10,8 @@ use Rattle.meaning.specs.Wire.{Message, messageIn, mapping, withdraw, release, 
 use Rattle.meaning.specs.Card.{noRoute, Tree, Card, free, withRoutes, withTrees, withLabels, routeOf, routePlace, treePlace, freeLabels, treeOf}
 use Rattle.meaning.specs.Events.{Outcome, refused, taken, unless, Moved, setUse, relabel, upstream, holderOf, entered, swept, enter, become, onMapping, onWithdraw, onRelease, onMessage, onOctets, onJoin, onLeave, moveAll, needAll, routesWith, routeRefusal, reRoute, onRoute, Event, receive, join, leave, route, outcome, noNeighbour, parted, part, onLost, lost, recounted}
 use Rattle.meaning.specs.Lists.{by-test, picked, same-eq, no-when}
-use Rattle.meaning.specs.RoutesStay.{relabel-routes}
-use Rattle.meaning.specs.Counts.{plains, plain-route, recount-plain, enough-labels}
+use Rattle.meaning_laws.specs.RoutesStay.{relabel-routes}
+use Rattle.meaning_laws.specs.Counts.{plains, plain-route, recount-plain, enough-labels}
 use Rattle.promise.specs.Promise.{Given}
 use Rattle.promise.specs.CardLaws.{swept-routes}
 use Rattle.promise.specs.LabelLaws.{Sound}

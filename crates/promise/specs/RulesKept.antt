@@ -12,13 +12,13 @@ use Rattle.meaning.specs.Octets.{count, any, _when_else_}
 use Rattle.meaning.specs.Wire.{rootIn, elementRefusal, mapping, withdraw, release, Message, messageIn, messageRefusal, Sent}
 use Rattle.meaning.specs.Card.{withTrees, named, treeAt, useOf, routeOf, Tree, Card, nobody, withBranch, withLeaf, isFor, treePlace, treeOf, stands, bare, isBranch, isEmpty, notHeld, leadsOn, heldFor, freeLabels}
 use Rattle.meaning.specs.Events.{taken, unless, Moved, still, upstream, holder, tell, relabel, entered, swept, needMove, need, labelsShort, holderOf, treesFull, treeRefusal, enter, become, branch, lessBranch, onWithdraw, onMessage, noNeighbour, onOctets, notLeaf, onLeave, receive, leave, outcome, recounted}
-use Rattle.meaning.specs.Standing.{standing-at, not-standing}
+use Rattle.meaning_laws.specs.Standing.{standing-at, not-standing}
 use Rattle.promise.specs.Promise.{Given, Step, history}
 use Rattle.meaning.specs.Lists.{by-test, picked}
-use Rattle.meaning.specs.RoundTrip.{both}
+use Rattle.meaning_laws.specs.RoundTrip.{both}
 use Rattle.promise.specs.CardLaws.{tree-name}
 use Rattle.promise.specs.LabelLaws.{Sound}
-use Rattle.meaning.specs.Counts.{any-set-zero}
+use Rattle.meaning_laws.specs.Counts.{any-set-zero}
 use Rattle.promise.specs.RuleLaws.{Ruled, held-named, bare-empty, any-set-two, neither}
 use Rattle.promise.specs.EventLaws.{getD-put, less-name, less-label}
 use Rattle.promise.specs.PromiseProof.{history-upheld}

@@ -12,11 +12,11 @@ use Rattle.meaning.specs.Wire.{mapping, withdraw, release, Message, messageIn, 
 use Rattle.meaning.specs.Card.{noRoute, Route, Tree, free, Card, withNext, withRoutes, withTrees, withLabels, treePlace, routeOf, routePlace, treeOf}
 use Rattle.meaning.specs.Events.{Out, Outcome, refused, taken, unless, refuse, accept, roomShort, finish, Moved, setUse, relabel, holderOf, entered, swept, enter, become, onMapping, onWithdraw, onRelease, onMessage, noNeighbour, onOctets, onJoin, onLeave, routesWith, notRoute, notRoot, reRoute, onRoute, Event, receive, join, leave, route, outcome, event, routesWithout, parted, part, onLost, lost, recounted, entryWith}
 use Rattle.meaning.specs.Lists.{by-test, picked, no-when}
-use Rattle.meaning.specs.RoundTrip.{Heard, heard, Sendable, AllSendable}
-use Rattle.meaning.specs.RoutesStay.{relabel-routes, part-routes}
-use Rattle.meaning.specs.Counts.{plain, plains, recount-plain, without-plain}
+use Rattle.meaning_laws.specs.RoundTrip.{Heard, heard, Sendable, AllSendable}
+use Rattle.meaning_laws.specs.RoutesStay.{relabel-routes, part-routes}
+use Rattle.meaning_laws.specs.Counts.{plain, plains, recount-plain, without-plain}
 use Rattle.meaning.specs.Save.{isRoute}
-use Rattle.meaning.specs.SaveFields.{all-cons}
+use Rattle.meaning_laws.specs.SaveFields.{all-cons}
 use Rattle.promise.specs.Promise.{Given, isAbout, mark, remove, noteSent, noteAll, noteTaken, Step, Past, answerTo, sends, isTaken, liveAt, acceptedAt, thenStep, thenSteps, Each, without}
 use Rattle.promise.specs.CardLaws.{swept-routes}
 use Rattle.promise.specs.EventLaws.{became, Apart, Keeps, event-keeps}

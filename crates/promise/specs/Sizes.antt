@@ -13,7 +13,7 @@ use Rattle.meaning.specs.Wire.{Sent, recordOf, nextId, records, recordLimit}
 use Rattle.meaning.specs.Card.{Card, nobody, treeLimit, routeLimit, labelCount, treeAt, routeOf, sentLimit, leadsOn, heldFor}
 use Rattle.meaning.specs.Events.{Outcome, refused, taken, unless, refuse, accept, roomShort, finish, Moved, still, followedBy, giveUp, give, letGo, takeUp, moveLabel, upstream, holder, ofRoot, moveOne, moveFrom, moveAll, reRoute, onRoute, parted, shed, shedFrom, part, onLost, noNeighbour, Event, route, lost, outcome, event}
 use Rattle.meaning.specs.Lists.{by-test, picked}
-use Rattle.meaning.specs.RoundTrip.{AllSendable, Sendable, message-length, name-fits}
+use Rattle.meaning_laws.specs.RoundTrip.{AllSendable, Sendable, message-length, name-fits}
 use Rattle.promise.specs.Promise.{Given, noteTaken, Step, sends, history}
 use Rattle.promise.specs.LabelLaws.{Sound}
 use Rattle.promise.specs.RuleLaws.{Ruled}

@@ -9,7 +9,7 @@ use lib.Dec.{eqb}
 use borrow.Author.Tests.{eqb-true, eqb-false, eq-eqb, ne-eqb}
 use Rattle.meaning.specs.Octets.{pick}
 use Rattle.meaning.specs.Lists.{by-test, picked, append-nil}
-use Rattle.meaning.specs.RoundTrip.{both}
+use Rattle.meaning_laws.specs.RoundTrip.{both}
 use Rattle.meaning.specs.Wire.{withdraw, release, Message, messageIn, Sent}
 use Rattle.meaning.specs.Card.{Card, treeOf, Branch, carrier, lookupLabel, lookupName}
 use Rattle.meaning.specs.Events.{Outcome, outcome, Event, receive, join, leave, route, lost, branch}

@@ -9,7 +9,7 @@ use lib.Dec.{eqb}
 use borrow.Author.Tests.{eqb-true, eqb-false, eq-eqb}
 use Rattle.meaning.specs.Octets.{count}
 use Rattle.meaning.specs.Lists.{by-test, picked}
-use Rattle.meaning.specs.RoundTrip.{both}
+use Rattle.meaning_laws.specs.RoundTrip.{both}
 use Rattle.meaning.specs.Wire.{mapping, withdraw, release, Message, messageIn, Sent}
 use Rattle.meaning.specs.Events.{Event, receive, join, leave, route, lost}
 use Rattle.promise.specs.Promise.{Given, ofLabel, isAbout, mark, remove, without, noteSent, noteAll, noteTaken, Step, Past, isTaken, liveAt, sends, thenStep, NoneLive}

@@ -10,7 +10,7 @@ use lib.Dec.{eqb}
 use borrow.Author.Tests.{eqb-true}
 use Rattle.meaning.specs.Octets.{count, same}
 use Rattle.meaning.specs.Lists.{by-test, picked, same-eq}
-use Rattle.meaning.specs.RoundTrip.{both}
+use Rattle.meaning_laws.specs.RoundTrip.{both}
 use Rattle.meaning.specs.Wire.{elementRefusal, mapping}
 use Rattle.meaning.specs.Card.{Tree, Use, free, mapped, awaiting, Card, treeOf, useOf, isBranch, notHeld, Branch, Feed, nothing, branchesFrom, feedOf, feedOfUse, carrier, lookupLabel, lookupName}
 use Rattle.meaning.specs.Events.{branch}

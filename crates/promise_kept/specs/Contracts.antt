@@ -16,7 +16,7 @@ use Rattle.meaning.specs.Events.{Event, receive, join, leave, route, lost, even
 use Rattle.meaning.specs.Notice.{notice}
 use Rattle.meaning.specs.Save.{Form, old, new, formOf, save, restore, move, newer, older}
 use Rattle.meaning.specs.Calls.{Hands}
-use Rattle.meaning.specs.Handed.{handed}
+use Rattle.meaning_laws.specs.Handed.{handed}
 use Rattle.memory.specs.Memory.{cardOf}
 use Rattle.card_lookups.specs.Feed.{feedIn}
 use Rattle.card.proofs.start.Reads as start-reads

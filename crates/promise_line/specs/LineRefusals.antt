@@ -12,11 +12,11 @@ use borrow.Author.Tests.{eq-eqb, ne-eqb, ltb-true}
 use Rattle.meaning.specs.Octets.{pick, two, four, twoAt, _when_else_}
 use Rattle.meaning.specs.Lists.{by-test, picked, same-refl}
 use Rattle.meaning.specs.Wire.{mapping, withdraw, release, isKind, Message, messageIn, messageRefusal, Sent, octetsOf, recordOf, nextId, records}
-use Rattle.meaning.specs.RoundTrip.{AllSendable, Sendable, length-field, message-taken, heard}
+use Rattle.meaning_laws.specs.RoundTrip.{AllSendable, Sendable, length-field, message-taken, heard}
 use Rattle.meaning.specs.Card.{Use, free, mapped, awaiting, Card, isAwaiting, useOf}
 use Rattle.meaning.specs.Events.{Out, unless, taken, refuse, accept, roomShort, finish, notAwaited, onRelease, onWithdraw, become, enter, onMessage, noNeighbour, onOctets, receive, outcome, event}
 use Rattle.meaning.specs.Notice.{noticeDue, noticeRecord, notice}
-use Rattle.meaning.specs.NoticeLaws.{spread, record-spread}
+use Rattle.meaning_laws.specs.NoticeLaws.{spread, record-spread}
 use Rattle.promise.specs.Promise.{Given, Step, Past, answerTo, sends}
 use Rattle.promise.specs.LiveLaws.{givens, Books}
 use Rattle.promise.specs.RulesKept.{less-fits}

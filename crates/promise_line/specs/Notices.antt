@@ -11,7 +11,7 @@ use Rattle.meaning.specs.Wire.{Message, nextId, messageIn, recordsF, recordsIn}
 use Rattle.meaning.specs.Card.{withNext, treeOf, treePlace}
 use Rattle.meaning.specs.Events.{Out, refuse, accept, roomShort, noNeighbour}
 use Rattle.meaning.specs.Notice.{noticeDue, noticeRecord, notice}
-use Rattle.meaning.specs.NoticeLaws.{spread, record-spread}
+use Rattle.meaning_laws.specs.NoticeLaws.{spread, record-spread}
 use Rattle.promise.specs.Promise.{noteSent, noteAll, Past}
 use Rattle.promise.specs.PromiseProof.{Upheld}
 use Rattle.promise.specs.Deeds.{renumbered, renumbered-upheld}

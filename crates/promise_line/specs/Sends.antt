@@ -9,7 +9,7 @@ use lib.ListN.{drop, length}
 use lib.Dec.{eqb}
 use borrow.Author.Tests.{eqb-true, eq-eqb}
 use Rattle.meaning.specs.Octets.{pick, count, twoAt}
-use Rattle.meaning.specs.RoundTrip.{both}
+use Rattle.meaning_laws.specs.RoundTrip.{both}
 use Rattle.meaning.specs.Lists.{by-test, same-refl, append-nil}
 use Rattle.meaning.specs.Wire.{mapping, withdraw, release, Message, messageIn, Sent, recordsF, recordsIn}
 use Rattle.promise.specs.Promise.{Given, ofLabel, isAbout, isStanding, mark, remove, without, noteSent, noteAll, NoneLive, AllMapped}

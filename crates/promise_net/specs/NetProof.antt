@@ -9,7 +9,7 @@ use lib.Dec.{eqb}
 use borrow.Author.Tests.{eqb-true, eqb-false, eq-eqb, ne-eqb}
 use Rattle.meaning.specs.Events.{Event, receive, join, leave, route, lost}
 use Rattle.meaning.specs.Lists.{by-test, append-nil}
-use Rattle.meaning.specs.RoundTrip.{both}
+use Rattle.meaning_laws.specs.RoundTrip.{both}
 use Rattle.promise.specs.Promise.{Step}
 use Rattle.promise_line.specs.Line.{ready, hearing, isFrom, sentBy, refuses, after, gets}
 use Rattle.promise_line.specs.Line

@@ -13,10 +13,10 @@ use Rattle.meaning.specs.Octets.{pick, place, count, any, all, same}
 use Rattle.meaning.specs.Card.{noEntry, Route, Card, noRoute, withNext, isFor, routePlace, routeOf, freeLabels, sentLimit}
 use Rattle.meaning.specs.Events.{Out, accept, needAll, notRoot, route, event}
 use Rattle.meaning.specs.Lists.{by-test, picked, place-finds, place-count, place-only, getD-out, getD-same, same-eq, same-refl}
-use Rattle.meaning.specs.RoundTrip.{both}
+use Rattle.meaning_laws.specs.RoundTrip.{both}
 use Rattle.meaning.specs.Save.{isRoute}
-use Rattle.meaning.specs.SaveFields.{all-cons}
-use Rattle.meaning.specs.SaveRules.{all-at}
+use Rattle.meaning_laws.specs.SaveFields.{all-cons}
+use Rattle.meaning_laws.specs.SaveRules.{all-at}
 use Rattle.promise.specs.Promise.{Given}
 use Rattle.promise.specs.LabelLaws.{Sound}
 use Rattle.promise.specs.RuleLaws.{Ruled}

@@ -11,8 +11,8 @@ use borrow.Author.Tests.{eqb-true, not-false}
 use Rattle.meaning.specs.Card.{Card}
 use Rattle.meaning.specs.Events.{noNeighbour, notRoot}
 use Rattle.meaning.specs.Save.{keepsRules}
-use Rattle.meaning.specs.SaveLists.{either}
-use Rattle.meaning.specs.SaveRules.{rules}
+use Rattle.meaning_laws.specs.SaveLists.{either}
+use Rattle.meaning_laws.specs.SaveRules.{rules}
 use Rattle.meaning_plan.specs.Plan.{Move, accepted, listed}
 use Rattle.promise_plan.specs.CarriedOut.{AllMovable, all-movable}
 use Rattle.promise_plan.specs.CarriedOut as Carried

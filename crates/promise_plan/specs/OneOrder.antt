@@ -12,7 +12,7 @@ use borrow.Author.Tests.{ne-eqb, lt-ltb, le-ltb}
 use Rattle.meaning.specs.Octets.{pick, same, _when_else_}
 use Rattle.meaning.specs.Wire.{rootIn, Sent, records, idsAfter}
 use Rattle.meaning.specs.Card.{Tree, Card, noRoute, withNext, withRoutes, treePlace, treeOf, treeAt, useOf, heldFor, freeLabels, routeOf, routePlace, sentLimit}
-use Rattle.meaning.specs.Counts.{counted-twelve, counted-same}
+use Rattle.meaning_laws.specs.Counts.{counted-twelve, counted-same}
 use Rattle.meaning.specs.Events.{runsOut, Out, Outcome, taken, unless, accept, roomShort, finish, Moved, still, followedBy, needMove, labelsShort, upstream, holderOf, ofRoot, moveOne, moveFrom, moveAll, needOne, sumFrom, needAll, routesWith, notRoute, notRoot, routesFull, routeRefusal, reRoute, onRoute, route, outcome, event}
 use Rattle.promise.specs.Promise.{Given, noteAll, noteTaken}
 use Rattle.promise.specs.CardLaws.{shape}

@@ -13,9 +13,9 @@ use Rattle.meaning.specs.Octets.{pick, count, all}
 use Rattle.meaning.specs.Card.{noEntry, Route, Card, routeOf, freeLabels, sentLimit}
 use Rattle.meaning.specs.Events.{noNeighbour, needAll}
 use Rattle.meaning.specs.Lists.{by-test, picked}
-use Rattle.meaning.specs.RoundTrip.{both}
+use Rattle.meaning_laws.specs.RoundTrip.{both}
 use Rattle.meaning.specs.Save.{keepsRules, lastRight}
-use Rattle.meaning.specs.SaveRules.{all-at, all-of, rules}
+use Rattle.meaning_laws.specs.SaveRules.{all-at, all-of, rules}
 use Rattle.promise.specs.Promise.{Step, history}
 use Rattle.promise.specs.SaveKept.{history-keeps-rules, history-last}
 use Rattle.meaning_plan.specs.Plan.{Move, moveFor, Allowed, goesBy, needList, mayHave, isMove, listedOnce, accepts, choice, through, proposal, isFound, refused, none, listed, planned, carriedOut, noRefusal, someThrough, routeAfter}

@@ -13,10 +13,10 @@ use Rattle.meaning.specs.Octets.{place, count, all, same, cut}
 use Rattle.meaning.specs.Card.{noEntry, Route, Card, isFor, routeOf, freeLabels}
 use Rattle.meaning.specs.Events.{needAll}
 use Rattle.meaning.specs.Lists.{by-test, picked, place-finds, place-count, count-some, same-eq, same-refl}
-use Rattle.meaning.specs.RoundTrip.{both}
+use Rattle.meaning_laws.specs.RoundTrip.{both}
 use Rattle.meaning.specs.Save.{isRoute}
-use Rattle.meaning.specs.SaveFields.{all-cons}
-use Rattle.meaning.specs.SaveRules.{all-at, all-of}
+use Rattle.meaning_laws.specs.SaveFields.{all-cons}
+use Rattle.meaning_laws.specs.SaveRules.{all-at, all-of}
 use Rattle.meaning_plan.specs.Plan.{Move, moveFor, Allowed, goesBy, needList, mayHave, isMove, listedOnce, accepts, choice, asMove, through, chosen, proposal, isFound}
 use Rattle.promise_plan.specs.CarriedOut.{of-root, for-root, route-there, route-at, Accepted, move-from, each-once}
 use Rattle.meaning_plan.specs.Cheapest.{Beats, cheapest-in, cheapest-beats}

@@ -12,12 +12,12 @@ use borrow.Author.Tests.{eqb-true, eqb-false, eq-eqb, ne-eqb, ltb-true, ltb-fals
 use Rattle.meaning.specs.Octets.{pick, count, all}
 use Rattle.meaning.specs.Card.{Tree, Use, free, mapped, awaiting, Card, bare, treePlace, treeOf, treeAt, isEmpty, isFree, useOf, freeLabels, labelCount}
 use Rattle.meaning.specs.Lists.{by-test, picked, same-eq, getD-out, append-nil}
-use Rattle.meaning.specs.RoundTrip.{both}
+use Rattle.meaning_laws.specs.RoundTrip.{both}
 use Rattle.meaning.specs.Save.{isName, isBranchLabel, isTree, isUse, isCarried, isMappedFor, carriesOwn, lastRight}
-use Rattle.meaning.specs.Standing.{standing-at, not-standing}
-use Rattle.meaning.specs.SaveFields.{all-cons}
-use Rattle.meaning.specs.SaveCounts.{right-counted}
-use Rattle.meaning.specs.SaveRules.{all-at, Rules}
+use Rattle.meaning_laws.specs.Standing.{standing-at, not-standing}
+use Rattle.meaning_laws.specs.SaveFields.{all-cons}
+use Rattle.meaning_laws.specs.SaveCounts.{right-counted}
+use Rattle.meaning_laws.specs.SaveRules.{all-at, Rules}
 use Rattle.promise.specs.Promise.{Given, ofLabel}
 use Rattle.promise.specs.LiveLaws.{isMapped, stray, Linked, only, givens, Books}
 use Rattle.promise.specs.CardLaws.{Proper, AllProper, tree-name}

@@ -18,7 +18,7 @@ use Rattle.session.specs.Session.{messageRoom, label}
 use Rattle.promise.specs.Promise.{Given, noteTaken, Step, history}
 use Rattle.promise.specs.LabelLaws.{Sound}
 use Rattle.promise.specs.RuleLaws.{Ruled, held-named}
-use Rattle.meaning.specs.Counts.{any-set-zero}
+use Rattle.meaning_laws.specs.Counts.{any-set-zero}
 use Rattle.promise.specs.EventLaws.{getD-put, became, Apart, Keeps, event-keeps}
 use Rattle.promise.specs.PromiseProof.{history-upheld}
 use Rattle.promise.specs.Sizes.{records-short, let-go-one, take-up-one}

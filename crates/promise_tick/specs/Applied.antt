@@ -9,7 +9,7 @@ use lib.ListN.{length}
 use lib.Dec.{eqb}
 use borrow.Author.Tests.{eqb-true}
 use Rattle.meaning.specs.Lists.{picked}
-use Rattle.meaning.specs.RoundTrip.{both}
+use Rattle.meaning_laws.specs.RoundTrip.{both}
 use Rattle.meaning.specs.Wire.{rootIn}
 use Rattle.meaning.specs.Card.{routeOf, sentLimit}
 use Rattle.meaning.specs.Computing.{computing}

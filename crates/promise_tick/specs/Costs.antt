@@ -10,7 +10,7 @@ use lib.ListN.{drop, length}
 use lib.Dec.{eqb}
 use borrow.Author.Tests.{eqb-true, eq-eqb}
 use Rattle.meaning.specs.Octets.{pick, twoAt}
-use Rattle.meaning.specs.RoundTrip.{both}
+use Rattle.meaning_laws.specs.RoundTrip.{both}
 use Rattle.meaning.specs.Lists.{by-test, picked}
 use Rattle.meaning.specs.Wire.{mapping, withdraw, release, Message, Sent, recordsF, recordsIn}
 use Rattle.promise.specs.Promise.{Step, answerTo, sends}

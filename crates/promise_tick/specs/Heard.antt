@@ -19,7 +19,7 @@ use Rattle.promise.specs.LiveLaws.{stray-not}
 use Rattle.promise.specs.CardLaws.{tree-name}
 use Rattle.promise.specs.LabelLaws.{Sound}
 use Rattle.promise.specs.RuleLaws.{Ruled, held-named}
-use Rattle.meaning.specs.Counts.{any-set-zero}
+use Rattle.meaning_laws.specs.Counts.{any-set-zero}
 use Rattle.promise.specs.EventLaws.{getD-put, less-name, less-label}
 use Rattle.promise.specs.PromiseProof.{messagesOf, Upheld, sends-is}
 

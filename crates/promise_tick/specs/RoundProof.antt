@@ -11,7 +11,7 @@ use lib.Dec.{eqb}
 use borrow.Author.Tests.{eqb-true, eqb-false, eq-eqb}
 use Rattle.meaning.specs.Octets.{pick, count, twoAt}
 use Rattle.meaning.specs.Lists.{by-test, picked}
-use Rattle.meaning.specs.RoundTrip.{both}
+use Rattle.meaning_laws.specs.RoundTrip.{both}
 use Rattle.meaning.specs.Wire.{mapping, withdraw, release, Message, messageIn, Sent, recordsF, recordsIn}
 use Rattle.promise.specs.Promise.{Step, answerTo, sends}
 use Rattle.promise_line.specs.Line.{parcelsF, parcels, addressed, sentBy}

@@ -9,11 +9,11 @@ use lib.Dec.{ltb}
 use borrow.Author.Tests.{ltb-true, ltb-false, not-true}
 use Rattle.meaning.specs.Octets.{any, twoAt, fourAt}
 use Rattle.meaning.specs.Lists.{by-test}
-use Rattle.meaning.specs.RoundTrip.{both}
+use Rattle.meaning_laws.specs.RoundTrip.{both}
 use Rattle.meaning.specs.Events.{baseOutside}
 use Rattle.meaning.specs.Card.{Tree, Use, free, Card, withTrees, withLabel, named, labelCount}
 use Rattle.meaning.specs.Save.{Form, new, formOf, lastPlace, treesRead, treesEnd, usesRead, labelled, allLabelled, onceEach, sameName, keepsRules, tableIn, isSave, headSize, routeSize, countsRight, keepsRows}
-use Rattle.meaning.specs.SaveLaws.{Head, head-of-save, last-of-save, ruled-keeps, taken-is-save}
+use Rattle.meaning_laws.specs.SaveLaws.{Head, head-of-save, last-of-save, ruled-keeps, taken-is-save}
 use Rattle.memory.proofs.Marks.{never}
 use Rattle.save_rows.specs.Stages.{treesBegin, rowsRead}
 use Rattle.save_labels.specs.Labels.{OfBlock}

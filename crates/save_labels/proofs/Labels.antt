@@ -15,14 +15,14 @@ use Rattle.meaning.specs.Lists.{by-test, place-finds, same-eq, same-no}
 use Rattle.meaning.specs.Card.{Tree, Use, free, mapped, awaiting, Card, fresh, withNext, withRoutes, withTrees, withLabels, withLabel, bare, treeAt, named, labelCount, withLast, isFree}
 use Rattle.meaning.specs.Events.{setLabel}
 use Rattle.meaning.specs.Save.{Form, formOf, lastPlace, nameIn, extent, useRead, useEnd, usesRead, useBeside, isMappedFor, labelled, allLabelled, onceEach, sameName, tableIn, highestUsed, lastIn}
-use Rattle.meaning.specs.SavePlaces.{usesEnd, use-there, uses-end-more, uses-read-more}
+use Rattle.meaning_laws.specs.SavePlaces.{usesEnd, use-there, uses-end-more, uses-read-more}
 use Rattle.octets.specs.Part.{tab}
 use Rattle.memory.specs.Memory.{cardOf, baseIn, treeCount, labelIn, isFreeAt, labelBefore}
 use Rattle.memory.proofs.Memory.{base-range, trees-length, labels-length}
 use Rattle.memory.proofs.Marks.{never, free-in}
 use Rattle.memory.proofs.Trees.{label-at}
 use Rattle.memory.proofs.Head.{label-before}
-use Rattle.meaning.specs.SaveLaws.{highest-is, highest-free}
+use Rattle.meaning_laws.specs.SaveLaws.{highest-is, highest-free}
 use Rattle.octets.proofs.Tab.{tab-get}
 use Rattle.save_rows.specs.Stages.{headRead, treesBegin, rowsRead, labelsBegin}
 use Rattle.save_counts.specs.Counted.{counted}

@@ -17,7 +17,7 @@ use Rattle.memory.specs.Memory.{cardOf, baseIn}
 use Rattle.memory.proofs.Memory.{base-range}
 use Rattle.save_records.proofs.Records.{last-none, last-some}
 use Rattle.meaning.specs.Save.{Form, formOf, keepsRows, lastRight, rowsRuled, saved, tableIn, isSave, restore}
-use Rattle.meaning.specs.SaveCounts.{read-ruled}
+use Rattle.meaning_laws.specs.SaveCounts.{read-ruled}
 
 -- A table that is read has true counts, so that its other rules alone are tested.
 

@@ -11,9 +11,9 @@ use Rattle.meaning.specs.Octets.{pick, two, four}
 use Rattle.meaning.specs.Wire.{rootLimit}
 use Rattle.meaning.specs.Card.{Route, Tree, Use, mapped, awaiting, Card, freeLabels, labelCount, turn}
 use Rattle.meaning.specs.Lists.{by-test}
-use Rattle.meaning.specs.RoundTrip.{both}
+use Rattle.meaning_laws.specs.RoundTrip.{both}
 use Rattle.meaning.specs.Save.{Form, old, new, formOf, headKind, treeKind, useKind, headSize, spaced, nameSaved, marked, lastSaved, headSaved, routeSaved, foursOf, treeSaved, useSaved, routeSize, treeBeside, useBeside}
-use Rattle.meaning.specs.SaveFields.{nameSize, name-length, fours-length}
+use Rattle.meaning_laws.specs.SaveFields.{nameSize, name-length, fours-length}
 use Rattle.octets.specs.Part.{mid}
 use Rattle.octets.proofs.Tab.{tab-is}
 use Rattle.memory.specs.Memory.{cardOf, baseIn, routeCount, treeCount, turnIn, labelBefore, lastIn}

@@ -7,7 +7,7 @@ ghost use lib.ListN.{length};
 ghost use Rattle.meaning.specs.Octets.{pick, four};
 ghost use Rattle.meaning.specs.Card.{treeAt, labelCount, neighbourCount, routeLimit, treeLimit};
 ghost use Rattle.meaning.specs.Save.{formOf, nameSaved, marked, treeKind, useKind, headSaved, routeSaved, foursOf, treeSaved, useSaved, headSize, routeSize, treeBeside, useBeside};
-ghost use Rattle.meaning.specs.SaveFields.{nameSize};
+ghost use Rattle.meaning_laws.specs.SaveFields.{nameSize};
 ghost use Rattle.memory.specs.Sizes.{Numbers, Names};
 ghost use Rattle.memory.specs.Memory.{cardOf, baseIn, treeCount, routeIn, isFreeAt, labelIn, labelName};
 use meaning::LABEL_COUNT;

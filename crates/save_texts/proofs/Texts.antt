@@ -9,7 +9,7 @@ use lib.Seq.{take-all, take-take}
 use lib.Dec.{leb}
 use Rattle.meaning.specs.Wire.{rootLength, rootIn, opaqueIn, rootLimit, nameLimit}
 use Rattle.meaning.specs.Save.{padded, spaced, Form, old, new, formOf, nameSaved, nameMost, isShort, savedOpaque, spacedName}
-use Rattle.meaning.specs.SaveFields.{nameSize}
+use Rattle.meaning_laws.specs.SaveFields.{nameSize}
 use Rattle.meaning.specs.Lists.{append-nil}
 use Rattle.octets.specs.Part.{mid}
 use Rattle.octets.proofs.Parts.{front, front-more, copy-done}

@@ -5,7 +5,7 @@ ghost use Prim.Native.Nat.{_+_, _≤_};
 ghost use lib.ListN.{length, take};
 ghost use Rattle.meaning.specs.Wire.{opaqueIn};
 ghost use Rattle.meaning.specs.Save.{old, formOf, padded, spaced, nameSaved, nameMost, isShort, spacedName};
-ghost use Rattle.meaning.specs.SaveFields.{nameSize};
+ghost use Rattle.meaning_laws.specs.SaveFields.{nameSize};
 use meaning::NAME_LIMIT;
 use meaning::ROOT_LIMIT;
 use meaning::SAVED_OPAQUE;

@@ -10,8 +10,8 @@ use Rattle.meaning.specs.Card.{Card, Use, isFree, treeAt, freeLabels, labelCoun
 use Rattle.meaning.specs.Save.{Form, headSaved, routeSaved, treeSaved, useSaved, routesSaved, treesSaved, usesSaved, saved, save, fitsSave, headSize, routeSize, treeBeside, useBeside}
 use Rattle.meaning.specs.Events.{roomShort, refuse}
 use Rattle.meaning.specs.Calls.{over, Does}
-use Rattle.meaning.specs.SaveFields.{nameSize, tree-length, useRecord, use-length}
-use Rattle.meaning.specs.SaveLists.{routes-length}
+use Rattle.meaning_laws.specs.SaveFields.{nameSize, tree-length, useRecord, use-length}
+use Rattle.meaning_laws.specs.SaveLists.{routes-length}
 use Rattle.octets.specs.Part.{mid, tab}
 use Rattle.octets.proofs.Parts.{mid-none}
 use Rattle.memory.specs.Memory.{cardOf, baseIn, routeCount, treeCount, routeIn, treeIn, labelIn, labelName}

@@ -6,7 +6,7 @@ ghost use Prim.Native.Nat.{ℕ, _+_, _*_, _≤_, _<_};
 ghost use lib.ListN.{length};
 ghost use denote.Ref.{ptr};
 ghost use Rattle.meaning.specs.Save.{new, formOf, useSaved, routesSaved, treesSaved, usesSaved, saved, save, saveLimit, treeBeside, useBeside, nameMost};
-ghost use Rattle.meaning.specs.SaveFields.{nameSize};
+ghost use Rattle.meaning_laws.specs.SaveFields.{nameSize};
 ghost use Rattle.meaning.specs.Calls.{over, Does, Hands};
 ghost use Rattle.meaning.specs.Card.{labelCount, treeAt, treeLimit};
 ghost use Rattle.memory.specs.Sizes.{Numbers, Names};

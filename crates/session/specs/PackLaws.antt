@@ -11,7 +11,7 @@ use lib.Dec.{leb}
 use borrow.Author.Tests.{leb-true, leb-false, le-ltb}
 use Rattle.meaning.specs.Octets.{two, twoAt}
 use Rattle.meaning.specs.Lists.{picked, same-refl, append-nil}
-use Rattle.meaning.specs.RoundTrip.{two-back}
+use Rattle.meaning_laws.specs.RoundTrip.{two-back}
 use Rattle.session.specs.Stream.{bodyLimit, leastLength, mostLength, pduHead, head, message, wrongVersion, wrongLength, wrongId, lookHead, messageSize, lookMessage, look, empty, parsedBy, parsed, digest}
 use Rattle.session.specs.StreamLaws.{parsed-look, andThen}
 use Rattle.session.specs.Pack.{pdu, joined, groupsFrom, groups, pdus, packed}

@@ -12,7 +12,7 @@ use borrow.Author.Tests.{leb-true, le-leb}
 use Rattle.meaning.specs.Octets.{pick, two, twoAt}
 use Rattle.meaning.specs.Wire.{octetsOf, Sent, recordOf, nextId, records}
 use Rattle.meaning.specs.Lists.{picked}
-use Rattle.meaning.specs.RoundTrip.{both, two-back, message-length, length-field, name-fits, Sendable, AllSendable}
+use Rattle.meaning_laws.specs.RoundTrip.{both, two-back, message-length, length-field, name-fits, Sendable, AllSendable}
 use Rattle.session.specs.Stream.{bodyLimit, empty, digest}
 use Rattle.session.specs.Pack.{packed, isRecord, messagesF, messagesTo}
 use Rattle.session.specs.PackLaws.{Packable, AllPackable, packed-back}

@@ -10,7 +10,7 @@ use lib.Dec.{eqb, leb}
 use borrow.Author.Tests.{leb-true, eq-eqb, ne-eqb, lt-ltb, le-ltb}
 use Rattle.meaning.specs.Octets.{twoAt}
 use Rattle.meaning.specs.Lists.{by-test}
-use Rattle.meaning.specs.RoundTrip.{both}
+use Rattle.meaning_laws.specs.RoundTrip.{both}
 use Rattle.session.specs.Stream.{bodyLimit}
 use Rattle.session.specs.Pack.{isRecord, messagesF, messagesTo}
 use Rattle.session_records.specs.Records.{sizeAt, messageAt, behind, messagesFrom, Within, Finds}

@@ -11,7 +11,7 @@ use borrow.Author.Tests.{eq-eqb, ne-eqb}
 use Rattle.meaning.specs.Octets.{pick, twoAt}
 use Rattle.meaning.specs.Wire.{rootLength, opaqueIn, elementRefusal}
 use Rattle.meaning.specs.Lists.{by-test}
-use Rattle.meaning.specs.WireLaws.{element-kind}
+use Rattle.meaning_laws.specs.WireLaws.{element-kind}
 use Rattle.meaning_layers.specs.Layers.{plainKind, eightKind, eightSize, beforeInner, eightIn, innerIn, wraps, isLast}
 use Rattle.meaning_layers.specs.InnerStart.{innerStart, start-last, layerStart, start-end, start-part}
 

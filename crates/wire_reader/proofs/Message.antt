@@ -10,7 +10,7 @@ use Rattle.meaning.specs.Octets.{any, twoAt, _when_else_}
 use Rattle.meaning.specs.Lists.{no-when}
 use Rattle.meaning.specs.Wire as wire
 use Rattle.meaning.specs.Wire.{tlvs, isOverrun, found, must, isElement, isOpaque, isFilled, opaqueIn, elementRefusal, isSized, isKind, bodyOf, fecOf, labelOf, isOrdered, isLabel, messageRefusal, messageIn}
-use Rattle.meaning.specs.RoundTrip.{element-ok}
+use Rattle.meaning_laws.specs.RoundTrip.{element-ok}
 use Rattle.wire_reader.specs.Read.{tlvAt, endOf, labelIn, headRefusal, Ordered}
 use Rattle.wire_reader.specs.declared.Tlv.the-variants.{Whole}
 use Rattle.wire_reader.proofs.Places.{whole-within, overrun-on, found-on, end-some, end-none, label-none, label-some}

@@ -12,8 +12,8 @@ use Rattle.meaning.specs.Octets.{pick, any, twoAt, fourAt}
 use Rattle.meaning.specs.Lists.{by-test, picked}
 use Rattle.meaning.specs.Wire as wire
 use Rattle.meaning.specs.Wire.{Framed, framed, overrun, after, tlvs, isOverrun, found, must, absent, isLabel}
-use Rattle.meaning.specs.RoundTrip.{both}
-use Rattle.meaning.specs.WireLaws.{tlvs-end, tlvs-step, tlvs-short}
+use Rattle.meaning_laws.specs.RoundTrip.{both}
+use Rattle.meaning_laws.specs.WireLaws.{tlvs-end, tlvs-step, tlvs-short}
 use Rattle.wire_reader.specs.Read.{tlvAt, endOf, labelIn}
 use Rattle.wire_reader.specs.declared.Tlv.{Tlv}
 use Rattle.wire_reader.specs.declared.Tlv.the-variants.{Whole, End, Past}

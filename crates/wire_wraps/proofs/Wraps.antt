@@ -13,9 +13,9 @@ use Rattle.meaning.specs.Wire.{rootLength, rootIn, opaqueIn, isElement, isOpaqu
 use Rattle.meaning.specs.Events.{notRoot}
 use Rattle.meaning.specs.Calls.{over}
 use Rattle.meaning.specs.Lists.{by-test, append-nil}
-use Rattle.meaning.specs.RoundTrip.{both, whole}
-use Rattle.meaning.specs.WireLaws.{element-6, element-7, element-18, element-0}
-use Rattle.meaning.specs.SaveLists.{either}
+use Rattle.meaning_laws.specs.RoundTrip.{both, whole}
+use Rattle.meaning_laws.specs.WireLaws.{element-6, element-7, element-18, element-0}
+use Rattle.meaning_laws.specs.SaveLists.{either}
 use Rattle.meaning_layers.specs.Layers.{plainKind, eightKind, eightSize, beforeInner, eightIn, isLast, innerOf, Layer, layerOf, holding, familyOf, wrapped, notEight, wrapRefusal, wrap, unwrapRefusal, noLayer, unwrap}
 use Rattle.meaning_layers.specs.LayerLaws.{holding-length, wrapped-length, wraps-so, eight-length, Unwrappable, unwrappable}
 use Rattle.meaning_layers.specs.LayerCalls.{Writes, layerIn}

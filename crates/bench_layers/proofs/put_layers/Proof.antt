@@ -1,6 +1,6 @@
 use native.Mathlib.Omega.{arith}
 use mathlib.Core.Path.{sym, _∙_}
-use Rattle.meaning.specs.RoundTrip.{name-fits}
+use Rattle.meaning_laws.specs.RoundTrip.{name-fits}
 use Rattle.bench_words.specs.Words.{ascii}
 use Rattle.bench_lines.proofs.Text.{adds-then}
 use Rattle.bench_layers.proofs.Shown.{line-refused, line-shown}

@@ -1,5 +1,5 @@
 use mathlib.Core.Path.{sym, _∙_}
-use Rattle.meaning.specs.RoundTrip.{name-fits}
+use Rattle.meaning_laws.specs.RoundTrip.{name-fits}
 use Rattle.card.proofs.Calls.{join-refused, join-is}
 use borrow.Author.Needs.{needs}
 use Rattle.card.proofs.join_core.Statement.{statement}

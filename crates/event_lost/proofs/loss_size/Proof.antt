@@ -3,7 +3,7 @@ use native.Mathlib.Omega.{arith}
 use mathlib.Core.Path.{_≡_, sym}
 use Rattle.meaning.specs.Wire.{recordLimit}
 use Rattle.meaning.specs.Events.{sumFrom}
-use Rattle.meaning.specs.Losses.{lossSize}
+use Rattle.meaning_laws.specs.Losses.{lossSize}
 use Rattle.memory.specs.Memory.{cardOf}
 use Rattle.event_move.proofs.Trees.{sum-none}
 use Rattle.event_roots.proofs.Roots.{sum-next, sum-done}

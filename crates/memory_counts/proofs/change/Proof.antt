@@ -1,6 +1,6 @@
 use native.Mathlib.Omega.{arith}
 use mathlib.Core.Path.{sym}
-use Rattle.meaning.specs.Counts.{changed-round}
+use Rattle.meaning_laws.specs.Counts.{changed-round}
 use borrow.Author.Needs.{needs}
 use Rattle.memory_counts.proofs.change.Statement.{statement}
 use Rattle.memory_counts.proofs.change.Tie as tie

@@ -1,7 +1,7 @@
 -- `notice_writer::notice` meets its contract: the part that is handed back is exactly what the core wrote. Assumes nothing.
 use mathlib.Core.Path.{refl}
 use mathlib.Core.List.{[]}
-use Rattle.meaning.specs.Handed.{handed, handed-count}
+use Rattle.meaning_laws.specs.Handed.{handed, handed-count}
 use borrow.Author.Needs.{needs}
 use Rattle.notice_writer.proofs.notice.Statement.{statement}
 use Rattle.notice_writer.proofs.notice.Tie as tie

@@ -1,7 +1,7 @@
 use Rattle.memory.proofs.Trees.{branches-length}
 use Rattle.memory.specs.Memory.{cardOf}
 use Rattle.meaning.specs.Card.{treeAt}
-use Rattle.meaning.specs.SaveFields.{nameSize}
+use Rattle.meaning_laws.specs.SaveFields.{nameSize}
 use mathlib.Core.Path.{refl, ap, _∙_}
 use native.Mathlib.Omega.{arith}
 use Rattle.save_records.proofs.Records.{tree-put}

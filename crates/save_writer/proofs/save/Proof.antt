@@ -1,6 +1,6 @@
 -- `save_writer::save` meets its contract: the part that is handed back is exactly what the core wrote. Assumes nothing.
 use mathlib.Core.Path.{refl}
-use Rattle.meaning.specs.Handed.{handed, handed-count}
+use Rattle.meaning_laws.specs.Handed.{handed, handed-count}
 use borrow.Author.Needs.{needs}
 use Rattle.save_writer.proofs.save.Statement.{statement}
 use Rattle.save_writer.proofs.save.Tie as tie

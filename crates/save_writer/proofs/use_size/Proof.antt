@@ -1,5 +1,5 @@
 -- `save_writer::use_size` meets its contract. Assumes nothing.
-use Rattle.meaning.specs.SaveFields.{nameSize}
+use Rattle.meaning_laws.specs.SaveFields.{nameSize}
 use Rattle.meaning.specs.Save.{useBeside}
 use Prim.Native.Nat.{ℕ, _+_}
 use mathlib.Core.Path.{_≡_, refl, sym, ap, _∙_}

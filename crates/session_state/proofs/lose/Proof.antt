@@ -1,6 +1,6 @@
 -- `session_state::lose` meets its contract. Assumes nothing.
 use mathlib.Core.Path.{refl}
-use Rattle.meaning.specs.Handed.{handed, handed-count}
+use Rattle.meaning_laws.specs.Handed.{handed, handed-count}
 use borrow.Author.Needs.{needs}
 use Rattle.session_state.proofs.lose.Statement.{statement}
 use Rattle.session_state.proofs.lose.Tie as tie

@@ -2,7 +2,7 @@
 -- Assumes nothing.
 use native.Mathlib.Omega.{arith}
 use mathlib.Core.Path.{sym}
-use Rattle.meaning.specs.WireLaws.{element-kind, element-family, element-length, element-fill, element-whole, element-7, element-18, element-0, opaque-length, opaque-none, opaque-long, opaque-right}
+use Rattle.meaning_laws.specs.WireLaws.{element-kind, element-family, element-length, element-fill, element-whole, element-7, element-18, element-0, opaque-length, opaque-none, opaque-long, opaque-right}
 use Rattle.wire_name.proofs.Name.{opaque-at, filled-in}
 use borrow.Author.Needs.{needs}
 use Rattle.wire_name.proofs.element_refusal.Statement.{statement}

@@ -10,12 +10,12 @@ use lib.ListN.{drop, getD, length, set}
 use lib.Seq.{drop-cons, set-getD}
 use lib.Dec.{eqb, leb, ltb}
 use borrow.Author.Tests.{ltb-false, lt-leb, eqb-true, eqb-false, ne-eqb, leb-true, ltb-true, le-ltb, lt-ltb, not-true}
 use Rattle.meaning.specs.Octets.{pick, place, count, any, _when_else_}
 use Rattle.meaning.specs.Lists.{by-test, picked, getD-out, no-when, any-count, count-any}
 use Rattle.meaning.specs.Wire.{rootIn}
-use Rattle.meaning.specs.RoundTrip.{both}
+use Rattle.meaning_laws.specs.RoundTrip.{both}
 use Rattle.meaning.specs.Card.{Route, Tree, Card, noRoute, noEntry, withCounts, withBranch, isFor, routePlace, routeOf, bare, treeAt, isBranch, isEmpty, isLone, notHeld, leadsOn, freeLabels}
 use Rattle.meaning.specs.Events.{needMove, labelsShort, upstream, holder, ofRoot, total, inRoot, oneStanding, oneLone, workedOut, entryOf, changed, recountedFor, recount, needOne, sumFrom, needAll, routesFull, quickYes, quickNo, routeShort, runsOut, routeRefusal, recountedWithout}
 
 -- ---- sums over the trees
 

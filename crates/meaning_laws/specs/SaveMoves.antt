@@ -8,13 +8,13 @@ use mathlib.Core.List.{List, []}
 use lib.ListN.{getD, length}
 use lib.Dec.{ltb}
 use borrow.Author.Tests.{lt-ltb, le-ltb, ltb-false}
 use Rattle.meaning.specs.Lists.{by-test}
 use Rattle.meaning.specs.Card.{Card, withLast}
 use Rattle.meaning.specs.Events.{Out, roomShort}
-use Rattle.meaning.specs.RoundTrip.{both}
+use Rattle.meaning_laws.specs.RoundTrip.{both}
 use Rattle.meaning.specs.Save.{Form, old, new, headKind, fitsSave, marked, headSaved, saved, settled, carriedBy, lastIn, tableIn, keepsRules, lastRight, ruled, isSave, restore, Moved, notMoved, move, newer, older}
-use Rattle.meaning.specs.SaveRules.{rules}
-use Rattle.meaning.specs.SaveLaws.{read-fits, fits-any, settled-right, read-back, save-taken, taken-is-save, restored, restore-taken}
+use Rattle.meaning_laws.specs.SaveRules.{rules}
+use Rattle.meaning_laws.specs.SaveLaws.{read-fits, fits-any, settled-right, read-back, save-taken, taken-is-save, restored, restore-taken}
 
 -- ---- no octets are a save of both forms
 

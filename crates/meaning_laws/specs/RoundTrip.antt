@@ -11,10 +11,10 @@ use lib.ListN.{take, drop, getD, length, length-append, length-drop, length-take
 use lib.Seq.{drop-cons, drop-drop, take-append-seam, drop-append-seam}
 use lib.Dec.{eqb, leb}
 use borrow.Author.Tests.{eqb-true, ltb-true, leb-true, eq-eqb, ne-eqb, le-leb, not-false}
 use Rattle.meaning.specs.Octets.{any, two, four, twoAt, fourAt, _when_else_}
 use Rattle.meaning.specs.Wire.{addressLength, familyIn, rootLength, opaqueLength, rootIn, opaqueIn, isElement, opaqueLimit, isOpaque, isFilled, elementRefusal, element, framed, after, tlvs, tlv, Message, isKind, isSized, isLabel, isOrdered, isOverrun, messageIn, octetsOf, messageRefusal, fecOf, labelOf, bodyOf, found, Sent, recordOf, records, nextId, recordsF, nameLimit}
-use Rattle.meaning.specs.WireLaws.{tlvs-end, tlvs-step, element-0}
+use Rattle.meaning_laws.specs.WireLaws.{tlvs-end, tlvs-step, element-0}
 use Rattle.meaning.specs.Lists.{by-test, no-when}
 
 pub both : (a b : Bool) → (a && b) ≡ true → (a ≡ true) × (b ≡ true)
 both true true e = (refl, refl)

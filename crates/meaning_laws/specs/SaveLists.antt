@@ -10,15 +10,15 @@ use lib.ListN.{drop, getD, length, set, replicate, length-append}
 use lib.Seq.{drop-at, drop-drop, set-append-seam}
 use lib.Dec.{eqb, leb, ltb}
 use borrow.Author.Tests.{eqb-true, leb-true, ltb-true, not-true, not-false}
 use Rattle.meaning.specs.Octets.{pick, place, count, all, fourAt}
 use Rattle.meaning.specs.Lists.{by-test, picked}
 use Rattle.meaning.specs.Wire.{elementRefusal, rootLimit, nameLimit}
 use Rattle.meaning.specs.Card.{Route, Tree, Use, free, mapped, awaiting, withLabel, bare, isFree, isEmpty}
 use Rattle.meaning.specs.Events.{notRoot}
-use Rattle.meaning.specs.Counts.{plains}
-use Rattle.meaning.specs.RoundTrip.{both}
+use Rattle.meaning_laws.specs.Counts.{plains}
+use Rattle.meaning_laws.specs.RoundTrip.{both}
 use Rattle.meaning.specs.Save.{Form, old, new, spacedName, routeSize, treeBeside, useBeside, isShort, isShortTree, isShortUse, routeSaved, treeSaved, useSaved, routesSaved, treesSaved, usesSaved, treeRead, treeEnd, useRead, useEnd, routesRead, treesRead, treesEnd, usesRead, isMappedFor, labelled, allLabelled, isName, isRoute, isBranchLabel, isTree, isUse}
-use Rattle.meaning.specs.SaveFields.{all-cons, nameSize, name-most, name-room, route-length, route-back, tree-length, tree-after, tree-back, useRecord, use-length, use-label, use-after, use-back}
+use Rattle.meaning_laws.specs.SaveFields.{all-cons, nameSize, name-most, name-room, route-length, route-back, tree-length, tree-after, tree-back, useRecord, use-length, use-label, use-after, use-back}
 
 -- ---- what the tests of one record tell
 

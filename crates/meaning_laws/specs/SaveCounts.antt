@@ -7,15 +7,15 @@ use mathlib.Core.List.{List, [], _∷_}
 use lib.ListN.{getD, length}
 use lib.Dec.{eqb, ltb}
 use borrow.Author.Tests.{eqb-true, eq-eqb, ltb-true, ltb-false}
 use Rattle.meaning.specs.Octets.{place, count, all}
 use Rattle.meaning.specs.Lists.{by-test, getD-same, place-finds, place-only, same-eq, same-refl}
 use Rattle.meaning.specs.Card.{Route, Tree, Card, routePlace, isFor, noEntry}
 use Rattle.meaning.specs.Events.{total, inRoot, oneStanding, oneLone, workedOut, entryOf}
-use Rattle.meaning.specs.Counts.{plain, plains, Counted, new-counted}
-use Rattle.meaning.specs.RoundTrip.{both}
+use Rattle.meaning_laws.specs.Counts.{plain, plains, Counted, new-counted}
+use Rattle.meaning_laws.specs.RoundTrip.{both}
 use Rattle.meaning.specs.Save.{Form, old, new, ruled, rowsRuled, allWorkedOut, tableIn, isCounted, countsRight, keepsRows, keepsRules}
-use Rattle.meaning.specs.SaveFields.{all-cons}
-use Rattle.meaning.specs.SaveRules.{all-at, all-of}
+use Rattle.meaning_laws.specs.SaveFields.{all-cons}
+use Rattle.meaning_laws.specs.SaveRules.{all-at, all-of}
 
 -- ---- the counts are worked out from the roots and the trees
 

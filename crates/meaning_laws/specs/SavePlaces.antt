@@ -6,11 +6,11 @@ use mathlib.Core.Path.{_≡_, refl, sym, ap, _∙_}
 use mathlib.Core.List.{List, [], _∷_, _++_, append-assoc}
 use lib.ListN.{drop, getD, length, set}
 use lib.Seq.{drop-drop, getD-drop}
 use Rattle.meaning.specs.Octets.{fourAt}
 use Rattle.meaning.specs.Card.{Tree, Use}
 use Rattle.meaning.specs.Save.{Form, new, treeBeside, useBeside, extent, treeSaved, treesSaved, treeRead, treeEnd, treesRead, treesEnd, useSaved, usesSaved, useRead, useEnd, usesRead}
-use Rattle.meaning.specs.SaveFields.{nameSize}
-use Rattle.meaning.specs.SaveLists.{treesSize, useSize, usesSize}
+use Rattle.meaning_laws.specs.SaveFields.{nameSize}
+use Rattle.meaning_laws.specs.SaveLists.{treesSize, useSize, usesSize}
 
 -- ---- reading: the place behind a record
 

@@ -9,13 +9,13 @@ use mathlib.Core.List.{List, [], _∷_}
 use lib.ListN.{getD, length}
 use lib.Dec.{eqb, leb, ltb}
 use borrow.Author.Tests.{eqb-true, leb-true, ltb-true, eq-eqb, le-leb, lt-ltb, not-true, not-false}
 use Rattle.meaning.specs.Octets.{count, any, same, all}
 use Rattle.meaning.specs.Lists.{by-test, picked, same-eq, same-refl, any-count, count-any}
 use Rattle.meaning.specs.Card.{Route, Tree, Use, free, Card, treeLimit, routeLimit, labelCount, isFor, named, bare, treeAt, heldFor}
 use Rattle.meaning.specs.Events.{baseOutside, holderOf}
-use Rattle.meaning.specs.RoundTrip.{both}
+use Rattle.meaning_laws.specs.RoundTrip.{both}
 use Rattle.meaning.specs.Save.{onceEach, isRoute, sameRoot, isTree, sameName, isUse, isCarried, allCarried, carriesOwn, holdsRight, countsRight, keepsRows, keepsRules}
-use Rattle.meaning.specs.SaveFields.{all-cons}
+use Rattle.meaning_laws.specs.SaveFields.{all-cons}
 
 -- ---- every element
 

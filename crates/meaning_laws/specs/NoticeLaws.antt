@@ -9,14 +9,14 @@ use lib.ListN.{drop, getD, length}
 use lib.Seq.{drop-cons}
 use lib.Dec.{eqb, ltb}
 use borrow.Author.Tests.{eqb-true, leb-true, eq-eqb, le-leb, lt-ltb, le-ltb, not-true, not-false}
 use Rattle.meaning.specs.Octets.{any, two, four, twoAt, fourAt, _when_else_}
 use Rattle.meaning.specs.Lists.{by-test, no-when}
 use Rattle.meaning.specs.Wire.{tlv, nextId}
-use Rattle.meaning.specs.RoundTrip.{both, two-back}
+use Rattle.meaning_laws.specs.RoundTrip.{both, two-back}
 use Rattle.meaning.specs.Card.{Card}
 use Rattle.meaning.specs.Events.{refuse, accept, roomShort, noNeighbour}
 use Rattle.meaning.specs.Calls.{Does, does-one}
 use Rattle.meaning.specs.Notice.{statusOf, isStatus, isFatal, statusCode, copiedId, copiedType, isIgnorable, noticeDue, statusValue, noticeOctets, noticeRecord, notice, noticeIn, isFramed, isTold, noticeRefusal}
 
 -- ---- numbers in octets
 

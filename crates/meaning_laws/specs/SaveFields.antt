@@ -10,15 +10,15 @@ use lib.ListN.{take, drop, getD, length, length-append, length-take, length-drop
 use lib.Seq.{take-all, take-at, take-take, drop-at, getD-at, getD-drop, drop-drop, take-append-seam, drop-append-seam}
 use lib.Dec.{eqb, leb}
 use borrow.Author.Tests.{eqb-true, leb-true, le-leb}
 use Rattle.meaning.specs.Octets.{pick, two, four, fourAt, twoAt, all}
 use Rattle.meaning.specs.Lists.{by-test, positive}
 use Rattle.meaning.specs.Wire.{addressLength, familyIn, rootLength, rootIn, opaqueIn, elementRefusal, element, rootLimit, nameLimit}
 use Rattle.meaning.specs.Card.{Route, Tree, mapped, awaiting, withLabel}
-use Rattle.meaning.specs.Counts.{plain}
-use Rattle.meaning.specs.WireLaws.{element-family}
-use Rattle.meaning.specs.RoundTrip.{both, Whole, whole, root-size, element-parts, name-fits}
-use Rattle.meaning.specs.NoticeLaws.{four-back}
+use Rattle.meaning_laws.specs.Counts.{plain}
+use Rattle.meaning_laws.specs.WireLaws.{element-family}
+use Rattle.meaning_laws.specs.RoundTrip.{both, Whole, whole, root-size, element-parts, name-fits}
+use Rattle.meaning_laws.specs.NoticeLaws.{four-back}
 use Rattle.meaning.specs.Save.{Form, old, new, treeKind, useKind, savedOpaque, spacedName, routeSize, treeBeside, useBeside, isShort, padded, spaced, nameSaved, marked, routeSaved, foursOf, treeSaved, spacedIn, nameIn, extent, routeRead, foursIn, treeRead, treeEnd, useRead, useEnd, isBranchLabel}
 
 pub all-cons {ℓ} : {A : Type ℓ} (t : A → Bool) (x : A) (xs : List A) → all t (x ∷ xs) ≡ true → (t x ≡ true) × (all t xs ≡ true)
 unfolding all

@@ -11,19 +11,19 @@ use lib.ListN.{drop, getD, length, replicate, length-append}
 use lib.Seq.{drop-at, drop-drop}
 use lib.Dec.{eqb, leb, ltb}
 use borrow.Author.Tests.{eqb-true, eqb-false, eq-eqb, ne-eqb, le-leb, leb-true, ltb-true, ltb-false, lt-ltb, le-ltb}
 use Rattle.meaning.specs.Octets.{pick, place, count, all, same, two, four, twoAt, fourAt}
 use Rattle.meaning.specs.Lists.{by-test, getD-same, getD-out, place-finds, place-count, place-only, count-some, same-eq, same-refl}
 use Rattle.meaning.specs.Card.{Tree, Use, free, mapped, awaiting, Card, treeLimit, routeLimit, labelCount, named, bare, treePlace, treeOf, treeAt, useOf, isFree, freeLabels, withLast, heldFor, routeOf, routePlace}
 use Rattle.meaning.specs.Events.{refuse, roomShort, holderOf}
-use Rattle.meaning.specs.RoundTrip.{both, two-back}
-use Rattle.meaning.specs.NoticeLaws.{four-back}
+use Rattle.meaning_laws.specs.RoundTrip.{both, two-back}
+use Rattle.meaning_laws.specs.NoticeLaws.{four-back}
 use Rattle.meaning.specs.Save.{Form, old, new, headSize, routeSize, treeBeside, useBeside, spacedName, saveLimit, lastPlace, isShortTree, isShortUse, fitsSave, marked, lastSaved, headSaved, routesSaved, treesSaved, usesSaved, saved, save, routesRead, treesRead, treesEnd, usesRead, isMappedFor, allLabelled, highestUsed, settled, carriedBy, lastIn, lastRight, tableIn, isCarried, allCarried, isTree, carriesOwn, holdsRight, keepsRules, ruled, isSave, restore, allWorkedOut, countsRight, keepsRows}
-use Rattle.meaning.specs.SaveRules.{all-at, Rules, rules}
-use Rattle.meaning.specs.SaveLists.{either, tree-ok, routes-length, routes-back, treesSize, trees-length, trees-old, trees-new, trees-fit, trees-back, trees-after, labelFor, labels-back, inUse, used-free, usesSize, uses-length, uses-old, uses-new, uses-fit, free-fit, trees-any, uses-any, uses-back}
-use Rattle.meaning.specs.SaveFields.{all-cons}
+use Rattle.meaning_laws.specs.SaveRules.{all-at, Rules, rules}
+use Rattle.meaning_laws.specs.SaveLists.{either, tree-ok, routes-length, routes-back, treesSize, trees-length, trees-old, trees-new, trees-fit, trees-back, trees-after, labelFor, labels-back, inUse, used-free, usesSize, uses-length, uses-old, uses-new, uses-fit, free-fit, trees-any, uses-any, uses-back}
+use Rattle.meaning_laws.specs.SaveFields.{all-cons}
 use native.Mathlib.Nat.{le-of-suc-le-suc, not-suc-le-zero}
-use Rattle.meaning.specs.Counts.{plains}
-use Rattle.meaning.specs.SaveCounts.{plains-worked, worked-same}
+use Rattle.meaning_laws.specs.Counts.{plains}
+use Rattle.meaning_laws.specs.SaveCounts.{plains-worked, worked-same}
 
 -- ---- a tree's label is that which is mapped for it
 

@@ -1,0 +1,17 @@
+pub mod WireLaws
+pub mod RoundTrip
+pub mod Standing
+pub mod Refusals
+pub mod Handed
+pub mod NoticeLaws
+pub mod RoutesStay
+pub mod NextFree
+pub mod Counts
+pub mod Losses
+pub mod SaveFields
+pub mod SaveRules
+pub mod SaveCounts
+pub mod SaveLists
+pub mod SaveLaws
+pub mod SaveMoves
+pub mod SavePlaces
