@@ -16,6 +16,8 @@ use crate::save_two;
 use crate::wire;
 use crate::world::{World, ALL_LENGTHS, FEW_LONG, SAVED_LENGTHS};
 
+#[path = "counts_days.rs"]
+mod counts;
 #[path = "forms_days.rs"]
 mod forms;
 
@@ -26,7 +28,7 @@ pub struct Kind {
 }
 
 const DAMAGED: usize = 4;
-const MIXED: usize = 13;
+const MIXED: usize = 14;
 
 pub const KINDS: [Kind; MIXED + 1] = [
     kind("ordinary", open_ordinary, step_ordinary),
@@ -40,6 +42,7 @@ pub const KINDS: [Kind; MIXED + 1] = [
     kind("held", open_held, step_held),
     kind("saves", open_saves, step_saves),
     kind("forms", forms::open, forms::step),
+    kind("counts", counts::open, counts::step),
     kind("round", open_round, step_round),
     kind("lost", open_lost, step_lost),
     kind("mixed", open_ordinary, step_mixed),

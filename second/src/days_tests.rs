@@ -38,7 +38,7 @@ fn days_have_their_length_and_repeat() {
 fn a_mixed_day_gives_every_refusal() {
     let mixed = kind_named("mixed").expect("it is one of the kinds");
     for seed in 1..=5 {
-        let given: BTreeSet<u8> = numbers(&answers(&make(mixed, seed, 8000)))
+        let given: BTreeSet<u8> = numbers(&answers(&make(mixed, seed, 12_000)))
             .into_iter()
             .collect();
         assert_eq!(given, (0..=19).collect(), "seed {seed}");

@@ -54,7 +54,7 @@ const USAGE: &str = "usage: second run [FILE]
 
 /// Seeds and lines of each kind's part of the gate's standard input.
 const GATE_SEEDS: [u64; 2] = [1, 2];
-const GATE_LINES: [(&str, usize); 14] = [
+const GATE_LINES: [(&str, usize); 15] = [
     ("ordinary", 120),
     ("full", 240),
     ("moves", 120),
@@ -65,6 +65,7 @@ const GATE_LINES: [(&str, usize); 14] = [
     ("held", 260),
     ("saves", 90),
     ("forms", 110),
+    ("counts", 130),
     ("round", 160),
     ("lost", 180),
     ("lines", 50),
