@@ -21,7 +21,7 @@
  *     `fields`, `spare_..`) too. A static array is set; a local without an initialiser is not.
  *   - What one call is lent for writing shares no octet with anything else that the same call is lent.
  *   - Nobody else reads or writes during a call what it is lent for writing, or writes what it is lent as const.
- *     Lookups, card_free_labels and card_save are lent the card as const: several may run at once on one card, each
+ *     Lookups, card_free_labels, card_save and card_save2 are lent the card as const: several may run at once on one card, each
  *     with `branches`, `out` and `answer` of its own.
  *
  * A call takes no lock, asks for no memory, calls nothing outside the library but memcpy and memset, and ends.
@@ -62,7 +62,7 @@ enum {
     CARD_RECORD_MOST = 174,     /* octets of the longest record */
     CARD_OUT_MOST = 22272,      /* most octets that one event writes */
     CARD_NOTICE_OCTETS = 26,    /* octets of the record of a notice */
-    CARD_SAVE_MOST = 23343      /* octets of the longest save */
+    CARD_SAVE_MOST = 55667      /* octets of the longest save of either form */
 };
 
 /* A route: a neighbour's number, or one of these. */
@@ -73,7 +73,7 @@ enum {
 
 /*
  * Answers. A call that is refused writes no octet of `out` and changes nothing; card_start alone differs. (What
- * card_restore is lent as spare may hold anything afterwards, also where it refuses.)
+ * the calls on saves are lent as spare may hold anything afterwards, also where they refuse.)
  */
 enum card_answer {
     CARD_ACCEPTED = 0,
@@ -95,7 +95,7 @@ enum card_answer {
     CARD_NO_ROOM = 16,          /* output shorter than the event's records, the notice's record or the save */
     CARD_BAD_BASE = 17,         /* start: base under 16 or above 1048320 */
     CARD_MALFORMED_OPAQUE = 18, /* elements do not fill the opaque value; tested after 7 and before 8 */
-    CARD_BAD_SAVE = 19,         /* save: a value exceeds 32 octets; restore: not the save of a table that keeps the rules in force */
+    CARD_BAD_SAVE = 19,         /* save, older: a value exceeds 32 octets; restore, newer, older: not the save, in that form, of a table that keeps the rules in force */
     CARD_BAD_NOTICE = 21        /* read_notice: octets that are not one record which card_notice could write */
 };
 
@@ -179,22 +179,41 @@ enum {
 uint32_t card_read_notice(const uint8_t *octets, size_t octets_length, uint32_t fields[CARD_FIELDS]);
 
 /*
- * The table as octets, for a card swap: their form is drawn in docs/SAVE.md. The card stays as it is. Sets *answer to
- * CARD_ACCEPTED or CARD_NO_ROOM and returns how many octets of `out` it wrote, from its front; the rest of `out` keeps
- * its octets. A buffer of CARD_SAVE_MOST octets is never too short.
+ * The table as octets, for a card swap: docs/SAVE.md draws both forms. card_save writes the old form, card_save2 the new
+ * one, which carries names of any length and the last label given. The card stays as it is. Each sets *answer to
+ * CARD_ACCEPTED, CARD_NO_ROOM or (card_save alone) CARD_BAD_SAVE and returns how many octets of `out` it wrote, from its
+ * front; the rest of `out` keeps its octets. A buffer of CARD_SAVE_MOST octets is never too short.
  */
 size_t card_save(const uint64_t numbers[CARD_NUMBERS], const uint8_t names[CARD_NAMES], uint8_t *out,
                  size_t out_length, uint32_t *answer);
+size_t card_save2(const uint64_t numbers[CARD_NUMBERS], const uint8_t names[CARD_NAMES], uint8_t *out,
+                  size_t out_length, uint32_t *answer);
 
 /*
- * Takes back a save. Returns CARD_ACCEPTED, and its table stands in the place of the card's; or CARD_BAD_SAVE, and the
- * card is as it was. The octets are read into the spare memory first, which has the sizes of a card and of the longest
- * save, and may hold anything before and after. What the card promises of its labels goes on where no event and no
- * notice came between the save and its restore: labels that an older save has free may be in a neighbour's use.
+ * Takes back a save of the old form, or of the new one (card_restore2). Returns CARD_ACCEPTED, and its table stands in
+ * the place of the card's; or CARD_BAD_SAVE, and the card is as it was. The octets are read into the spare memory first,
+ * which has the sizes of a card and of the longest save, and may hold anything before and after. What the card promises
+ * of its labels goes on where no event and no notice came between the save and its restore: labels that an older save
+ * has free may be in a neighbour's use.
  */
 uint32_t card_restore(uint64_t numbers[CARD_NUMBERS], uint8_t names[CARD_NAMES], const uint8_t *octets,
                       size_t octets_length, uint64_t spare_numbers[CARD_NUMBERS], uint8_t spare_names[CARD_NAMES],
                       uint8_t spare_save[CARD_SAVE_MOST]);
+uint32_t card_restore2(uint64_t numbers[CARD_NUMBERS], uint8_t names[CARD_NAMES], const uint8_t *octets,
+                       size_t octets_length, uint64_t spare_numbers[CARD_NUMBERS], uint8_t spare_names[CARD_NAMES],
+                       uint8_t spare_save[CARD_SAVE_MOST]);
+
+/*
+ * A save from the old form to the new one (card_newer), and the way back (card_older): octets to octets, with no card.
+ * Each sets *answer to CARD_ACCEPTED, CARD_BAD_SAVE or CARD_NO_ROOM and returns how many octets of `out` it wrote, from
+ * its front; the rest of `out` keeps its octets. The spare memory is as in card_restore.
+ */
+size_t card_newer(const uint8_t *octets, size_t octets_length, uint64_t spare_numbers[CARD_NUMBERS],
+                  uint8_t spare_names[CARD_NAMES], uint8_t spare_save[CARD_SAVE_MOST], uint8_t *out,
+                  size_t out_length, uint32_t *answer);
+size_t card_older(const uint8_t *octets, size_t octets_length, uint64_t spare_numbers[CARD_NUMBERS],
+                  uint8_t spare_names[CARD_NAMES], uint8_t spare_save[CARD_SAVE_MOST], uint8_t *out,
+                  size_t out_length, uint32_t *answer);
 
 #ifdef __cplusplus
 }

@@ -8,7 +8,7 @@ use lib.ListN.{length, take, getD, set, length-append, length-set}
 use lib.Seq.{take-suc, take-suc-set}
 use borrow.Author.Tests.{lt-leb, eq-eqb, ne-eqb}
 use Rattle.meaning.specs.Card.{Card}
-use Rattle.bench_verbs.specs.Line.{Said, orderOf}
+use Rattle.bench_verbs.specs.Line.{Said, lineLimit, orderOf}
 use Rattle.bench_replies.specs.Reply.{Reply, replyTo, Answers}
 use Rattle.bench.specs.Kept.{Keeps}
 use Rattle.bench.specs.Input.{Stand, nextNumber, replyHere, ended, longer, after, afterAll, Stands}
@@ -37,9 +37,9 @@ keeps-line b k o h p =
     let e : k ≡ length o = omega (arith, p .count) in
     rw e (p .front (omega arith))
 
-pub keeps-long : (b : List ℕ) (k : ℕ) (o : List ℕ) → length b < k → Keeps b k o → length b ≡ 65536 → orderOf o ≡ Said.bad
+pub keeps-long : (b : List ℕ) (k : ℕ) (o : List ℕ) → length b < k → Keeps b k o → length b ≡ lineLimit → orderOf o ≡ Said.bad
 unfolding orderOf
-keeps-long b k o h p e = rw (lt-leb (length o) 65536 (omega (arith, p .count)))
+keeps-long b k o h p e = rw (lt-leb (length o) lineLimit (omega (arith, p .count)))
 
 -- ---- the state after octets
 

@@ -6,7 +6,7 @@ use lib.ListN.{length}
 use lib.Dec.{eqb}
 use Rattle.meaning.specs.Octets.{pick}
 use Rattle.meaning.specs.Card.{Card}
-use Rattle.bench_verbs.specs.Line.{orderOf}
+use Rattle.bench_verbs.specs.Line.{lineLimit, orderOf}
 use Rattle.bench_replies.specs.Reply.{Reply, replyTo}
 use Rattle.bench.specs.Kept.{Keeps}
 
@@ -40,7 +40,7 @@ afterAll s (c ∷ cs) = afterAll (after s c) cs
 
 -- the program's state is that
 pub record Stands (s : Stand) (number room : ℕ) (card : Card) (line : List ℕ) (kept : ℕ) : Type 0 where
-  pub long : length line ≡ 65536
+  pub long : length line ≡ lineLimit
   pub numbers : number ≡ s .number
   pub rooms : room ≡ s .room
   pub cards : card ≡ s .card

@@ -4,13 +4,14 @@ ghost use mathlib.Core.List.{List, [], _∷_, _++_};
 ghost use Prim.Native.Nat.{ℕ, _≤_};
 ghost use lib.ListN.{length};
 ghost use Rattle.memory.specs.Memory.{cardOf};
-ghost use Rattle.bench_verbs.specs.Line.{orderOf};
+ghost use Rattle.bench_verbs.specs.Line.{lineLimit, orderOf};
 ghost use Rattle.bench_replies.specs.Reply.{replyTo, Answers};
 ghost use Rattle.bench.specs.Kept.{Keeps};
 ghost use Rattle.bench.specs.Input.{Stand, ended, after, afterAll, Stands};
 ghost use Rattle.bench_lines.specs.Text.{textSpace};
 use bench_answers::Answered;
 use bench_lines::TEXT_SPACE;
+use bench_orders::LINE_LIMIT;
 use meaning::SAVE_LIMIT;
 use memory::NUMBER_COUNT;
 use memory::OCTET_COUNT;
@@ -48,7 +49,7 @@ fn reply(
 ) -> Answered
     requires { ⌜ textSpace ≤ length (now text) ⌝ }
     ensures { λ r. ⌜ r .length ≤ textSpace ⌝ }
-    ensures { λ r. ⌜ ((o : List ℕ) → Keeps (now (line .entry)) (state .kept) o → length (now (line .entry)) ≡ 65536
+    ensures { λ r. ⌜ ((o : List ℕ) → Keeps (now (line .entry)) (state .kept) o → length (now (line .entry)) ≡ lineLimit
         → Answers (replyTo number (state .room) (cardOf (now (numbers .entry)) (now (names .entry))) (orderOf o))
         (r .length) (now (text .exit)) (cardOf (now (numbers .exit)) (now (names .exit))) (r .room)) ⌝ }
 {
@@ -133,7 +134,7 @@ fn take_chunk(
 fn step(
     numbers: &mut [u64; NUMBER_COUNT],
     names: &mut [u8; OCTET_COUNT],
-    line: &mut [u8; 65536],
+    line: &mut [u8; LINE_LIMIT],
     text: &mut [u8; TEXT_SPACE],
     state: State,
 ) -> State {
@@ -159,7 +160,7 @@ fn step(
 fn main() {
     let mut numbers = [0u64; NUMBER_COUNT];
     let mut names = [0u8; OCTET_COUNT];
-    let mut line = [0u8; 65536];
+    let mut line = [0u8; LINE_LIMIT];
     let mut text = [0u8; TEXT_SPACE];
     card::start(&mut numbers, 16);
     let mut state = State {
