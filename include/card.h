@@ -30,10 +30,13 @@
  * the object code, over every path (tools/stack), and memcpy and memset come on top:
  *
  *     card_start         40     card_lookup_label    8     card_notice        32
- *     card_receive      592     card_lookup_name   216     card_read_notice   24
- *     card_join         320     card_free_labels     8     card_save         184
- *     card_leave        496                                card_restore      456
- *     card_route        352     card_lost          216
+ *     card_receive      592     card_lookup_name    64     card_read_notice   24
+ *     card_join         440     card_free_labels     8     card_save         232
+ *     card_leave        496                                card_save2        216
+ *     card_route        384                                card_restore      696
+ *     card_lost         344                                card_restore2     696
+ *                                                          card_newer        728
+ *                                                          card_older        712
  */
 #ifndef CARD_H
 #define CARD_H
