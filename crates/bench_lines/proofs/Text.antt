@@ -53,7 +53,7 @@ unfolding branchesText
 branches-after [] ys = refl
 branches-after (b ∷ xs) ys = rw (branches-after xs ys) (sym (append-assoc (branchText b) (branchesText xs) (branchesText ys)))
 
-branches-snoc : (n : ℕ) (xs : List ℕ) (label : ℕ) → branchesFrom n (xs ++ (label ∷ [])) ≡ branchesFrom n xs ++ branchesFrom (n + length xs) (label ∷ [])
+pub branches-snoc : (n : ℕ) (xs : List ℕ) (label : ℕ) → branchesFrom n (xs ++ (label ∷ [])) ≡ branchesFrom n xs ++ branchesFrom (n + length xs) (label ∷ [])
 unfolding branchesFrom
 branches-snoc n [] label = let e : n ≡ n + 0 = omega arith in ap (λ (m : ℕ). branchesFrom m (label ∷ [])) e
 branches-snoc n (x ∷ xs) label =

@@ -22,7 +22,7 @@ pub fn add(text: &mut [u8], at: usize, part: &[u8]) -> usize
     at + bench_words::put_text(&mut text[at..], part)
 }
 
-fn add_number(text: &mut [u8], at: usize, n: u64) -> usize
+pub fn add_number(text: &mut [u8], at: usize, n: u64) -> usize
     requires { ⌜ at + 20 ≤ length (now text) ⌝ }
     ensures { λ r. ⌜ Adds (numeral n) (now (text .entry)) (now (text .exit)) at r ⌝ }
     ensures { λ r. ⌜ r ≤ at + 20 ⌝ }
