@@ -1,0 +1,54 @@
+use native.Mathlib.Omega.{arith}
+use borrow.Author.Tests.{eq-eqb, ne-eqb}
+use Rattle.bench_lines.proofs.Text.{adds-then}
+use Rattle.bench_words.specs.Words.{ascii}
+use Rattle.layers_text.specs.TreeText.{labelWords}
+use borrow.Author.Needs.{needs}
+use Rattle.layers_text.proofs.add_label.Statement.{statement}
+use Rattle.layers_text.proofs.add_label.Tie as tie
+
+slice-aggregate-add : tie.Need-slice-aggregate-add
+slice-aggregate-add c = search needs
+
+add-requires : tie.Need-add-requires
+add-requires c κs = search needs
+
+same-length : tie.Need-same-length
+same-length c = search needs
+
+returns : tie.Need-returns
+unfolding labelWords ascii
+returns c = (rw (eq-eqb _ _ (c .before .before .before .before .before .if1 .taken)) (c .before .before .add .ensures), omega (arith, c .before .before .add .ensures .count))
+
+slice-aggregate-add-2 : tie.Need-slice-aggregate-add-2
+slice-aggregate-add-2 c = search needs
+
+add-requires-2 : tie.Need-add-requires-2
+add-requires-2 c κs = search needs
+
+add-number-requires : tie.Need-add-number-requires
+add-number-requires c κs = search needs
+
+same-length-2 : tie.Need-same-length-2
+same-length-2 c = search needs
+
+returns-2 : tie.Need-returns-2
+unfolding labelWords ascii
+returns-2 c =
+    let the-add = c .before .before .before .before .before .before .add2 in
+    let the-number = c .before .before .add-number in
+    (rw (ne-eqb _ _ (c .before .before .before .before .before .before .before .before .before .if1 .left)) (adds-then (the-add .ensures) (the-number .ensures .0)), omega (arith, the-add .ensures .count, the-number .ensures .1))
+
+pub add-label-spec : {M : Type 1} → statement M
+add-label-spec =
+    tie.close
+    (tie.spec
+    slice-aggregate-add
+    add-requires
+    same-length
+    returns
+    slice-aggregate-add-2
+    add-requires-2
+    add-number-requires
+    same-length-2
+    returns-2)
