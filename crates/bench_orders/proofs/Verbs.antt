@@ -11,7 +11,7 @@ use types.Run.{OneOf, miss}
 use Rattle.meaning.specs.Octets.{pick}
 use Rattle.meaning.specs.Save.{Form, old, new, formOf, saveLimit}
 use Rattle.bench_words.specs.Words.{part, isHexTo, isHex, isNumber, octetsOf}
-use Rattle.bench_verbs.specs.Line.{isSaveHex, Said, withNumber, withHex, withSave, withNumberHex, withHexNumber, withNumbersHex, does}
+use Rattle.bench_verbs.specs.Line.{isSaveHex, Said, withNumber, withHex, withSave, withNumberHex, withHexNumber, withNumbersHex, withTwoHex, withThreeHex, does}
 use Rattle.bench_orders.specs.Tells.{meant, Lies, SaveLies, Tells}
 use Rattle.bench_words.specs.Scan.{numberIn}
 use Rattle.bench_words.specs.declared.Number.{Number}
@@ -90,14 +90,32 @@ pub hex-old : (s : Bool) (w : List ℕ) (b : Bool) → s ≡ false → b ≡ isH
 unfolding formOf isSaveHex
 hex-old s w b e h = rw e h
 
+-- ---- three times HEX, or not
+
+pub three-hex : (w x y : List ℕ) (b c d : Bool) → b ≡ isHex w → b ≡ true → c ≡ isHex x → c ≡ true → d ≡ isHex y → d ≡ true → Said.wrap (octetsOf w) (octetsOf x) (octetsOf y) ≡ withThreeHex Said.wrap (w ∷ x ∷ y ∷ [])
+unfolding withThreeHex withTwoHex withHex
+three-hex w x y b c d e f g h i j = rw (sym e ∙ f, sym g ∙ h, sym i ∙ j) refl
+
+pub not-first-hex : (w x y : List ℕ) (b : Bool) → b ≡ isHex w → b ≡ false → withThreeHex Said.wrap (w ∷ x ∷ y ∷ []) ≡ Said.bad
+unfolding withThreeHex
+not-first-hex w x y b e f = rw (sym e ∙ f) refl
+
+pub not-second-hex : (w x y : List ℕ) (b c : Bool) → b ≡ isHex w → b ≡ true → c ≡ isHex x → c ≡ false → withThreeHex Said.wrap (w ∷ x ∷ y ∷ []) ≡ Said.bad
+unfolding withThreeHex withTwoHex
+not-second-hex w x y b c e f g h = rw (sym e ∙ f, sym g ∙ h) refl
+
+pub not-third-hex : (w x y : List ℕ) (b c d : Bool) → b ≡ isHex w → b ≡ true → c ≡ isHex x → c ≡ true → d ≡ isHex y → d ≡ false → withThreeHex Said.wrap (w ∷ x ∷ y ∷ []) ≡ Said.bad
+unfolding withThreeHex withTwoHex withHex
+not-third-hex w x y b c d e f g h i j = rw (sym e ∙ f, sym g ∙ h, sym i ∙ j) refl
+
 -- ---- the other verbs
 
 pub tells-bad : (l : List ℕ) (s : Said) → s ≡ Said.bad → Tells l s Order.Bad
 unfolding meant
 tells-bad l s e = record { means = rw e; lies = tt }
 
-pub none-bad : (l : List ℕ) (v : Verb) → OneOf (0 ∷ 1 ∷ 2 ∷ 3 ∷ 4 ∷ 5 ∷ 6 ∷ 7 ∷ 9 ∷ 11 ∷ 12 ∷ 13 ∷ 14 ∷ []) (tagOf the-type v) → Tells l (does v []) Order.Bad
-unfolding does withNumber withHex withSave withNumberHex withHexNumber withNumbersHex
+pub none-bad : (l : List ℕ) (v : Verb) → OneOf (0 ∷ 1 ∷ 2 ∷ 3 ∷ 4 ∷ 5 ∷ 6 ∷ 7 ∷ 9 ∷ 11 ∷ 12 ∷ 13 ∷ 14 ∷ 15 ∷ 16 ∷ 17 ∷ []) (tagOf the-type v) → Tells l (does v []) Order.Bad
+unfolding does withNumber withHex withSave withNumberHex withHexNumber withNumbersHex withTwoHex withThreeHex
 none-bad l Verb.Start h = tells-bad l _ refl
 none-bad l Verb.Room h = tells-bad l _ refl
 none-bad l Verb.Take h = tells-bad l _ refl
@@ -106,12 +124,15 @@ none-bad l Verb.Leave h = tells-bad l _ refl
 none-bad l Verb.Route h = tells-bad l _ refl
 none-bad l Verb.Label h = tells-bad l _ refl
 none-bad l Verb.Tree h = tells-bad l _ refl
-none-bad l Verb.Free h = absurd (miss (0 ∷ 1 ∷ 2 ∷ 3 ∷ 4 ∷ 5 ∷ 6 ∷ 7 ∷ 9 ∷ 11 ∷ 12 ∷ 13 ∷ 14 ∷ []) 8 tt h)
+none-bad l Verb.Free h = absurd (miss (0 ∷ 1 ∷ 2 ∷ 3 ∷ 4 ∷ 5 ∷ 6 ∷ 7 ∷ 9 ∷ 11 ∷ 12 ∷ 13 ∷ 14 ∷ 15 ∷ 16 ∷ 17 ∷ []) 8 tt h)
 none-bad l Verb.Notice h = tells-bad l _ refl
-none-bad l (Verb.Save b) h = absurd (miss (0 ∷ 1 ∷ 2 ∷ 3 ∷ 4 ∷ 5 ∷ 6 ∷ 7 ∷ 9 ∷ 11 ∷ 12 ∷ 13 ∷ 14 ∷ []) 10 tt h)
+none-bad l (Verb.Save b) h = absurd (miss (0 ∷ 1 ∷ 2 ∷ 3 ∷ 4 ∷ 5 ∷ 6 ∷ 7 ∷ 9 ∷ 11 ∷ 12 ∷ 13 ∷ 14 ∷ 15 ∷ 16 ∷ 17 ∷ []) 10 tt h)
 none-bad l (Verb.Restore b) h = tells-bad l _ refl
 none-bad l Verb.Lost h = tells-bad l _ refl
 none-bad l (Verb.Move b) h = tells-bad l _ refl
+none-bad l Verb.Layers h = tells-bad l _ refl
+none-bad l Verb.Wrap h = tells-bad l _ refl
+none-bad l Verb.Unwrap h = tells-bad l _ refl
 none-bad l Verb.Other h = tells-bad l _ refl
 
 either : (b : Bool) (s : Said) → s ≡ Said.bad → pick b s Said.bad ≡ Said.bad
@@ -136,40 +157,46 @@ pub no-as-hex : (v : Verb) (w : List ℕ) (b : Bool) → b ≡ isHex w → b ≡
 unfolding asHex
 no-as-hex v w b e g = rw (sym e ∙ g)
 
-pub numbered-other : (v : Verb) (n : ℕ) → OneOf (2 ∷ 3 ∷ 4 ∷ 5 ∷ 7 ∷ 8 ∷ 9 ∷ 10 ∷ 11 ∷ 13 ∷ 14 ∷ []) (tagOf the-type v) → numbered v n ≡ Said.bad
+pub numbered-other : (v : Verb) (n : ℕ) → OneOf (2 ∷ 3 ∷ 4 ∷ 5 ∷ 7 ∷ 8 ∷ 9 ∷ 10 ∷ 11 ∷ 13 ∷ 14 ∷ 15 ∷ 16 ∷ 17 ∷ []) (tagOf the-type v) → numbered v n ≡ Said.bad
 unfolding numbered
-numbered-other Verb.Start n h = absurd (miss (2 ∷ 3 ∷ 4 ∷ 5 ∷ 7 ∷ 8 ∷ 9 ∷ 10 ∷ 11 ∷ 13 ∷ 14 ∷ []) 0 tt h)
-numbered-other Verb.Room n h = absurd (miss (2 ∷ 3 ∷ 4 ∷ 5 ∷ 7 ∷ 8 ∷ 9 ∷ 10 ∷ 11 ∷ 13 ∷ 14 ∷ []) 1 tt h)
+numbered-other Verb.Start n h = absurd (miss (2 ∷ 3 ∷ 4 ∷ 5 ∷ 7 ∷ 8 ∷ 9 ∷ 10 ∷ 11 ∷ 13 ∷ 14 ∷ 15 ∷ 16 ∷ 17 ∷ []) 0 tt h)
+numbered-other Verb.Room n h = absurd (miss (2 ∷ 3 ∷ 4 ∷ 5 ∷ 7 ∷ 8 ∷ 9 ∷ 10 ∷ 11 ∷ 13 ∷ 14 ∷ 15 ∷ 16 ∷ 17 ∷ []) 1 tt h)
 numbered-other Verb.Take n h = refl
 numbered-other Verb.Join n h = refl
 numbered-other Verb.Leave n h = refl
 numbered-other Verb.Route n h = refl
-numbered-other Verb.Label n h = absurd (miss (2 ∷ 3 ∷ 4 ∷ 5 ∷ 7 ∷ 8 ∷ 9 ∷ 10 ∷ 11 ∷ 13 ∷ 14 ∷ []) 6 tt h)
+numbered-other Verb.Label n h = absurd (miss (2 ∷ 3 ∷ 4 ∷ 5 ∷ 7 ∷ 8 ∷ 9 ∷ 10 ∷ 11 ∷ 13 ∷ 14 ∷ 15 ∷ 16 ∷ 17 ∷ []) 6 tt h)
 numbered-other Verb.Tree n h = refl
 numbered-other Verb.Free n h = refl
 numbered-other Verb.Notice n h = refl
 numbered-other (Verb.Save b) n h = refl
 numbered-other (Verb.Restore b) n h = refl
-numbered-other Verb.Lost n h = absurd (miss (2 ∷ 3 ∷ 4 ∷ 5 ∷ 7 ∷ 8 ∷ 9 ∷ 10 ∷ 11 ∷ 13 ∷ 14 ∷ []) 12 tt h)
+numbered-other Verb.Lost n h = absurd (miss (2 ∷ 3 ∷ 4 ∷ 5 ∷ 7 ∷ 8 ∷ 9 ∷ 10 ∷ 11 ∷ 13 ∷ 14 ∷ 15 ∷ 16 ∷ 17 ∷ []) 12 tt h)
 numbered-other (Verb.Move b) n h = refl
+numbered-other Verb.Layers n h = refl
+numbered-other Verb.Wrap n h = refl
+numbered-other Verb.Unwrap n h = refl
 numbered-other Verb.Other n h = refl
 
-pub octets-other : (v : Verb) (o : List ℕ) → OneOf (0 ∷ 1 ∷ 2 ∷ 5 ∷ 6 ∷ 8 ∷ 9 ∷ 10 ∷ 11 ∷ 12 ∷ 13 ∷ 14 ∷ []) (tagOf the-type v) → withOctets v o ≡ Said.bad
+pub octets-other : (v : Verb) (o : List ℕ) → OneOf (0 ∷ 1 ∷ 2 ∷ 5 ∷ 6 ∷ 8 ∷ 9 ∷ 10 ∷ 11 ∷ 12 ∷ 13 ∷ 15 ∷ 17 ∷ []) (tagOf the-type v) → withOctets v o ≡ Said.bad
 unfolding withOctets
 octets-other Verb.Start o h = refl
 octets-other Verb.Room o h = refl
 octets-other Verb.Take o h = refl
-octets-other Verb.Join o h = absurd (miss (0 ∷ 1 ∷ 2 ∷ 5 ∷ 6 ∷ 8 ∷ 9 ∷ 10 ∷ 11 ∷ 12 ∷ 13 ∷ 14 ∷ []) 3 tt h)
-octets-other Verb.Leave o h = absurd (miss (0 ∷ 1 ∷ 2 ∷ 5 ∷ 6 ∷ 8 ∷ 9 ∷ 10 ∷ 11 ∷ 12 ∷ 13 ∷ 14 ∷ []) 4 tt h)
+octets-other Verb.Join o h = absurd (miss (0 ∷ 1 ∷ 2 ∷ 5 ∷ 6 ∷ 8 ∷ 9 ∷ 10 ∷ 11 ∷ 12 ∷ 13 ∷ 15 ∷ 17 ∷ []) 3 tt h)
+octets-other Verb.Leave o h = absurd (miss (0 ∷ 1 ∷ 2 ∷ 5 ∷ 6 ∷ 8 ∷ 9 ∷ 10 ∷ 11 ∷ 12 ∷ 13 ∷ 15 ∷ 17 ∷ []) 4 tt h)
 octets-other Verb.Route o h = refl
 octets-other Verb.Label o h = refl
-octets-other Verb.Tree o h = absurd (miss (0 ∷ 1 ∷ 2 ∷ 5 ∷ 6 ∷ 8 ∷ 9 ∷ 10 ∷ 11 ∷ 12 ∷ 13 ∷ 14 ∷ []) 7 tt h)
+octets-other Verb.Tree o h = absurd (miss (0 ∷ 1 ∷ 2 ∷ 5 ∷ 6 ∷ 8 ∷ 9 ∷ 10 ∷ 11 ∷ 12 ∷ 13 ∷ 15 ∷ 17 ∷ []) 7 tt h)
 octets-other Verb.Free o h = refl
 octets-other Verb.Notice o h = refl
 octets-other (Verb.Save b) o h = refl
 octets-other (Verb.Restore b) o h = refl
 octets-other Verb.Lost o h = refl
 octets-other (Verb.Move b) o h = refl
+octets-other Verb.Layers o h = absurd (miss (0 ∷ 1 ∷ 2 ∷ 5 ∷ 6 ∷ 8 ∷ 9 ∷ 10 ∷ 11 ∷ 12 ∷ 13 ∷ 15 ∷ 17 ∷ []) 14 tt h)
+octets-other Verb.Wrap o h = refl
+octets-other Verb.Unwrap o h = absurd (miss (0 ∷ 1 ∷ 2 ∷ 5 ∷ 6 ∷ 8 ∷ 9 ∷ 10 ∷ 11 ∷ 12 ∷ 13 ∷ 15 ∷ 17 ∷ []) 16 tt h)
 octets-other Verb.Other o h = refl
 
 pub one-number-does : (v : Verb) (w : List ℕ) → OneOf (0 ∷ 1 ∷ 6 ∷ 12 ∷ []) (tagOf the-type v) → does v (w ∷ []) ≡ asNumber v w
@@ -188,36 +215,42 @@ one-number-does (Verb.Save b) w h = absurd (miss (0 ∷ 1 ∷ 6 ∷ 12 ∷ []) 1
 one-number-does (Verb.Restore b) w h = absurd (miss (0 ∷ 1 ∷ 6 ∷ 12 ∷ []) 11 tt h)
 one-number-does Verb.Lost w h = refl
 one-number-does (Verb.Move b) w h = absurd (miss (0 ∷ 1 ∷ 6 ∷ 12 ∷ []) 13 tt h)
-one-number-does Verb.Other w h = absurd (miss (0 ∷ 1 ∷ 6 ∷ 12 ∷ []) 14 tt h)
+one-number-does Verb.Layers w h = absurd (miss (0 ∷ 1 ∷ 6 ∷ 12 ∷ []) 14 tt h)
+one-number-does Verb.Wrap w h = absurd (miss (0 ∷ 1 ∷ 6 ∷ 12 ∷ []) 15 tt h)
+one-number-does Verb.Unwrap w h = absurd (miss (0 ∷ 1 ∷ 6 ∷ 12 ∷ []) 16 tt h)
+one-number-does Verb.Other w h = absurd (miss (0 ∷ 1 ∷ 6 ∷ 12 ∷ []) 17 tt h)
 
-pub one-hex-does : (v : Verb) (w : List ℕ) → OneOf (2 ∷ 3 ∷ 4 ∷ 5 ∷ 7 ∷ 8 ∷ 9 ∷ 10 ∷ 14 ∷ []) (tagOf the-type v) → does v (w ∷ []) ≡ asHex v w
-unfolding does withNumber withHex withSave withNumberHex withHexNumber withNumbersHex asHex withOctets
-one-hex-does Verb.Start w h = absurd (miss (2 ∷ 3 ∷ 4 ∷ 5 ∷ 7 ∷ 8 ∷ 9 ∷ 10 ∷ 14 ∷ []) 0 tt h)
-one-hex-does Verb.Room w h = absurd (miss (2 ∷ 3 ∷ 4 ∷ 5 ∷ 7 ∷ 8 ∷ 9 ∷ 10 ∷ 14 ∷ []) 1 tt h)
+pub one-hex-does : (v : Verb) (w : List ℕ) → OneOf (2 ∷ 3 ∷ 4 ∷ 5 ∷ 7 ∷ 8 ∷ 9 ∷ 10 ∷ 14 ∷ 15 ∷ 16 ∷ 17 ∷ []) (tagOf the-type v) → does v (w ∷ []) ≡ asHex v w
+unfolding does withNumber withHex withSave withNumberHex withHexNumber withNumbersHex withTwoHex withThreeHex asHex withOctets
+one-hex-does Verb.Start w h = absurd (miss (2 ∷ 3 ∷ 4 ∷ 5 ∷ 7 ∷ 8 ∷ 9 ∷ 10 ∷ 14 ∷ 15 ∷ 16 ∷ 17 ∷ []) 0 tt h)
+one-hex-does Verb.Room w h = absurd (miss (2 ∷ 3 ∷ 4 ∷ 5 ∷ 7 ∷ 8 ∷ 9 ∷ 10 ∷ 14 ∷ 15 ∷ 16 ∷ 17 ∷ []) 1 tt h)
 one-hex-does Verb.Take w h = either (isNumber w) Said.bad refl ∙ sym (either (isHex w) Said.bad refl)
 one-hex-does Verb.Join w h = refl
 one-hex-does Verb.Leave w h = refl
 one-hex-does Verb.Route w h = refl
-one-hex-does Verb.Label w h = absurd (miss (2 ∷ 3 ∷ 4 ∷ 5 ∷ 7 ∷ 8 ∷ 9 ∷ 10 ∷ 14 ∷ []) 6 tt h)
+one-hex-does Verb.Label w h = absurd (miss (2 ∷ 3 ∷ 4 ∷ 5 ∷ 7 ∷ 8 ∷ 9 ∷ 10 ∷ 14 ∷ 15 ∷ 16 ∷ 17 ∷ []) 6 tt h)
 one-hex-does Verb.Tree w h = refl
 one-hex-does Verb.Free w h = sym (either (isHex w) Said.bad refl)
 one-hex-does Verb.Notice w h = either (isNumber w) Said.bad refl ∙ sym (either (isHex w) Said.bad refl)
 one-hex-does (Verb.Save b) w h = sym (either (isHex w) Said.bad refl)
-one-hex-does (Verb.Restore b) w h = absurd (miss (2 ∷ 3 ∷ 4 ∷ 5 ∷ 7 ∷ 8 ∷ 9 ∷ 10 ∷ 14 ∷ []) 11 tt h)
-one-hex-does Verb.Lost w h = absurd (miss (2 ∷ 3 ∷ 4 ∷ 5 ∷ 7 ∷ 8 ∷ 9 ∷ 10 ∷ 14 ∷ []) 12 tt h)
-one-hex-does (Verb.Move b) w h = absurd (miss (2 ∷ 3 ∷ 4 ∷ 5 ∷ 7 ∷ 8 ∷ 9 ∷ 10 ∷ 14 ∷ []) 13 tt h)
+one-hex-does (Verb.Restore b) w h = absurd (miss (2 ∷ 3 ∷ 4 ∷ 5 ∷ 7 ∷ 8 ∷ 9 ∷ 10 ∷ 14 ∷ 15 ∷ 16 ∷ 17 ∷ []) 11 tt h)
+one-hex-does Verb.Lost w h = absurd (miss (2 ∷ 3 ∷ 4 ∷ 5 ∷ 7 ∷ 8 ∷ 9 ∷ 10 ∷ 14 ∷ 15 ∷ 16 ∷ 17 ∷ []) 12 tt h)
+one-hex-does (Verb.Move b) w h = absurd (miss (2 ∷ 3 ∷ 4 ∷ 5 ∷ 7 ∷ 8 ∷ 9 ∷ 10 ∷ 14 ∷ 15 ∷ 16 ∷ 17 ∷ []) 13 tt h)
+one-hex-does Verb.Layers w h = refl
+one-hex-does Verb.Wrap w h = refl
+one-hex-does Verb.Unwrap w h = refl
 one-hex-does Verb.Other w h = sym (either (isHex w) Said.bad refl)
 
 -- ---- two further words, and more
 
-pub two-bad : (l : List ℕ) (v : Verb) (w x : List ℕ) → OneOf (0 ∷ 1 ∷ 3 ∷ 4 ∷ 6 ∷ 7 ∷ 8 ∷ 9 ∷ 10 ∷ 11 ∷ 12 ∷ 13 ∷ 14 ∷ []) (tagOf the-type v) → Tells l (does v (w ∷ x ∷ [])) Order.Bad
-unfolding does withNumber withHex withSave withNumberHex withHexNumber withNumbersHex
+pub two-bad : (l : List ℕ) (v : Verb) (w x : List ℕ) → OneOf (0 ∷ 1 ∷ 3 ∷ 4 ∷ 6 ∷ 7 ∷ 8 ∷ 9 ∷ 10 ∷ 11 ∷ 12 ∷ 13 ∷ 14 ∷ 15 ∷ 16 ∷ 17 ∷ []) (tagOf the-type v) → Tells l (does v (w ∷ x ∷ [])) Order.Bad
+unfolding does withNumber withHex withSave withNumberHex withHexNumber withNumbersHex withTwoHex withThreeHex
 two-bad l Verb.Start w x h = tells-bad l _ refl
 two-bad l Verb.Room w x h = tells-bad l _ refl
-two-bad l Verb.Take w x h = absurd (miss (0 ∷ 1 ∷ 3 ∷ 4 ∷ 6 ∷ 7 ∷ 8 ∷ 9 ∷ 10 ∷ 11 ∷ 12 ∷ 13 ∷ 14 ∷ []) 2 tt h)
+two-bad l Verb.Take w x h = absurd (miss (0 ∷ 1 ∷ 3 ∷ 4 ∷ 6 ∷ 7 ∷ 8 ∷ 9 ∷ 10 ∷ 11 ∷ 12 ∷ 13 ∷ 14 ∷ 15 ∷ 16 ∷ 17 ∷ []) 2 tt h)
 two-bad l Verb.Join w x h = tells-bad l _ refl
 two-bad l Verb.Leave w x h = tells-bad l _ refl
-two-bad l Verb.Route w x h = absurd (miss (0 ∷ 1 ∷ 3 ∷ 4 ∷ 6 ∷ 7 ∷ 8 ∷ 9 ∷ 10 ∷ 11 ∷ 12 ∷ 13 ∷ 14 ∷ []) 5 tt h)
+two-bad l Verb.Route w x h = absurd (miss (0 ∷ 1 ∷ 3 ∷ 4 ∷ 6 ∷ 7 ∷ 8 ∷ 9 ∷ 10 ∷ 11 ∷ 12 ∷ 13 ∷ 14 ∷ 15 ∷ 16 ∷ 17 ∷ []) 5 tt h)
 two-bad l Verb.Label w x h = tells-bad l _ refl
 two-bad l Verb.Tree w x h = tells-bad l _ refl
 two-bad l Verb.Free w x h = tells-bad l _ refl
@@ -226,11 +259,14 @@ two-bad l (Verb.Save b) w x h = tells-bad l _ refl
 two-bad l (Verb.Restore b) w x h = tells-bad l _ refl
 two-bad l Verb.Lost w x h = tells-bad l _ refl
 two-bad l (Verb.Move b) w x h = tells-bad l _ refl
+two-bad l Verb.Layers w x h = tells-bad l _ refl
+two-bad l Verb.Wrap w x h = tells-bad l _ (either (isHex w) _ (either (isHex x) Said.bad refl))
+two-bad l Verb.Unwrap w x h = tells-bad l _ refl
 two-bad l Verb.Other w x h = tells-bad l _ refl
 
 -- three further words, and four or more
-pub three-bad : (l : List ℕ) (v : Verb) (w x y : List ℕ) (ws : List (List ℕ)) → OneOf (0 ∷ 1 ∷ 2 ∷ 3 ∷ 4 ∷ 5 ∷ 6 ∷ 7 ∷ 8 ∷ 10 ∷ 11 ∷ 12 ∷ 13 ∷ 14 ∷ []) (tagOf the-type v) → Tells l (does v (w ∷ x ∷ y ∷ ws)) Order.Bad
-unfolding does withNumber withHex withSave withNumberHex withHexNumber
+pub three-bad : (l : List ℕ) (v : Verb) (w x y : List ℕ) (ws : List (List ℕ)) → OneOf (0 ∷ 1 ∷ 2 ∷ 3 ∷ 4 ∷ 5 ∷ 6 ∷ 7 ∷ 8 ∷ 10 ∷ 11 ∷ 12 ∷ 13 ∷ 14 ∷ 16 ∷ 17 ∷ []) (tagOf the-type v) → Tells l (does v (w ∷ x ∷ y ∷ ws)) Order.Bad
+unfolding does withNumber withHex withSave withNumberHex withHexNumber withTwoHex withThreeHex
 three-bad l Verb.Start w x y ws h = tells-bad l _ refl
 three-bad l Verb.Room w x y ws h = tells-bad l _ refl
 three-bad l Verb.Take w x y ws h = tells-bad l _ (either (isNumber w) Said.bad refl)
@@ -240,15 +276,18 @@ three-bad l Verb.Route w x y ws h = tells-bad l _ (either (isHex w) Said.bad ref
 three-bad l Verb.Label w x y ws h = tells-bad l _ refl
 three-bad l Verb.Tree w x y ws h = tells-bad l _ refl
 three-bad l Verb.Free w x y ws h = tells-bad l _ refl
-three-bad l Verb.Notice w x y ws h = absurd (miss (0 ∷ 1 ∷ 2 ∷ 3 ∷ 4 ∷ 5 ∷ 6 ∷ 7 ∷ 8 ∷ 10 ∷ 11 ∷ 12 ∷ 13 ∷ 14 ∷ []) 9 tt h)
+three-bad l Verb.Notice w x y ws h = absurd (miss (0 ∷ 1 ∷ 2 ∷ 3 ∷ 4 ∷ 5 ∷ 6 ∷ 7 ∷ 8 ∷ 10 ∷ 11 ∷ 12 ∷ 13 ∷ 14 ∷ 16 ∷ 17 ∷ []) 9 tt h)
 three-bad l (Verb.Save b) w x y ws h = tells-bad l _ refl
 three-bad l (Verb.Restore b) w x y ws h = tells-bad l _ refl
 three-bad l Verb.Lost w x y ws h = tells-bad l _ refl
 three-bad l (Verb.Move b) w x y ws h = tells-bad l _ refl
+three-bad l Verb.Layers w x y ws h = tells-bad l _ refl
+three-bad l Verb.Wrap w x y ws h = absurd (miss (0 ∷ 1 ∷ 2 ∷ 3 ∷ 4 ∷ 5 ∷ 6 ∷ 7 ∷ 8 ∷ 10 ∷ 11 ∷ 12 ∷ 13 ∷ 14 ∷ 16 ∷ 17 ∷ []) 15 tt h)
+three-bad l Verb.Unwrap w x y ws h = tells-bad l _ refl
 three-bad l Verb.Other w x y ws h = tells-bad l _ refl
 
 pub more-bad : (l : List ℕ) (v : Verb) (w x y z : List ℕ) (ws : List (List ℕ)) → Tells l (does v (w ∷ x ∷ y ∷ z ∷ ws)) Order.Bad
-unfolding does withNumber withHex withSave withNumberHex withHexNumber withNumbersHex
+unfolding does withNumber withHex withSave withNumberHex withHexNumber withNumbersHex withTwoHex withThreeHex
 more-bad l Verb.Start w x y z ws = tells-bad l _ refl
 more-bad l Verb.Room w x y z ws = tells-bad l _ refl
 more-bad l Verb.Take w x y z ws = tells-bad l _ (either (isNumber w) Said.bad refl)
@@ -263,4 +302,7 @@ more-bad l (Verb.Save b) w x y z ws = tells-bad l _ refl
 more-bad l (Verb.Restore b) w x y z ws = tells-bad l _ refl
 more-bad l Verb.Lost w x y z ws = tells-bad l _ refl
 more-bad l (Verb.Move b) w x y z ws = tells-bad l _ refl
+more-bad l Verb.Layers w x y z ws = tells-bad l _ refl
+more-bad l Verb.Wrap w x y z ws = tells-bad l _ (either (isHex w) _ (either (isHex x) Said.bad refl))
+more-bad l Verb.Unwrap w x y z ws = tells-bad l _ refl
 more-bad l Verb.Other w x y z ws = tells-bad l _ refl

@@ -22,6 +22,9 @@ numbered (Verb.Save b) n = Said.bad
 numbered (Verb.Restore b) n = Said.bad
 numbered Verb.Lost n = Said.lost n
 numbered (Verb.Move b) n = Said.bad
+numbered Verb.Layers n = Said.bad
+numbered Verb.Wrap n = Said.bad
+numbered Verb.Unwrap n = Said.bad
 numbered Verb.Other n = Said.bad
 
 unfoldable pub asNumber : Verb → List ℕ → Said
@@ -42,6 +45,9 @@ withOctets (Verb.Save b) o = Said.bad
 withOctets (Verb.Restore b) o = Said.bad
 withOctets Verb.Lost o = Said.bad
 withOctets (Verb.Move b) o = Said.bad
+withOctets Verb.Layers o = Said.layers o
+withOctets Verb.Wrap o = Said.bad
+withOctets Verb.Unwrap o = Said.unwrap o
 withOctets Verb.Other o = Said.bad
 
 unfoldable pub asHex : Verb → List ℕ → Said

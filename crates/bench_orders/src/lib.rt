@@ -3,9 +3,9 @@ ghost use mathlib.Core.Path.{_≡_};
 ghost use mathlib.Core.List.{[], _∷_};
 ghost use Prim.Native.Nat.{_≤_};
 ghost use lib.ListN.{length, drop};
-ghost use Rattle.bench_words.specs.Words.{part, words};
+ghost use Rattle.bench_words.specs.Words.{part, words, isHex};
 ghost use Rattle.bench_words.specs.Scan.{numberIn};
-ghost use Rattle.bench_verbs.specs.Line.{isSaveHex, withSave, restore, moves, does, orderOf};
+ghost use Rattle.bench_verbs.specs.Line.{isSaveHex, Said, withSave, withThreeHex, restore, moves, does, orderOf};
 ghost use Rattle.meaning.specs.Save.{formOf};
 ghost use Rattle.bench_orders.specs.Tells.{Tells};
 ghost use Rattle.bench_orders.specs.Scan.{asNumber, asHex};
@@ -81,6 +81,20 @@ pub enum Order {
         start: usize,
         end: usize,
     },
+    Layers {
+        start: usize,
+        end: usize,
+    },
+    Wrap {
+        root: Word,
+        eight: Word,
+        start: usize,
+        end: usize,
+    },
+    Unwrap {
+        start: usize,
+        end: usize,
+    },
 }
 
 // An order with no further word.
@@ -111,7 +125,7 @@ fn with_number(line: &[u8], verb: Verb, start: usize, end: usize) -> Order
     }
 }
 
-// HEX alone, as `join`, `leave` and `tree` take it.
+// HEX alone, as `join`, `leave`, `tree`, `layers` and `unwrap` take it.
 fn with_hex(line: &[u8], verb: Verb, start: usize, end: usize) -> Order
     requires { ⌜ (start ≤ end) × (end ≤ length (now line)) ⌝ }
     ensures { λ r. ⌜ Tells (now (line .entry)) (asHex verb (part start end (now (line .entry)))) r ⌝ }
@@ -121,6 +135,8 @@ fn with_hex(line: &[u8], verb: Verb, start: usize, end: usize) -> Order
             Verb::Join => Order::Join { start, end },
             Verb::Leave => Order::Leave { start, end },
             Verb::Tree => Order::Tree { start, end },
+            Verb::Layers => Order::Layers { start, end },
+            Verb::Unwrap => Order::Unwrap { start, end },
             _ => Order::Bad,
         };
     }
@@ -216,7 +232,40 @@ fn number_at(line: &[u8], word: Word) -> Number
     bench_words::read_number(&line[start..end])
 }
 
-// An order with three further words: two numbers and HEX, as `notice` takes them.
+fn hex_at(line: &[u8], word: Word) -> bool
+    requires { ⌜ (word .start ≤ word .end) × (word .end ≤ length (now line)) ⌝ }
+    ensures { λ r. ⌜ r ≡ isHex (part (word .start) (word .end) (now (line .entry))) ⌝ }
+{
+    let start = word.start;
+    let end = word.end;
+    bench_words::is_hex(&line[start..end])
+}
+
+// Three times HEX, as `wrap` takes it.
+fn with_three_hex(line: &[u8], first: Word, second: Word, third: Word) -> Order
+    requires { ⌜ (first .start ≤ first .end) × (first .end ≤ length (now line)) × (second .start ≤ second .end) × (second .end ≤ length (now line)) ⌝ }
+    requires { ⌜ (third .start ≤ third .end) × (third .end ≤ length (now line)) ⌝ }
+    ensures { λ r. ⌜ Tells (now (line .entry)) (withThreeHex Said.wrap (part (first .start) (first .end) (now (line .entry)) ∷ part (second .start) (second .end) (now (line .entry))
+        ∷ part (third .start) (third .end) (now (line .entry)) ∷ [])) r ⌝ }
+{
+    if !hex_at(line, first) {
+        return Order::Bad;
+    }
+    if !hex_at(line, second) {
+        return Order::Bad;
+    }
+    if !hex_at(line, third) {
+        return Order::Bad;
+    }
+    Order::Wrap {
+        root: first,
+        eight: second,
+        start: third.start,
+        end: third.end,
+    }
+}
+
+// An order with three further words: two numbers and HEX, as `notice` takes them, or three times HEX.
 fn with_three(line: &[u8], verb: Verb, first: Word, second: Word, third: Word) -> Order
     requires { ⌜ (first .start ≤ first .end) × (first .end ≤ length (now line)) × (second .start ≤ second .end) × (second .end ≤ length (now line)) ⌝ }
     requires { ⌜ (third .start ≤ third .end) × (third .end ≤ length (now line)) ⌝ }
@@ -243,6 +292,7 @@ fn with_three(line: &[u8], verb: Verb, first: Word, second: Word, third: Word) -
             }
             Order::Bad
         }
+        Verb::Wrap => with_three_hex(line, first, second, third),
         _ => Order::Bad,
     }
 }

@@ -4,13 +4,16 @@ use Prim.Native.Nat.{ℕ, _≤_, min}
 use mathlib.Core.Path.{_≡_}
 use mathlib.Core.List.{List, []}
 use lib.ListN.{take}
+use Rattle.meaning.specs.Wire.{nameLimit}
 use Rattle.meaning.specs.Card.{Card, freeLabels, lookupLabel, lookupName, sentLimit}
 use Rattle.meaning.specs.Events.{Out, start, event, receive, join, leave, route, lost}
 use Rattle.meaning.specs.Notice.{notice}
 use Rattle.meaning.specs.Save.{Form, old, new, save, restore, Moved, move, saveLimit}
+use Rattle.meaning_layers.specs.Layers.{read, wrap, unwrap}
 use Rattle.bench_words.specs.Words.{ascii}
 use Rattle.bench_verbs.specs.Line.{Said}
 use Rattle.bench_lines.specs.Text.{countLine, eventLine, feedLine, textSpace}
+use Rattle.bench_layers.specs.LayerText.{layersLine, wrapLine, unwrapLine}
 use Rattle.bench_orders.specs.declared.Order.{Order}
 
 -- room: how many octets of output later events and saves are lent
@@ -61,6 +64,10 @@ unfoldable pub other : Form → Form
 other old = new
 other new = old
 
+-- and a name that is wrapped or unwrapped 150, which is enough for any
+abbrev pub nameRoom : ℕ → ℕ
+nameRoom room = min room nameLimit
+
 -- THE REPLY to what a line says, by the number of the line, the room and the card. The room is another only after `room`.
 unfoldable pub replyTo : (number room : ℕ) → Card → Said → Reply
 replyTo number room c Said.nothing = only [] c room
@@ -79,6 +86,9 @@ replyTo number room c Said.free = only (countLine (ascii "free") (freeLabels c))
 replyTo number room c (Said.save f) = told (saveWord f) (save f (saveRoom f room) c) room
 replyTo number room c (Said.restore f octets) = counted (restoreWord f) (restore f octets c) room
 replyTo number room c (Said.moves f octets) = shifted (moveWord f) (move f (other f) (saveRoom (other f) room) octets) c room
+replyTo number room c (Said.layers name) = only (layersLine (read name)) c room
+replyTo number room c (Said.wrap root eight name) = only (wrapLine (wrap (nameRoom room) root eight name)) c room
+replyTo number room c (Said.unwrap name) = only (unwrapLine (unwrap (nameRoom room) name)) c room
 
 -- ---- what the functions state
 
@@ -111,3 +121,6 @@ WritesRecords (Order.Save b) = ⊥
 WritesRecords (Order.Restore b s e) = ⊥
 WritesRecords (Order.Lost n) = Unit
 WritesRecords (Order.Move b s e) = ⊥
+WritesRecords (Order.Layers s e) = ⊥
+WritesRecords (Order.Wrap r d s e) = ⊥
+WritesRecords (Order.Unwrap s e) = ⊥

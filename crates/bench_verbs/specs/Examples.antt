@@ -6,7 +6,7 @@ use lib.ListN.{replicate}
 use Rattle.meaning.specs.Octets.{same, all}
 use Rattle.bench_words.specs.Words.{ascii, uncommented, lengthen, pieces, filled, words, valueFrom, value, isNumber, digit, isHexTo, isHex, octetsOf}
 use Rattle.meaning.specs.Save.{old, new, formOf}
-use Rattle.bench_verbs.specs.Line.{isSaveHex, Said, saveVerb, requestedVerb, verbOf, withNumber, withHex, withSave, withNumberHex, withHexNumber, withNumbersHex, does, saidBy, orderOf}
+use Rattle.bench_verbs.specs.Line.{isSaveHex, Said, layerVerb, saveVerb, requestedVerb, verbOf, withNumber, withHex, withSave, withNumberHex, withHexNumber, withNumbersHex, withTwoHex, withThreeHex, does, saidBy, orderOf}
 
 unfoldable pub says : String → Said
 says s = orderOf (ascii s)
@@ -80,8 +80,22 @@ pub examples-shown : (says "" ≡ Said.nothing)
     × (says "older -" ≡ Said.moves new [])
     × (says "older 4c 53" ≡ Said.bad)
     × (says "newest 4c" ≡ Said.bad)
-unfolding says ascii all uncommented lengthen pieces filled words valueFrom value isNumber digit isHexTo isHex isSaveHex octetsOf saveVerb requestedVerb verbOf withNumber withHex withSave withNumberHex withHexNumber withNumbersHex does saidBy orderOf same formOf
-examples-shown = (refl, refl, refl, refl, refl, refl, refl, refl, refl, refl, refl, refl, refl, refl, refl, refl, refl, refl, refl, refl, refl, refl, refl, refl, refl, refl, refl, refl, refl, refl, refl, refl, refl, refl, refl, refl, refl, refl, refl, refl, refl, refl, refl, refl, refl, refl, refl, refl, refl, refl, refl, refl, refl, refl, refl, refl, refl, refl, refl, refl, refl, refl, refl, refl, refl, refl, refl, refl, refl)
+    × (says "layers 06" ≡ Said.layers (6 ∷ []))
+    × (says "layers" ≡ Said.bad)
+    × (says "layers 06 00" ≡ Said.bad)
+    × (says "wrap C0000201 - 06" ≡ Said.wrap (192 ∷ 0 ∷ 2 ∷ 1 ∷ []) [] (6 ∷ []))
+    × (says "wrap - 00ff - # nothing in nothing" ≡ Said.wrap [] (0 ∷ 255 ∷ []) [])
+    × (says "wrap c0000201 06" ≡ Said.bad)
+    × (says "wrap c0000201 - 06 -" ≡ Said.bad)
+    × (says "wrap c000020 - 06" ≡ Said.bad)
+    × (says "wrap c0000201 0g 06" ≡ Said.bad)
+    × (says "wrap c0000201 - 0" ≡ Said.bad)
+    × (says "unwrap -" ≡ Said.unwrap [])
+    × (says "unwrap" ≡ Said.bad)
+    × (says "Unwrap 06" ≡ Said.bad)
+    × (says "unwrap 1 06" ≡ Said.bad)
+unfolding says ascii all uncommented lengthen pieces filled words valueFrom value isNumber digit isHexTo isHex isSaveHex octetsOf layerVerb saveVerb requestedVerb verbOf withNumber withHex withSave withNumberHex withHexNumber withNumbersHex withTwoHex withThreeHex does saidBy orderOf same formOf
+examples-shown = (refl, refl, refl, refl, refl, refl, refl, refl, refl, refl, refl, refl, refl, refl, refl, refl, refl, refl, refl, refl, refl, refl, refl, refl, refl, refl, refl, refl, refl, refl, refl, refl, refl, refl, refl, refl, refl, refl, refl, refl, refl, refl, refl, refl, refl, refl, refl, refl, refl, refl, refl, refl, refl, refl, refl, refl, refl, refl, refl, refl, refl, refl, refl, refl, refl, refl, refl, refl, refl, refl, refl, refl, refl, refl, refl, refl, refl, refl, refl, refl, refl, refl, refl)
 
 -- the longest HEX of a message, the longest of a save, and the longest line, and one more of each
 pub limits-shown : (orderOf (ascii "join " ++ replicate 8192 48) ≡ Said.join (replicate 4096 0))
@@ -92,5 +106,5 @@ pub limits-shown : (orderOf (ascii "join " ++ replicate 8192 48) ≡ Said.join (
     × (orderOf (ascii "older " ++ replicate 111336 48) ≡ Said.bad)
     × (orderOf (replicate 131072 32) ≡ Said.nothing)
     × (orderOf (replicate 131073 32) ≡ Said.bad)
-unfolding ascii all uncommented lengthen pieces filled words valueFrom value isNumber digit isHexTo isHex isSaveHex octetsOf saveVerb requestedVerb verbOf withNumber withHex withSave withNumberHex withHexNumber withNumbersHex does saidBy orderOf same formOf
+unfolding ascii all uncommented lengthen pieces filled words valueFrom value isNumber digit isHexTo isHex isSaveHex octetsOf layerVerb saveVerb requestedVerb verbOf withNumber withHex withSave withNumberHex withHexNumber withNumbersHex withTwoHex withThreeHex does saidBy orderOf same formOf
 limits-shown = (refl, refl, refl, refl, refl, refl, refl, refl)

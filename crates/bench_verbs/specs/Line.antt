@@ -14,11 +14,19 @@ pub data Said : Type 0 where
   nothing bad free : Said
   start room label lost : ℕ → Said
   take : ℕ → List ℕ → Said
-  join leave tree : List ℕ → Said
+  join leave tree layers unwrap : List ℕ → Said
   route : List ℕ → ℕ → Said
   notice : ℕ → ℕ → List ℕ → Said
+  wrap : List ℕ → List ℕ → List ℕ → Said
   save : Form → Said
   restore moves : Form → List ℕ → Said
+
+unfoldable pub layerVerb : List ℕ → Verb
+layerVerb w =
+    pick (same w (ascii "layers")) Verb.Layers
+    (pick (same w (ascii "wrap")) Verb.Wrap
+    (pick (same w (ascii "unwrap")) Verb.Unwrap
+    Verb.Other))
 
 unfoldable pub saveVerb : List ℕ → Verb
 saveVerb w =
@@ -28,7 +36,7 @@ saveVerb w =
     (pick (same w (ascii "restore2")) (Verb.Restore true)
     (pick (same w (ascii "newer")) (Verb.Move false)
     (pick (same w (ascii "older")) (Verb.Move true)
-    Verb.Other)))))
+    (layerVerb w))))))
 
 unfoldable pub requestedVerb : List ℕ → Verb
 requestedVerb w =
@@ -80,6 +88,14 @@ unfoldable pub withNumbersHex : (ℕ → ℕ → List ℕ → Said) → List (Li
 withNumbersHex f [] = bad
 withNumbersHex f (n ∷ ws) = pick (isNumber n) (withNumberHex (f (value n)) ws) bad
 
+unfoldable pub withTwoHex : (List ℕ → List ℕ → Said) → List (List ℕ) → Said
+withTwoHex f [] = bad
+withTwoHex f (h ∷ ws) = pick (isHex h) (withHex (f (octetsOf h)) ws) bad
+
+unfoldable pub withThreeHex : (List ℕ → List ℕ → List ℕ → Said) → List (List ℕ) → Said
+withThreeHex f [] = bad
+withThreeHex f (h ∷ ws) = pick (isHex h) (withTwoHex (f (octetsOf h)) ws) bad
+
 unfoldable pub does : Verb → List (List ℕ) → Said
 does Verb.Start ws = withNumber start ws
 does Verb.Room ws = withNumber room ws
@@ -97,6 +113,9 @@ does (Verb.Save second) (w ∷ ws) = bad
 does (Verb.Restore second) ws = withSave restore (formOf second) ws
 does Verb.Lost ws = withNumber lost ws
 does (Verb.Move second) ws = withSave moves (formOf second) ws
+does Verb.Layers ws = withHex layers ws
+does Verb.Wrap ws = withThreeHex wrap ws
+does Verb.Unwrap ws = withHex unwrap ws
 does Verb.Other ws = bad
 
 unfoldable pub saidBy : List (List ℕ) → Said

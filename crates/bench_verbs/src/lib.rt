@@ -1,6 +1,6 @@
 // The verb of a line of the bench program.
 ghost use mathlib.Core.Path.{_≡_};
-ghost use Rattle.bench_verbs.specs.Line.{saveVerb, requestedVerb, verbOf};
+ghost use Rattle.bench_verbs.specs.Line.{layerVerb, saveVerb, requestedVerb, verbOf};
 
 // The word that begins an order. Where an order is of a save, the mark says that it is one of the new form.
 pub enum Verb {
@@ -18,7 +18,26 @@ pub enum Verb {
     Restore(bool),
     Lost,
     Move(bool),
+    Layers,
+    Wrap,
+    Unwrap,
     Other,
+}
+
+// The verbs of names inside names.
+fn layer_verb(word: &[u8]) -> Verb
+    ensures { λ r. ⌜ r ≡ layerVerb (now (word .entry)) ⌝ }
+{
+    if octets::equal(word, b"layers") {
+        return Verb::Layers;
+    }
+    if octets::equal(word, b"wrap") {
+        return Verb::Wrap;
+    }
+    if octets::equal(word, b"unwrap") {
+        return Verb::Unwrap;
+    }
+    Verb::Other
 }
 
 // The verbs of the orders on saves.
@@ -43,7 +62,7 @@ fn save_verb(word: &[u8]) -> Verb
     if octets::equal(word, b"older") {
         return Verb::Move(true);
     }
-    Verb::Other
+    layer_verb(word)
 }
 
 // The verbs of the other orders that requests brought.

@@ -27,6 +27,12 @@ enum-told-2 c = search needs
 enum-told-3 : tie.Need-enum-told-3
 enum-told-3 c = search needs
 
+enum-told-4 : tie.Need-enum-told-4
+enum-told-4 c = search needs
+
+enum-told-5 : tie.Need-enum-told-5
+enum-told-5 c = search needs
+
 returns : tie.Need-returns
 unfolding withOctets meant
 returns c =
@@ -55,10 +61,28 @@ returns-3 c =
     }
 
 returns-4 : tie.Need-returns-4
-returns-4 c = tells-bad _ _ (sym (as-hex _ _ _ (c .before .before .is-hex .ensures) (c .before .if1 .taken)) ∙ octets-other (c .before .before .before .before .before .args .verb) _ (c .match .keys4))
+unfolding withOctets meant
+returns-4 c =
+    let start = c .before .before .before .before .before .before in
+    record {
+      means = rw (c .enum-told4 .given .1) (as-hex _ _ _ (c .before .before .before .is-hex .ensures) (c .before .before .if1 .taken));
+      lies = lies _ _ _ _ (start .pre .0) (start .pre .1) (c .before .before .before .is-hex .ensures) (c .before .before .if1 .taken);
+    }
 
 returns-5 : tie.Need-returns-5
-returns-5 c = tells-bad _ _ (no-as-hex _ _ _ (c .before .is-hex .ensures) (c .if1 .left))
+unfolding withOctets meant
+returns-5 c =
+    let start = c .before .before .before .before .before .before in
+    record {
+      means = rw (c .enum-told5 .given .1) (as-hex _ _ _ (c .before .before .before .is-hex .ensures) (c .before .before .if1 .taken));
+      lies = lies _ _ _ _ (start .pre .0) (start .pre .1) (c .before .before .before .is-hex .ensures) (c .before .before .if1 .taken);
+    }
+
+returns-6 : tie.Need-returns-6
+returns-6 c = tells-bad _ _ (sym (as-hex _ _ _ (c .before .before .is-hex .ensures) (c .before .if1 .taken)) ∙ octets-other (c .before .before .before .before .before .args .verb) _ (c .match .keys6))
+
+returns-7 : tie.Need-returns-7
+returns-7 c = tells-bad _ _ (no-as-hex _ _ _ (c .before .is-hex .ensures) (c .if1 .left))
 
 pub with-hex-spec : {M : Type 1} → statement M
 with-hex-spec =
@@ -71,8 +95,12 @@ with-hex-spec =
     enum-told
     enum-told-2
     enum-told-3
+    enum-told-4
+    enum-told-5
     returns
     returns-2
     returns-3
     returns-4
-    returns-5)
+    returns-5
+    returns-6
+    returns-7)

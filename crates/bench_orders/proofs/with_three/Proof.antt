@@ -82,8 +82,18 @@ returns-4 c =
       lies = tt;
     }
 
+enum-told-4 : tie.Need-enum-told-4
+enum-told-4 c = search needs
+
+with-three-hex-requires : tie.Need-with-three-hex-requires
+with-three-hex-requires c κs = search needs
+
 returns-5 : tie.Need-returns-5
-returns-5 c = three-bad _ (c .before .before .args .verb) _ _ _ _ (c .match .keys2)
+unfolding does
+returns-5 c = rw (c .before .enum-told4 .given .1) (c .with-three-hex .ensures)
+
+returns-6 : tie.Need-returns-6
+returns-6 c = three-bad _ (c .before .before .args .verb) _ _ _ _ (c .match .keys3)
 
 pub with-three-spec : {M : Type 1} → statement M
 with-three-spec =
@@ -103,5 +113,8 @@ with-three-spec =
     part-is-hex-end
     is-hex-requires
     returns-3
+    enum-told-4
+    with-three-hex-requires
     returns-4
-    returns-5)
+    returns-5
+    returns-6)

@@ -67,9 +67,12 @@ returns-6 : tie.Need-returns-6
 unfolding saveVerb ascii
 returns-6 c = passed _ (c .before .before .before .before .before .before .before .before .before .before .before .before .before .before .before .before .equal .ensures) (c .before .before .before .before .before .before .before .before .before .before .before .before .before .before .before .if1 .left) (passed _ (c .before .before .before .before .before .before .before .before .before .before .before .before .before .equal2 .ensures) (c .before .before .before .before .before .before .before .before .before .before .before .before .if2 .left) (passed _ (c .before .before .before .before .before .before .before .before .before .before .equal3 .ensures) (c .before .before .before .before .before .before .before .before .before .if3 .left) (passed _ (c .before .before .before .before .before .before .before .equal4 .ensures) (c .before .before .before .before .before .before .if4 .left) (passed _ (c .before .before .before .before .equal5 .ensures) (c .before .before .before .if5 .left) (found _ _ (c .before .equal6 .ensures) (c .if6 .taken))))))
 
+layer-verb-requires : tie.Need-layer-verb-requires
+layer-verb-requires c κs = search needs
+
 returns-7 : tie.Need-returns-7
 unfolding saveVerb ascii
-returns-7 c = passed _ (c .before .before .before .before .before .before .before .before .before .before .before .before .before .before .before .before .equal .ensures) (c .before .before .before .before .before .before .before .before .before .before .before .before .before .before .before .if1 .left) (passed _ (c .before .before .before .before .before .before .before .before .before .before .before .before .before .equal2 .ensures) (c .before .before .before .before .before .before .before .before .before .before .before .before .if2 .left) (passed _ (c .before .before .before .before .before .before .before .before .before .before .equal3 .ensures) (c .before .before .before .before .before .before .before .before .before .if3 .left) (passed _ (c .before .before .before .before .before .before .before .equal4 .ensures) (c .before .before .before .before .before .before .if4 .left) (passed _ (c .before .before .before .before .equal5 .ensures) (c .before .before .before .if5 .left) (passed _ (c .before .equal6 .ensures) (c .if6 .left) refl)))))
+returns-7 c = passed _ (c .before .before .before .before .before .before .before .before .before .before .before .before .before .before .before .before .before .equal .ensures) (c .before .before .before .before .before .before .before .before .before .before .before .before .before .before .before .before .if1 .left) (passed _ (c .before .before .before .before .before .before .before .before .before .before .before .before .before .before .equal2 .ensures) (c .before .before .before .before .before .before .before .before .before .before .before .before .before .if2 .left) (passed _ (c .before .before .before .before .before .before .before .before .before .before .before .equal3 .ensures) (c .before .before .before .before .before .before .before .before .before .before .if3 .left) (passed _ (c .before .before .before .before .before .before .before .before .equal4 .ensures) (c .before .before .before .before .before .before .before .if4 .left) (passed _ (c .before .before .before .before .before .equal5 .ensures) (c .before .before .before .before .if5 .left) (passed _ (c .before .before .equal6 .ensures) (c .before .if6 .left) (c .layer-verb .ensures))))))
 
 pub save-verb-spec : {M : Type 1} → statement M
 save-verb-spec =
@@ -93,4 +96,5 @@ save-verb-spec =
     slice-aggregate-equal-6
     equal-requires-6
     returns-6
+    layer-verb-requires
     returns-7)

@@ -1,0 +1,80 @@
+// Orders on names inside names: the call is made, and the line that tells of it is written to the front of a lent text.
+ghost use mathlib.Core.Path.{_≡_};
+ghost use Prim.Native.Nat.{ℕ, _≤_};
+ghost use lib.ListN.{length, take};
+ghost use Rattle.meaning.specs.Wire.{nameLimit};
+ghost use Rattle.meaning.specs.Card.{Card};
+ghost use Rattle.meaning_layers.specs.Layers.{unwrap};
+ghost use Rattle.bench_layers.specs.LayerText.{unwrapLine};
+ghost use Rattle.bench_lines.specs.Text.{textSpace};
+ghost use Rattle.bench_words.specs.Words.{octetsOf};
+ghost use Rattle.bench_verbs.specs.Line.{Said};
+ghost use Rattle.bench_replies.specs.Reply.{replyTo, Says};
+use meaning::NAME_LIMIT;
+
+fn output() -> [u8; NAME_LIMIT]
+    ensures { λ r. ⌜ nameLimit ≡ length r ⌝ }
+{
+    [0; NAME_LIMIT]
+}
+
+pub fn on_layers(hex: &[u8], text: &mut [u8]) -> usize
+    requires { ⌜ (length (now hex) ≤ 8192) × (textSpace ≤ length (now text)) ⌝ }
+    ensures { λ r. ⌜ ((number room : ℕ) (c : Card) → Says (replyTo number room c (Said.layers (octetsOf (now (hex .entry))))) r (now (text .exit)) c) ⌝ }
+{
+    let mut name = bench_replies::input();
+    let n = bench_words::decode_hex(hex, &mut name);
+    bench_layers::put_layers(text, &name[..n])
+}
+
+pub fn on_wrap(root: &[u8], eight: &[u8], hex: &[u8], room: u32, text: &mut [u8]) -> usize
+    requires { ⌜ (length (now root) ≤ 8192) × (length (now eight) ≤ 8192) × (length (now hex) ≤ 8192) × (textSpace ≤ length (now text)) ⌝ }
+    ensures { λ r. ⌜ ((number : ℕ) (c : Card) → Says (replyTo number room c (Said.wrap (octetsOf (now (root .entry))) (octetsOf (now (eight .entry))) (octetsOf (now (hex .entry)))))
+        r (now (text .exit)) c) ⌝ }
+{
+    let mut outer = bench_replies::input();
+    let k = bench_words::decode_hex(root, &mut outer);
+    let mut between = bench_replies::input();
+    let m = bench_words::decode_hex(eight, &mut between);
+    let mut name = bench_replies::input();
+    let n = bench_words::decode_hex(hex, &mut name);
+    let mut out = output();
+    let mut answer: u32 = 0;
+    let wrapped = wire_wraps::wrap(
+        &outer[..k],
+        &between[..m],
+        &name[..n],
+        bench_replies::lent(&mut out, room),
+        &mut answer,
+    );
+    bench_lines::put_event(text, b"wrap", answer, wrapped)
+}
+
+// The name comes as a part: an array that is lent once is not borrowed again beside it.
+fn tell_unwrapped(name: &[u8], out: &mut [u8], text: &mut [u8]) -> usize
+    requires { ⌜ (length (now out) ≤ nameLimit) × (textSpace ≤ length (now text)) ⌝ }
+    ensures { λ r. ⌜ (take r (now (text .exit)) ≡ unwrapLine (unwrap (length (now (out .entry))) (now (name .entry)))) × (r ≤ textSpace) ⌝ }
+{
+    let mut lengths = [0u64; 2];
+    let mut answer: u32 = 0;
+    let inner = wire_wraps::unwrap(name, out, &mut lengths, &mut answer);
+    if answer != 0 {
+        return bench_lines::put_count(text, b"unwrap", answer as u64);
+    }
+    bench_layers::put_unwrapped(
+        text,
+        inner,
+        wire_name::root_of(name),
+        wire_layers::eight_of(name),
+    )
+}
+
+pub fn on_unwrap(hex: &[u8], room: u32, text: &mut [u8]) -> usize
+    requires { ⌜ (length (now hex) ≤ 8192) × (textSpace ≤ length (now text)) ⌝ }
+    ensures { λ r. ⌜ ((number : ℕ) (c : Card) → Says (replyTo number room c (Said.unwrap (octetsOf (now (hex .entry))))) r (now (text .exit)) c) ⌝ }
+{
+    let mut name = bench_replies::input();
+    let n = bench_words::decode_hex(hex, &mut name);
+    let mut out = output();
+    tell_unwrapped(&name[..n], bench_replies::lent(&mut out, room), text)
+}
