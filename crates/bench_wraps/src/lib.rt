@@ -9,7 +9,12 @@ ghost use Rattle.bench_layers.specs.LayerText.{unwrapLine};
 ghost use Rattle.bench_lines.specs.Text.{textSpace};
 ghost use Rattle.bench_words.specs.Words.{octetsOf};
 ghost use Rattle.bench_verbs.specs.Line.{Said};
+ghost use Rattle.bench_orders.specs.Tells.{meant, Lies, InLine};
+ghost use Rattle.bench_orders.specs.declared.Order.{Order};
 ghost use Rattle.bench_replies.specs.Reply.{replyTo, Says};
+ghost use Rattle.bench_wraps.specs.Layered.{OnLayers};
+use bench_orders::Order;
+use bench_words::Word;
 use meaning::NAME_LIMIT;
 
 fn output() -> [u8; NAME_LIMIT]
@@ -18,7 +23,7 @@ fn output() -> [u8; NAME_LIMIT]
     [0; NAME_LIMIT]
 }
 
-pub fn on_layers(hex: &[u8], text: &mut [u8]) -> usize
+fn on_layers(hex: &[u8], text: &mut [u8]) -> usize
     requires { ⌜ (length (now hex) ≤ 8192) × (textSpace ≤ length (now text)) ⌝ }
     ensures { λ r. ⌜ ((number room : ℕ) (c : Card) → Says (replyTo number room c (Said.layers (octetsOf (now (hex .entry))))) r (now (text .exit)) c) ⌝ }
 {
@@ -27,7 +32,7 @@ pub fn on_layers(hex: &[u8], text: &mut [u8]) -> usize
     bench_layers::put_layers(text, &name[..n])
 }
 
-pub fn on_wrap(root: &[u8], eight: &[u8], hex: &[u8], room: u32, text: &mut [u8]) -> usize
+fn on_wrap(root: &[u8], eight: &[u8], hex: &[u8], room: u32, text: &mut [u8]) -> usize
     requires { ⌜ (length (now root) ≤ 8192) × (length (now eight) ≤ 8192) × (length (now hex) ≤ 8192) × (textSpace ≤ length (now text)) ⌝ }
     ensures { λ r. ⌜ ((number : ℕ) (c : Card) → Says (replyTo number room c (Said.wrap (octetsOf (now (root .entry))) (octetsOf (now (eight .entry))) (octetsOf (now (hex .entry)))))
         r (now (text .exit)) c) ⌝ }
@@ -69,7 +74,7 @@ fn tell_unwrapped(name: &[u8], out: &mut [u8], text: &mut [u8]) -> usize
     )
 }
 
-pub fn on_unwrap(hex: &[u8], room: u32, text: &mut [u8]) -> usize
+fn on_unwrap(hex: &[u8], room: u32, text: &mut [u8]) -> usize
     requires { ⌜ (length (now hex) ≤ 8192) × (textSpace ≤ length (now text)) ⌝ }
     ensures { λ r. ⌜ ((number : ℕ) (c : Card) → Says (replyTo number room c (Said.unwrap (octetsOf (now (hex .entry))))) r (now (text .exit)) c) ⌝ }
 {
@@ -77,4 +82,48 @@ pub fn on_unwrap(hex: &[u8], room: u32, text: &mut [u8]) -> usize
     let n = bench_words::decode_hex(hex, &mut name);
     let mut out = output();
     tell_unwrapped(&name[..n], bench_replies::lent(&mut out, room), text)
+}
+
+// The three words lie in the line.
+fn wrap_words(
+    line: &[u8],
+    root: Word,
+    eight: Word,
+    start: usize,
+    end: usize,
+    room: u32,
+    text: &mut [u8],
+) -> usize
+    requires { ⌜ Lies (now line) (root .start) (root .end) × Lies (now line) (eight .start) (eight .end) × Lies (now line) start end × (textSpace ≤ length (now text)) ⌝ }
+    ensures { λ r. ⌜ ((number : ℕ) (c : Card) → Says (replyTo number room c (meant (now (line .entry)) (Order.Wrap root eight start end))) r (now (text .exit)) c) ⌝ }
+{
+    let root_start = root.start;
+    let root_end = root.end;
+    let eight_start = eight.start;
+    let eight_end = eight.end;
+    on_wrap(
+        &line[root_start..root_end],
+        &line[eight_start..eight_end],
+        &line[start..end],
+        room,
+        text,
+    )
+}
+
+// An order on layers: no other comes here.
+pub fn on_layered(line: &[u8], order: Order, room: u32, text: &mut [u8]) -> usize
+    requires { ⌜ InLine (now line) order × OnLayers order × (textSpace ≤ length (now text)) ⌝ }
+    ensures { λ r. ⌜ ((number : ℕ) (c : Card) → Says (replyTo number room c (meant (now (line .entry)) order)) r (now (text .exit)) c) ⌝ }
+{
+    match order {
+        Order::Layers { start, end } => on_layers(&line[start..end], text),
+        Order::Wrap {
+            root,
+            eight,
+            start,
+            end,
+        } => wrap_words(line, root, eight, start, end, room, text),
+        Order::Unwrap { start, end } => on_unwrap(&line[start..end], room, text),
+        _ => 0,
+    }
 }
