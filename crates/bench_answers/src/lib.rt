@@ -80,6 +80,9 @@ fn obey(
         Order::Move { second, start, end } => {
             bench_saves::on_move(second, &line[start..end], room, text)
         }
+        Order::Layers { .. } | Order::Wrap { .. } | Order::Unwrap { .. } => {
+            bench_wraps::on_layered(line, order, room, text)
+        }
         _ => bench_replies::on_event(numbers, names, line, order, room, text),
     }
 }

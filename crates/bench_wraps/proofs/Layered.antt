@@ -8,10 +8,10 @@ use Rattle.bench_orders.proofs.Order.{the-type}
 use Rattle.bench_wraps.specs.Layered.{OnLayers}
 
 abbrev these : List ℕ
-these = 15 ∷ 16 ∷ 17 ∷ []
+these = 16 ∷ 17 ∷ 18 ∷ []
 
 abbrev others : List ℕ
-others = 0 ∷ 1 ∷ 2 ∷ 3 ∷ 4 ∷ 5 ∷ 6 ∷ 7 ∷ 8 ∷ 9 ∷ 10 ∷ 11 ∷ 12 ∷ 13 ∷ 14 ∷ []
+others = 0 ∷ 1 ∷ 2 ∷ 3 ∷ 4 ∷ 5 ∷ 6 ∷ 7 ∷ 8 ∷ 9 ∷ 10 ∷ 11 ∷ 12 ∷ 13 ∷ 14 ∷ 15 ∷ []
 
 pub layered : (o : Order) → OneOf these (tagOf the-type o) → OnLayers o
 layered Order.Blank h = miss these _ tt h
@@ -26,9 +26,10 @@ layered (Order.Label n) h = miss these _ tt h
 layered (Order.Tree s e) h = miss these _ tt h
 layered Order.Free h = miss these _ tt h
 layered (Order.Notice n k s e) h = miss these _ tt h
-layered Order.Save h = miss these _ tt h
-layered (Order.Restore s e) h = miss these _ tt h
+layered (Order.Save b) h = miss these _ tt h
+layered (Order.Restore b s e) h = miss these _ tt h
 layered (Order.Lost n) h = miss these _ tt h
+layered (Order.Move b s e) h = miss these _ tt h
 layered (Order.Layers s e) h = tt
 layered (Order.Wrap r d s e) h = tt
 layered (Order.Unwrap s e) h = tt
@@ -46,9 +47,10 @@ not-layered (Order.Label n) h w = w
 not-layered (Order.Tree s e) h w = w
 not-layered Order.Free h w = w
 not-layered (Order.Notice n k s e) h w = w
-not-layered Order.Save h w = w
-not-layered (Order.Restore s e) h w = w
+not-layered (Order.Save b) h w = w
+not-layered (Order.Restore b s e) h w = w
 not-layered (Order.Lost n) h w = w
+not-layered (Order.Move b s e) h w = w
 not-layered (Order.Layers s e) h w = miss others _ tt h
 not-layered (Order.Wrap r d s e) h w = miss others _ tt h
 not-layered (Order.Unwrap s e) h w = miss others _ tt h

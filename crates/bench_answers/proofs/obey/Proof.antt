@@ -1,4 +1,5 @@
 use Rattle.bench_saves.proofs.Saves.{lies-most}
+use Rattle.bench_wraps.proofs.Layered.{layered}
 use Rattle.bench_orders.specs.Tells.{meant}
 use Rattle.bench_words.specs.Words.{ascii}
 use Rattle.bench_lines.specs.Text.{countLine}
@@ -125,8 +126,13 @@ part-on-move-end c = lies _ _ _ (c .before .before .before .before .before .pre 
 on-move-requires : tie.Need-on-move-requires
 on-move-requires c κs = (lies-most _ _ _ _ (lies _ _ _ (c .before .before .before .before .before .before .before .pre .0) (c .before .before .before .order7 .given .1)), c .before .before .before .before .before .before .before .pre .1)
 
+on-layered-requires : tie.Need-on-layered-requires
+on-layered-requires c κs =
+    let start = c .before .before .before .before in
+    (start .pre .0, layered (start .args .order) (c .before .match .keys11), start .pre .1)
+
 on-event-requires : tie.Need-on-event-requires
-on-event-requires c κs = (c .before .before .before .before .before .before .pre .0, written (c .before .before .before .before .before .before .args .order) (c .before .before .before .match .keys11), c .before .before .before .before .before .before .pre .1)
+on-event-requires c κs = (c .before .before .before .before .before .before .pre .0, written (c .before .before .before .before .before .before .args .order) (c .before .before .before .match .keys12), c .before .before .before .before .before .before .pre .1)
 
 returns : tie.Need-returns
 unfolding meant replyTo only counted ascii
@@ -204,7 +210,13 @@ same-length-10 : tie.Need-same-length-10
 same-length-10 c = search needs
 
 returns-11 : tie.Need-returns-11
-returns-11 c = c .before .before .on-event .ensures _
+returns-11 c = c .before .before .on-layered .ensures _ _
+
+same-length-11 : tie.Need-same-length-11
+same-length-11 c = search needs
+
+returns-12 : tie.Need-returns-12
+returns-12 c = c .before .before .on-event .ensures _
 
 pub obey-spec : {M : Type 1} → statement M
 obey-spec =
@@ -247,6 +259,7 @@ obey-spec =
     part-on-move-start
     part-on-move-end
     on-move-requires
+    on-layered-requires
     on-event-requires
     returns
     same-length
@@ -268,4 +281,6 @@ obey-spec =
     same-length-9
     returns-10
     same-length-10
-    returns-11)
+    returns-11
+    same-length-11
+    returns-12)
