@@ -1,6 +1,7 @@
 //! The line interface: orders read from lines, answers written as lines.
 
 use crate::card::{Card, Found, MOST_TREES};
+use crate::layers::{self, Layer};
 use crate::refusal::Refusal;
 use crate::save::LONGEST_SAVE;
 use crate::save_two::{self, LONGEST_SAVE_TWO};
@@ -37,6 +38,10 @@ pub enum Order {
     Older(Vec<u8>),
     /// A neighbour whose session is lost.
     Lost(u32),
+    Layers(Vec<u8>),
+    /// What goes around a name, and the name.
+    Wrap(Layer, Vec<u8>),
+    Unwrap(Vec<u8>),
 }
 
 impl Order {
@@ -61,6 +66,12 @@ impl Order {
             Order::Newer(octets) => format!("newer {}", hex_word(octets)),
             Order::Older(octets) => format!("older {}", hex_word(octets)),
             Order::Lost(neighbour) => format!("lost {neighbour}"),
+            Order::Layers(octets) => format!("layers {}", hex_word(octets)),
+            Order::Wrap(Layer { root, eight }, octets) => {
+                let words = [root, eight, octets].map(|part| hex_word(part));
+                format!("wrap {}", words.join(" "))
+            }
+            Order::Unwrap(octets) => format!("unwrap {}", hex_word(octets)),
         }
     }
 }
@@ -105,6 +116,12 @@ fn read_order(words: &[&[u8]]) -> Option<Order> {
             read_hex(octets)?,
         )),
         [b"save"] => Some(Order::Save),
+        [b"layers", octets] => Some(Order::Layers(read_hex(octets)?)),
+        [b"wrap", root, eight, octets] => {
+            let (root, eight) = (read_hex(root)?, read_hex(eight)?);
+            Some(Order::Wrap(Layer { root, eight }, read_hex(octets)?))
+        }
+        [b"unwrap", octets] => Some(Order::Unwrap(read_hex(octets)?)),
         [b"lost", neighbour] => Some(Order::Lost(read_number(neighbour)?)),
         [b"restore", octets] => Some(Order::Restore(read_hex_to(octets, LONGEST_SAVE)?)),
         [b"save2"] => Some(Order::SaveTwo),
@@ -158,14 +175,17 @@ pub fn answer_number<T>(answer: &Result<T, Refusal>) -> u8 {
     answer.as_ref().err().map_or(0, |refusal| refusal.number())
 }
 
-/// The answer number on a line written for an event or a start.
+/// The words of the lines that have an answer's number behind them.
+const ANSWERED: [&str; 16] = [
+    "take", "join", "leave", "route", "notice", "start", "save", "restore", "save2", "restore2",
+    "newer", "older", "lost", "layers", "wrap", "unwrap",
+];
+
+/// The answer number on a line, where it has one.
 pub fn written_number(line: &str) -> Option<u8> {
     let mut words = line.split(' ');
-    match words.next()? {
-        "take" | "join" | "leave" | "route" | "notice" | "start" | "save" | "restore" | "lost"
-        | "save2" | "restore2" | "newer" | "older" => words.next()?.parse().ok(),
-        _ => None,
-    }
+    let answered = ANSWERED.contains(&words.next()?);
+    answered.then(|| words.next()?.parse().ok())?
 }
 
 /// The octets of the record on a line written for a notice.
@@ -219,6 +239,11 @@ impl Bench {
             Order::Tree(octets) => found_line("tree", self.card.find_tree(octets)),
             Order::Free => format!("free {}", self.card.free_labels()),
             Order::Save => event_line("save", &self.card.save(self.room)),
+            Order::Layers(octets) => layers_line(octets),
+            Order::Wrap(layer, octets) => {
+                event_line("wrap", &layers::wrap(layer, octets, self.room))
+            }
+            Order::Unwrap(octets) => unwrap_line(&layers::unwrap(octets, self.room)),
             Order::Restore(octets) => {
                 format!("restore {}", answer_number(&self.card.restore(octets)))
             }
@@ -265,6 +290,35 @@ fn event_line(word: &str, answer: &Result<Vec<u8>, Refusal>) -> String {
     match answer {
         Ok(records) if !records.is_empty() => format!("{word} 0 {}", to_hex(records)),
         _ => format!("{word} {}", answer_number(answer)),
+    }
+}
+
+/// The layers from the outside in, and the innermost opaque value.
+fn layers_line(element: &[u8]) -> String {
+    let (layers, innermost) = match layers::read(element) {
+        Ok(read) => read,
+        Err(refusal) => return format!("layers {}", refusal.number()),
+    };
+    let mut line = "layers 0 ".to_string();
+    for Layer { root, eight } in layers {
+        line.push_str(&to_hex(&root));
+        if !eight.is_empty() {
+            line.push('/');
+            line.push_str(&to_hex(&eight));
+        }
+        line.push_str(" > ");
+    }
+    let (root, opaque) = (to_hex(&innermost.root), to_hex(&innermost.opaque));
+    format!("{line}{root} {opaque}")
+}
+
+fn unwrap_line(answer: &Result<(Vec<u8>, Layer), Refusal>) -> String {
+    match answer {
+        Ok((inner, Layer { root, eight })) => {
+            let words = [inner, root, eight].map(|part| hex_word(part));
+            format!("unwrap 0 {}", words.join(" "))
+        }
+        Err(refusal) => format!("unwrap {}", refusal.number()),
     }
 }
 

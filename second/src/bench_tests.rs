@@ -90,6 +90,11 @@ const BAD_LINES: &[&[u8]] = &[
     b"lost 1 2",
     b"lost 4294967296",
     b"Lost 1",
+    b"layers",
+    b"layers 06 00",
+    b"wrap c0000201 06",
+    b"wrap c0000201 - 06 -",
+    b"unwrap 0",
     b"\x0bfree",
 ];
 
@@ -189,6 +194,11 @@ fn room_stays_over_a_start() {
     );
 }
 
+fn wrap_order(root: &[u8], eight: &[u8]) -> Order {
+    let (root, eight) = (root.to_vec(), eight.to_vec());
+    Order::Wrap(Layer { root, eight }, vec![6])
+}
+
 #[test]
 fn orders_read_back_what_they_write() {
     for order in [
@@ -210,6 +220,10 @@ fn orders_read_back_what_they_write() {
         Order::Newer(vec![0x4c]),
         Order::Older(vec![0x53]),
         Order::Lost(15),
+        Order::Layers(vec![6]),
+        Order::Unwrap(vec![]),
+        wrap_order(&[192, 0, 2, 1], &[]),
+        wrap_order(&[], &[1; 8]),
     ] {
         assert_eq!(
             read_line(order.to_line().as_bytes()),

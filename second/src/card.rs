@@ -167,7 +167,7 @@ impl Card {
             neighbour if neighbour < NEIGHBOURS => Some(Route::Neighbour(neighbour)),
             _ => return Err(Refusal::Neighbour),
         };
-        if root.len() != 4 && root.len() != 16 {
+        if !wire::is_root(root) {
             return Err(Refusal::Element);
         }
         self.attempt(room, |draft| draft.reroute(root, route))

@@ -259,7 +259,7 @@ fn reform_opaque(rng: &mut Rng, octets: &mut Vec<u8>) {
 }
 
 /// Elements that do not fill the value, or just do.
-fn misform(rng: &mut Rng, octets: &mut Vec<u8>) {
+pub fn misform(rng: &mut Rng, octets: &mut Vec<u8>) {
     change_opaque(octets, |opaque| misform_opaque(rng, opaque));
 }
 

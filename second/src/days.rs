@@ -7,6 +7,7 @@ use crate::damage;
 use crate::events::*;
 use crate::formed;
 use crate::held_events::*;
+use crate::layers_events::*;
 use crate::lost_events::*;
 use crate::odd_lines;
 use crate::rng::Rng;
@@ -28,7 +29,7 @@ pub struct Kind {
 }
 
 const DAMAGED: usize = 4;
-const MIXED: usize = 14;
+const MIXED: usize = 15;
 
 pub const KINDS: [Kind; MIXED + 1] = [
     kind("ordinary", open_ordinary, step_ordinary),
@@ -45,6 +46,7 @@ pub const KINDS: [Kind; MIXED + 1] = [
     kind("counts", counts::open, counts::step),
     kind("round", open_round, step_round),
     kind("lost", open_lost, step_lost),
+    kind("layers", open_ordinary, step_layers),
     kind("mixed", open_ordinary, step_mixed),
 ];
 
@@ -176,6 +178,13 @@ pub const LOSSES: &Recipe = &[
     (4, held_loss),
     (5, last_live_loss),
     (4, awaited_loss),
+];
+
+const LAYERS: &Recipe = &[
+    (8, shown_layers),
+    (8, unwrapped_name),
+    (8, name_to_wrap),
+    (2, wrapped_tree),
 ];
 
 pub struct Maker {
@@ -318,9 +327,10 @@ impl Maker {
 
     /// How many octets the order would write, given room.
     fn needed_room(&self, order: &Order) -> usize {
-        let mut trial = self.card().clone();
-        let answer = bench::event_answer(&mut trial, order, bench::WHOLE_BUFFER);
-        answer.map_or(0, |records| records.len())
+        let mut trial = self.bench.clone();
+        trial.room = LONGEST_SAVE;
+        let written = trial.obey(order);
+        written.split(' ').nth(2).map_or(0, |hex| hex.len() / 2)
     }
 
     /// Names for the day: such as have these lengths, or such as can be saved.
@@ -511,6 +521,25 @@ fn lost_twice(maker: &mut Maker) {
     maker.look(50);
 }
 
+/// Names inside names, now and then in hardly room enough.
+fn step_layers(maker: &mut Maker) {
+    if maker.rng.percent(15) {
+        return maker.play(ORDINARY, 10);
+    }
+    let order = maker.choose(LAYERS);
+    let scarce = maker.rng.percent(20);
+    let room = maker.bench.room as u32;
+    if scarce {
+        let needed = maker.needed_room(&order);
+        let little = room_near(&mut maker.rng, needed);
+        maker.give(Order::Room(little));
+    }
+    maker.give(order);
+    if scarce {
+        maker.give(Order::Room(room));
+    }
+}
+
 /// Few trees: a save of a full card makes a line of 46 thousand digits.
 fn open_saves(maker: &mut Maker) {
     maker.settle(4, (3, 2), SAVED_LENGTHS);
@@ -552,7 +581,7 @@ fn save_a_long_name(maker: &mut Maker) {
 fn save_now(maker: &mut Maker) {
     let scarce = maker.rng.percent(30);
     if scarce {
-        let needed = maker.card().save(LONGEST_SAVE).map_or(0, |s| s.len());
+        let needed = maker.needed_room(&Order::Save);
         let room = room_near(&mut maker.rng, needed);
         maker.give(Order::Room(room));
     }

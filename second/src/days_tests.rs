@@ -41,7 +41,7 @@ fn a_mixed_day_gives_every_refusal() {
         let given: BTreeSet<u8> = numbers(&answers(&make(mixed, seed, 12_000)))
             .into_iter()
             .collect();
-        assert_eq!(given, (0..=19).collect(), "seed {seed}");
+        assert_eq!(given, (0..=19).chain([22]).collect(), "seed {seed}");
     }
 }
 
@@ -226,6 +226,40 @@ fn a_day_of_losses_has_its_occasions() {
     for seed in 1..=3 {
         let met = occasions("lost", seed, loss);
         assert!(met.len() == 10 && met.values().all(|n| *n >= 2), "{met:?}");
+    }
+}
+
+#[test]
+fn a_day_of_layers_has_its_occasions() {
+    for seed in 1..=3 {
+        let kind = kind_named("layers").expect("it is one of the kinds");
+        let answers = answers(&make(kind, seed, 3000));
+        let count = |begin: &str| answers.iter().filter(|a| a.starts_with(begin)).count();
+        for begin in [
+            "layers 0",
+            "unwrap 0",
+            "wrap 0",
+            "unwrap 22",
+            "wrap 7",
+            "unwrap 18",
+        ] {
+            assert!(count(begin) >= 20, "{begin}");
+        }
+        for begin in [
+            "wrap 16",
+            "unwrap 16",
+            "wrap 6",
+            "unwrap 6",
+            "layers 6",
+            "wrap 18",
+        ] {
+            assert!(count(begin) >= 5, "{begin}");
+        }
+        let deep = answers.iter().map(|a| a.matches(" > ").count()).max();
+        assert!(deep >= Some(6), "{deep:?}");
+        assert!(answers
+            .iter()
+            .any(|a| a.starts_with("layers 0") && a.contains('/')));
     }
 }
 

@@ -12,6 +12,9 @@ mod form_cases;
 mod formed;
 mod held_cases;
 mod held_events;
+mod layers;
+mod layers_cases;
+mod layers_events;
 mod long_cases;
 mod lost_cases;
 mod lost_events;
@@ -54,7 +57,7 @@ const USAGE: &str = "usage: second run [FILE]
 
 /// Seeds and lines of each kind's part of the gate's standard input.
 const GATE_SEEDS: [u64; 2] = [1, 2];
-const GATE_LINES: [(&str, usize); 15] = [
+const GATE_LINES: [(&str, usize); 16] = [
     ("ordinary", 120),
     ("full", 240),
     ("moves", 120),
@@ -68,6 +71,7 @@ const GATE_LINES: [(&str, usize); 15] = [
     ("counts", 130),
     ("round", 160),
     ("lost", 180),
+    ("layers", 110),
     ("lines", 50),
     ("mixed", 150),
 ];
@@ -200,6 +204,7 @@ fn write_gate_input(output: &mut impl Write) -> io::Result<()> {
         round_cases::day(),
         form_cases::day(),
         lost_cases::day(),
+        layers_cases::day(),
     ] {
         writeln!(output, "{}", page.join("\n"))?;
     }

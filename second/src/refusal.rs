@@ -29,6 +29,8 @@ pub enum Refusal {
     NoSave = 19,
     /// Octets that are no Notification record, of request [1].
     NoNotice = 21,
+    /// Nothing inside a name, of request [9].
+    LastLayer = 22,
 }
 
 impl Refusal {

@@ -298,7 +298,7 @@ impl<'a> Reader<'a> {
 
     fn root(&mut self) -> Option<Vec<u8>> {
         let root = self.spaced(LONGEST_ROOT)?;
-        matches!(root.len(), 4 | 16).then_some(root)
+        wire::is_root(&root).then_some(root)
     }
 
     fn name(&mut self) -> Option<Name> {

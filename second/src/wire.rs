@@ -139,6 +139,11 @@ pub fn read_element(octets: &[u8]) -> Result<TreeName, Refusal> {
     })
 }
 
+/// Whether an address of a known family has so many octets.
+pub fn is_root(octets: &[u8]) -> bool {
+    matches!(octets.len(), 4 | 16)
+}
+
 /// Whether elements fill the octets exactly.
 pub fn forms_elements(opaque: &[u8]) -> bool {
     let mut rest = opaque;

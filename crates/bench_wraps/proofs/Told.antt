@@ -8,9 +8,9 @@ use lib.Dec.{eqb}
 use borrow.Author.Tests.{eq-eqb, ne-eqb, eqb-true}
 use Rattle.meaning.specs.Wire.{rootIn, opaqueIn, nameLimit, rootLimit}
 use Rattle.meaning.specs.Card.{Card}
-use Rattle.meaning.specs.Save.{saveLimit}
+use Rattle.meaning.specs.Save.{new, saveLimit}
 use Rattle.meaning.specs.Lists.{by-test}
-use Rattle.meaning.specs.RoundTrip.{whole}
+use Rattle.meaning_laws.specs.RoundTrip.{whole}
 use Rattle.meaning_layers.specs.Layers.{eightIn, eightKind, eightSize, beforeInner, innerOf, layerOf, read, wrapRefusal, wrap, unwrapRefusal, unwrap}
 use Rattle.meaning_layers.specs.LayerLaws.{wrappable, unwrappable}
 use Rattle.meaning_layers.specs.LayerCalls.{HandsPart}
@@ -37,7 +37,7 @@ wrap-fits room root eight name =
 module _ (room : ℕ) {l most k m n a : ℕ} {root eight name from at from' at' from'' at'' part : List ℕ} (all : nameLimit ≡ most) (lent : l ≡ min room most)
     (p : Puts root from at k) (q : Puts eight from' at' m) (s : Puts name from'' at'' n)
     (h : HandsPart (wrap l (take k at) (take m at') (take n at'') .answer) (wrap l (take k at) (take m at') (take n at'') .octets) a part) where
-  pub wrap-short : length part ≤ saveLimit
+  pub wrap-short : length part ≤ saveLimit new
   wrap-short = rw (h .hands) (omega (arith, wrap-fits l (take k at) (take m at') (take n at'')))
 
   told : eventLine (ascii "wrap") a part ≡ wrapLine (wrap l (take k at) (take m at') (take n at''))
