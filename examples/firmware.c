@@ -1,5 +1,6 @@
 /*
- * Cases 1 to 7 of the card's paper, through the library; then a notice, and a save that is restored on another card.
+ * Cases 1 to 7 of the card's paper, through the library; then a notice, a save that is restored on another card, and a name
+ * that is wrapped and unwrapped.
  * Prints what was written; ends with 1 at the first answer, octet or lookup that is not as it must be.
  */
 #include "card.h"
@@ -19,6 +20,13 @@ static const uint8_t first_record[] = {
     0x4C, 0x44, 0x00, 0x00, 0x04, 0x00, 0x00, 0x21, 0x00, 0x00, 0x00, 0x01, 0x01, 0x00, 0x00, 0x11, 0x06, 0x00, 0x01, 0x04, 0xC0,
     0x00, 0x02, 0x01, 0x00, 0x07, 0x01, 0x00, 0x04, 0x00, 0x00, 0x00, 0x07, 0x02, 0x00, 0x00, 0x04, 0x00, 0x00, 0x00, 0x10,
 };
+
+/* A as a provider sees it whose root is 198.51.100.1, and what stands round it in turn in the VPN 65000:5 of 2001:db8::9. */
+static const uint8_t root_of_provider[4] = {198, 51, 100, 1};
+static const uint8_t wrapped_a[30] = {6, 0, 1, 4, 198, 51, 100, 1, 0, 20, 7, 0, 17, 6, 0,
+                                      1, 4, 192, 0, 2, 1, 0, 7, 1, 0, 4, 0, 0, 0, 7};
+static const uint8_t root_of_vpn[16] = {0x20, 0x01, 0x0d, 0xb8, 0, 0, 0, 0, 0, 0, 0, 0, 0, 0, 0, 9};
+static const uint8_t vpn[CARD_EIGHT_OCTETS] = {0, 0, 0xfd, 0xe8, 0, 0, 0, 5};
 
 enum { MESSAGE = 8 + 4 + sizeof a + 8, RECORD = 4 + MESSAGE };
 
@@ -210,6 +218,92 @@ static void swap(void)
     count_free(254);
 }
 
+/* Wraps a name in place. */
+static size_t wrap(uint8_t *name, size_t length, size_t room, const uint8_t *root, size_t root_length, size_t eight,
+                   uint32_t expected)
+{
+    uint32_t answer = 0;
+    size_t written = card_wrap(root, root_length, vpn, eight, name, length, out, room, &answer);
+    printf("Wrap\n  answer %u,", answer);
+    show(written, written);
+    if (answer != expected || (answer == CARD_ACCEPTED && written != 9 + root_length + eight + length))
+        fail("the wrapping");
+    if (answer != CARD_ACCEPTED && written != 0)
+        fail("a refused wrapping");
+    memcpy(name, out, written);
+    return written == 0 ? length : written;
+}
+
+/* Takes a layer off in place: the name inside, and which octets of it the layer had. */
+static size_t unwrap(uint8_t *name, size_t length, uint64_t root, uint64_t eight, uint32_t expected)
+{
+    uint64_t lengths[CARD_OUTER_LENGTHS] = {77, 77};
+    uint32_t answer = 0;
+    size_t written = card_unwrap(name, length, out, CARD_ELEMENT_MOST, lengths, &answer);
+    printf("Unwrap\n  answer %u,", answer);
+    show(written, written);
+    if (answer != expected || lengths[CARD_OUTER_ROOT] != root || lengths[CARD_OUTER_EIGHT] != eight)
+        fail("the unwrapping");
+    memcpy(name, out, written);
+    return written;
+}
+
+/* A layer begins at `start`; its root is this one, and the name inside begins `inner` behind it. */
+static void layer(const uint8_t *name, size_t length, size_t down, size_t start, const uint8_t *root,
+                  size_t root_length, size_t eight, size_t inner)
+{
+    const uint64_t has[CARD_LAYER_FIELDS] = {start, root_length, eight, inner};
+    uint64_t fields[CARD_LAYER_FIELDS] = {0};
+    if (card_layer(name, length, down, fields) != CARD_ACCEPTED || memcmp(fields, has, sizeof has) != 0)
+        fail("a layer's fields");
+    if (memcmp(name + start + 4, root, root_length) != 0)
+        fail("a layer's root");
+    if (eight != 0 && memcmp(name + start + 9 + root_length, vpn, eight) != 0)
+        fail("a layer's eight octets");
+    printf("  layer %zu at %zu: root of %zu octets, %zu before the name inside\n", down, start, root_length, eight);
+}
+
+/* Three layers, from the outside in. */
+static void read_layers(const uint8_t *name, size_t length)
+{
+    uint64_t fields[CARD_LAYER_FIELDS] = {0};
+    uint32_t answer = CARD_BAD_ELEMENT;
+    size_t count = card_layers(name, length, &answer);
+    printf("Layers\n  answer %u,  %zu layers\n", answer, count);
+    if (answer != CARD_ACCEPTED || count != 3)
+        fail("the number of layers");
+    layer(name, length, 0, 0, root_of_vpn, sizeof root_of_vpn, sizeof vpn, 33);
+    layer(name, length, 1, 33, root_of_provider, sizeof root_of_provider, 0, 13);
+    layer(name, length, 2, 46, root_of_a, sizeof root_of_a, 0, 0);
+    if (card_layer(name, length, 3, fields) != CARD_LAST_LAYER)
+        fail("a layer below the innermost");
+    if (card_layers(name, length - 1, &answer) != 0 || answer != CARD_BAD_ELEMENT)
+        fail("a name cut short");
+}
+
+static void wrap_and_unwrap(void)
+{
+    uint8_t name[CARD_ELEMENT_MOST];
+    memcpy(name, a, sizeof a);
+    size_t length = wrap(name, sizeof a, CARD_ELEMENT_MOST, root_of_provider, sizeof root_of_provider, 0, CARD_ACCEPTED);
+    if (length != sizeof wrapped_a || memcmp(name, wrapped_a, length) != 0)
+        fail("the wrapped name");
+    length = wrap(name, length, CARD_ELEMENT_MOST, root_of_vpn, sizeof root_of_vpn, sizeof vpn, CARD_ACCEPTED);
+    read_layers(name, length);
+    length = unwrap(name, length, sizeof root_of_vpn, sizeof vpn, CARD_ACCEPTED);
+    if (length != sizeof wrapped_a || memcmp(name, wrapped_a, length) != 0)
+        fail("the unwrapped name");
+    length = unwrap(name, length, sizeof root_of_provider, 0, CARD_ACCEPTED);
+    if (length != sizeof a || memcmp(name, a, length) != 0)
+        fail("the innermost name");
+    unwrap(name, length, 0, 0, CARD_LAST_LAYER);
+    wrap(name, length, sizeof wrapped_a - 1, root_of_provider, sizeof root_of_provider, 0, CARD_NO_ROOM);
+    wrap(name, length, CARD_ELEMENT_MOST, root_of_provider, sizeof root_of_provider, 1, CARD_BAD_ELEMENT);
+    for (int layers = 1; layers < CARD_LAYERS_MOST; layers++)
+        length = wrap(name, length, CARD_ELEMENT_MOST, root_of_provider, sizeof root_of_provider, 0, CARD_ACCEPTED);
+    wrap(name, length, CARD_ELEMENT_MOST, root_of_provider, sizeof root_of_provider, 0, CARD_BAD_OPAQUE);
+}
+
 int main(void)
 {
     if (card_start(numbers, 16) != CARD_ACCEPTED)
@@ -219,6 +313,7 @@ int main(void)
     cases_5_to_7();
     tell();
     swap();
+    wrap_and_unwrap();
     printf("as the paper has it\n");
     return 0;
 }

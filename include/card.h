@@ -18,7 +18,7 @@
  *   - An array has at least the elements that its parameter names; a pointer followed by a length has that many octets.
  *   - A pointer is aligned as its type asks: to 8 octets for uint64_t, to 4 for uint32_t. Octets may begin anywhere.
  *   - All that is lent was set before, to anything: what is lent for writing alone (`out`, `answer`, `branches`,
- *     `fields`, `spare_..`) too. A static array is set; a local without an initialiser is not.
+ *     `fields`, `lengths`, `spare_..`) too. A static array is set; a local without an initialiser is not.
  *   - What one call is lent for writing shares no octet with anything else that the same call is lent.
  *   - Nobody else reads or writes during a call what it is lent for writing, or writes what it is lent as const.
  *     Lookups, card_free_labels, card_save and card_save2 are lent the card as const: several may run at once on one card, each
@@ -29,10 +29,10 @@
  * The most stack that each call takes, in octets, its return address counted and its arguments not. It is read from
  * the object code, over every path (tools/stack), and memcpy and memset come on top:
  *
- *     card_start         40     card_lookup_label    8     card_notice        32
- *     card_receive      592     card_lookup_name    64     card_read_notice   24
- *     card_join         440     card_free_labels     8     card_save         232
- *     card_leave        496                                card_save2        216
+ *     card_start         40     card_lookup_label    8     card_notice        32     card_layers       680
+ *     card_receive      592     card_lookup_name    64     card_read_notice   24     card_layer        904
+ *     card_join         440     card_free_labels     8     card_save         232     card_wrap          88
+ *     card_leave        496                                card_save2        216     card_unwrap       104
  *     card_route        384                                card_restore      696
  *     card_lost         344                                card_restore2     696
  *                                                          card_newer        728
@@ -65,7 +65,9 @@ enum {
     CARD_RECORD_MOST = 174,     /* octets of the longest record */
     CARD_OUT_MOST = 22272,      /* most octets that one event writes */
     CARD_NOTICE_OCTETS = 26,    /* octets of the record of a notice */
-    CARD_SAVE_MOST = 55667      /* octets of the longest save of either form */
+    CARD_SAVE_MOST = 55667,     /* octets of the longest save of either form */
+    CARD_LAYERS_MOST = 10,      /* most layers of a name */
+    CARD_EIGHT_OCTETS = 8       /* octets before the name that a layer of type 8 holds, its route distinguisher */
 };
 
 /* A route: a neighbour's number, or one of these. */
@@ -85,8 +87,8 @@ enum card_answer {
     CARD_BAD_TYPE = 3,          /* neither Label Mapping nor Label Withdraw nor Label Release */
     CARD_TLV_OVERRUN = 4,       /* a TLV's head or value runs past the message */
     CARD_BAD_TLV_ORDER = 5,     /* the first TLV is not FEC, or the second not Generic Label, or absent */
-    CARD_BAD_ELEMENT = 6,       /* not exactly one P2MP element; in a route order, a root not of 4 or 16 octets */
-    CARD_BAD_OPAQUE = 7,        /* opaque length 0 or above 128 */
+    CARD_BAD_ELEMENT = 6,       /* not exactly one P2MP element; route, wrap: a root not of 4 or 16 octets; wrap: between root and name neither 0 nor 8 octets */
+    CARD_BAD_OPAQUE = 7,        /* opaque length 0 or above 128; wrap: also of the name that would be made */
     CARD_BAD_LABEL = 8,         /* Label TLV length not 4, or label under 16 or above 1048575 */
     CARD_UNKNOWN_TLV = 9,       /* a further TLV with U bit clear */
     CARD_OTHER_LABEL = 10,      /* Mapping: that branch stands with another label */
@@ -95,11 +97,12 @@ enum card_answer {
     CARD_NOT_AWAITED = 13,      /* Release: that label awaits none from this neighbour for this name */
     CARD_NOT_A_LEAF = 14,       /* leave: not a leaf */
     CARD_ROOTS_FULL = 15,       /* a new root's route while 32 stand */
-    CARD_NO_ROOM = 16,          /* output shorter than the event's records, the notice's record or the save */
+    CARD_NO_ROOM = 16,          /* output shorter than the event's records, the notice's record, the save or the name */
     CARD_BAD_BASE = 17,         /* start: base under 16 or above 1048320 */
     CARD_MALFORMED_OPAQUE = 18, /* elements do not fill the opaque value; tested after 7 and before 8 */
     CARD_BAD_SAVE = 19,         /* save, older: a value exceeds 32 octets; restore, newer, older: not the save, in that form, of a table that keeps the rules in force */
-    CARD_BAD_NOTICE = 21        /* read_notice: octets that are not one record which card_notice could write */
+    CARD_BAD_NOTICE = 21,       /* read_notice: octets that are not one record which card_notice could write */
+    CARD_LAST_LAYER = 22        /* unwrap: nothing is inside; layer: the name has no layer so far down */
 };
 
 /*
@@ -217,6 +220,56 @@ size_t card_newer(const uint8_t *octets, size_t octets_length, uint64_t spare_nu
 size_t card_older(const uint8_t *octets, size_t octets_length, uint64_t spare_numbers[CARD_NUMBERS],
                   uint8_t spare_names[CARD_NAMES], uint8_t spare_save[CARD_SAVE_MOST], uint8_t *out,
                   size_t out_length, uint32_t *answer);
+
+/*
+ * Names inside names (RFC 6512). A name is the octets of one P2MP element. Where its opaque value is one element of type 7
+ * or type 8 alone, that holds a name in turn, behind eight octets in type 8. So a name has layers: the outermost is
+ * layer 0, the innermost holds no name. None of these calls is lent a card.
+ */
+
+/*
+ * How many layers a name has, the innermost counted: 1 to CARD_LAYERS_MOST. Sets *answer to CARD_ACCEPTED; or to
+ * CARD_BAD_ELEMENT, CARD_BAD_OPAQUE or CARD_MALFORMED_OPAQUE, and returns 0.
+ */
+size_t card_layers(const uint8_t *name, size_t name_length, uint32_t *answer);
+
+/* What a layer has, at these places of `fields`. The octets themselves stand in the caller's `name`. */
+enum {
+    CARD_LAYER_START = 0,       /* where in `name` this layer begins; from here to the end it is a name */
+    CARD_LAYER_ROOT = 1,        /* octets of its root, 4 or 16, which stand 4 behind START */
+    CARD_LAYER_EIGHT = 2,       /* 8 for type 8, whose octets stand 9 + ROOT behind START; 0 for type 7 and the innermost */
+    CARD_LAYER_INNER = 3,       /* how far behind START the name inside begins; 0 for the innermost */
+    CARD_LAYER_FIELDS = 4       /* elements of `fields` */
+};
+
+/*
+ * Layer `down` of a name. Returns CARD_ACCEPTED, with all of `fields` written; or, with `fields` as it was, a refusal as
+ * card_layers has it, or CARD_LAST_LAYER where the name has no more than `down` layers.
+ */
+uint32_t card_layer(const uint8_t *name, size_t name_length, size_t down, uint64_t fields[CARD_LAYER_FIELDS]);
+
+/*
+ * Wraps a name in a layer with this root, 4 or 16 octets: of type 7 where `eight_length` is 0, of type 8 where it is
+ * CARD_EIGHT_OCTETS. Sets *answer to CARD_ACCEPTED, CARD_BAD_ELEMENT, CARD_BAD_OPAQUE, CARD_MALFORMED_OPAQUE or
+ * CARD_NO_ROOM and returns how many octets of `out` it wrote, from its front; the rest of `out` keeps its octets. A buffer
+ * of CARD_ELEMENT_MOST octets is never too short.
+ */
+size_t card_wrap(const uint8_t *root, size_t root_length, const uint8_t *eight, size_t eight_length,
+                 const uint8_t *name, size_t name_length, uint8_t *out, size_t out_length, uint32_t *answer);
+
+/* The octets of the outer layer in `name`, at these places of `lengths`; both are 0 where the call is refused. */
+enum {
+    CARD_OUTER_ROOT = 0,        /* of its root, which stands from octet 4 on */
+    CARD_OUTER_EIGHT = 1,       /* 8 or 0, from octet 9 + ROOT on */
+    CARD_OUTER_LENGTHS = 2      /* elements of `lengths` */
+};
+
+/*
+ * Takes the outermost layer off: the name inside is written to the front of `out`, as card_wrap writes. *answer is
+ * CARD_LAST_LAYER where nothing is inside, or as card_wrap sets it.
+ */
+size_t card_unwrap(const uint8_t *name, size_t name_length, uint8_t *out, size_t out_length,
+                   uint64_t lengths[CARD_OUTER_LENGTHS], uint32_t *answer);
 
 #ifdef __cplusplus
 }

@@ -36,15 +36,17 @@ SIZES = {
     "CARD_RECORD_MOST": "RECORD_LIMIT",
     "CARD_OUT_MOST": "SENT_LIMIT",
     "CARD_SAVE_MOST": "SAVE_LIMIT",
+    "CARD_EIGHT_OCTETS": "EIGHT_SIZE",
 }
-LENGTHS = {**{rattle: c for c, rattle in SIZES.items()}, "16": "CARD_NEIGHBOURS", "5": "CARD_FIELDS"}
+PLACES = {"16": "CARD_NEIGHBOURS", "5": "CARD_FIELDS", "4": "CARD_LAYER_FIELDS", "2": "CARD_OUTER_LENGTHS"}
+LENGTHS = {**{rattle: c for c, rattle in SIZES.items()}, **PLACES}
 WIDTHS = {"u8": "uint8_t", "u32": "uint32_t", "u64": "uint64_t", "usize": "size_t", "bool": "bool"}
 
 
 def constants():
-    """The named sizes of crates/meaning and crates/memory."""
+    """The named sizes of the crates that have some."""
     known = {}
-    for crate in ("meaning", "memory"):
+    for crate in ("meaning", "meaning_layers", "memory"):
         source = (made.ROOT / "crates" / crate / "src/lib.rt").read_text(encoding="utf-8")
         for name, value in re.findall(r"^pub const (\w+): \w+ =([^;]+);", source, re.M):
             words = re.sub(r" as \w+", "", value).replace("/", "//")
@@ -108,8 +110,11 @@ def needs_archive(what):
 class Header(unittest.TestCase):
     def test_sizes_are_those_of_the_sources(self):
         known = constants()
+        named = {(c, int(size)) for c, size in re.findall(r"(CARD_\w+) = (\d+)", HEADER)}
         for c, rattle in SIZES.items():
-            self.assertIn((c, str(known[rattle])), re.findall(r"(CARD_\w+) = (\d+)", HEADER))
+            self.assertIn((c, known[rattle]), named)
+        for size, c in PLACES.items():
+            self.assertIn((c, int(size)), named)
 
     def test_every_call_is_declared_as_it_is_exported(self):
         self.assertEqual(declared(), exported())
@@ -142,6 +147,12 @@ class Stack(unittest.TestCase):
         # return address, push, 0x20, and 0x40 below them; g at the depth of the call, memcpy in the place of f
         self.assertEqual(stack.deepest(functions["f"]), (8 + 8 + 0x20 + 0x40, {"g": 8 + 8 + 0x20, "memcpy": 0}))
         self.assertEqual(stack.deepest(functions["g"]), (8, {}))
+
+    def test_a_function_that_calls_itself(self):
+        listing = "0000000000000000 <f>:\n   0:\tsub    $0x18,%rsp\n   4:\tcall   0 <f>\n   9:\tadd    $0x18,%rsp\n   d:\tret\n"
+        self.assertEqual(stack.deepest(stack.functions_in(listing)["f"]), (8 + 0x18, {"f": 8 + 0x18}))
+        most = re.search(r"CARD_LAYERS_MOST = (\d+)", HEADER).group(1)
+        self.assertEqual({str(times) for times in stack.DEEPEST.values()}, {most})
 
     def test_what_cannot_be_followed(self):
         for step in ("jmp    *%rax", "call   *%rax", "sub    %rax,%rsp", "and    $-0x20,%rsp"):
