@@ -5,7 +5,7 @@ ghost use mathlib.Core.List.{_∷_};
 ghost use Prim.Native.Nat.{_<_};
 ghost use lib.ListN.{length};
 ghost use Rattle.meaning_layers.specs.Layers.{read, wrap, unwrap};
-ghost use Rattle.meaning_layers.specs.LayerCalls.{Writes, layerIn};
+ghost use Rattle.meaning_layers.specs.LayerCalls.{Writes, layerIn, lengthsOf};
 ghost use Rattle.meaning_layers.specs.InnerStart.{layerCount};
 ghost use Rattle.firmware_layers.specs.Fields.{answerOf, countOf, layerAnswer, layerFields, fieldsOf};
 
@@ -88,7 +88,7 @@ pub extern "C" fn card_unwrap(
 ) -> usize
     ensures { λ r. ⌜ (let u = unwrap (length (now (out .entry))) (now (name .entry)) in
         Writes (u .answer) (u .octets) (now (answer .exit)) r (now (out .entry)) (now (out .exit))
-        × (layerIn (now (name .entry)) (now (lengths .exit)) ≡ u .layer)) ⌝ }
+        × (layerIn (now (name .entry)) (now (lengths .exit)) ≡ u .layer) × (now (lengths .exit) ≡ lengthsOf (u .layer))) ⌝ }
 {
     wire_wraps::unwrap_core(name, out, lengths, answer)
 }

@@ -2,7 +2,7 @@
 -- Assumes nothing.
 use Prim.Native.Nat.{ℕ, zero, suc, _+_}
 use mathlib.Core.Path.{_≡_, sym, ap, _∙_}
-use mathlib.Core.List.{List}
+use mathlib.Core.List.{List, [], _∷_}
 use lib.ListN.{take, drop, getD, length}
 use lib.Seq.{take-append-seam}
 use Rattle.meaning.specs.Calls.{over}
@@ -38,6 +38,10 @@ module _ (answer : ℕ) (octets : List ℕ) (gave count : ℕ) (before after : L
 -- The two lengths say how much of each; both are 0 where the call is refused.
 unfoldable pub layerIn : List ℕ → List ℕ → Layer
 layerIn name lengths = record { root = take (getD lengths 0 0) (drop 4 name); eight = take (getD lengths 1 0) (drop (9 + getD lengths 0 0) name) }
+
+-- The lengths themselves: those of the layer that is given.
+unfoldable pub lengthsOf : Layer → List ℕ
+lengthsOf l = length (l .root) ∷ length (l .eight) ∷ []
 
 -- ---- one outcome: whatever two calls answer, write and give is the same
 

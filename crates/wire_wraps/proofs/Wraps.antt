@@ -13,12 +13,12 @@ use Rattle.meaning.specs.Wire.{rootLength, rootIn, opaqueIn, isElement, isOpaqu
 use Rattle.meaning.specs.Events.{notRoot}
 use Rattle.meaning.specs.Calls.{over}
 use Rattle.meaning.specs.Lists.{by-test, append-nil}
-use Rattle.meaning_laws.specs.RoundTrip.{both, whole}
+use Rattle.meaning_laws.specs.RoundTrip.{both, whole, root-size}
 use Rattle.meaning_laws.specs.WireLaws.{element-6, element-7, element-18, element-0}
 use Rattle.meaning_laws.specs.SaveLists.{either}
 use Rattle.meaning_layers.specs.Layers.{plainKind, eightKind, eightSize, beforeInner, eightIn, isLast, innerOf, Layer, layerOf, holding, familyOf, wrapped, notEight, wrapRefusal, wrap, unwrapRefusal, noLayer, unwrap}
 use Rattle.meaning_layers.specs.LayerLaws.{holding-length, wrapped-length, wraps-so, eight-length, Unwrappable, unwrappable}
-use Rattle.meaning_layers.specs.LayerCalls.{Writes, layerIn}
+use Rattle.meaning_layers.specs.LayerCalls.{Writes, layerIn, lengthsOf}
 use Rattle.meaning_layers.specs.InnerStart.{innerStart, start-none, start-not, start-inner}
 use Rattle.octets.specs.Part.{mid}
 use Rattle.octets.proofs.Parts.{mid-mid}
@@ -254,12 +254,12 @@ eight-part e =
 -- the call's end
 module _ (e out : List ℕ) where
   abbrev pub Unwraps : ℕ → ℕ → List ℕ → List ℕ → Type 0
-  Unwraps r count after lengths = Writes (unwrap (length out) e .answer) (unwrap (length out) e .octets) r count out after × (layerIn e lengths ≡ unwrap (length out) e .layer)
+  Unwraps r count after lengths = Writes (unwrap (length out) e .answer) (unwrap (length out) e .octets) r count out after × (layerIn e lengths ≡ unwrap (length out) e .layer) × (lengths ≡ lengthsOf (unwrap (length out) e .layer))
 
   module _ (r : ℕ) (q : r ≡ unwrapRefusal (length out) e) where
     pub unwrap-refused : (r ≡ 0 → ⊥) → Unwraps r 0 out (0 ∷ 0 ∷ [])
-    unfolding unwrap over layerIn noLayer
-    unwrap-refused d = rw (ne-eqb (unwrapRefusal (length out) e) 0 (λ z. d (q ∙ z))) (record { answers = q; counts = refl; writes = refl }, refl)
+    unfolding unwrap over layerIn noLayer lengthsOf
+    unwrap-refused d = rw (ne-eqb (unwrapRefusal (length out) e) 0 (λ z. d (q ∙ z))) (record { answers = q; counts = refl; writes = refl }, refl, refl)
 
     module _ (z : r ≡ 0) where
       its : Unwrappable (length out) e
@@ -271,7 +271,7 @@ module _ (e out : List ℕ) where
 
       pub unwrap-done : (k rl : ℕ) (xs es : List ℕ) → k ≡ innerStart e → k ≤ length e → xs ≡ take (length e - k) (drop k e) → rl ≡ rootLength e → es ≡ eightIn (opaqueIn e)
           → Unwraps r (length e - k) (mid 0 (length e - k - 0) out xs) (rl ∷ length es ∷ [])
-      unwrap-done k rl xs es s le ex er ee = ended inner size layer
+      unwrap-done k rl xs es s le ex er ee = ended inner size layer lengths
         where
           inner : xs ≡ innerOf e
           inner = ex ∙ take-all (length e - k) (drop k e) (omega (arith, length-drop k e)) ∙ ap (λ (i : ℕ). drop i e) s ∙ start-inner e (its .more)
@@ -288,5 +288,11 @@ module _ (e out : List ℕ) where
           layer : layerIn e (rl ∷ length es ∷ []) ≡ layerOf e
           layer = rw (er, before) (unfold layerIn layerOf in ap (layer-of (take (rootLength e) (drop 4 e))) (eight-part e) ∙ ap (λ (l : List ℕ). layer-of l (eightIn (opaqueIn e))) (unfold rootIn in refl))
 
-          ended : xs ≡ innerOf e → length e - k ≡ length (innerOf e) → layerIn e (rl ∷ length es ∷ []) ≡ layerOf e → Unwraps r (length e - k) (mid 0 (length e - k - 0) out xs) (rl ∷ length es ∷ [])
-          ended i n l = unfold unwrap in rw (eq-eqb (unwrapRefusal (length out) e) 0 (sym q ∙ z)) (record { answers = q; counts = n; writes = rw (i, whole-part, n) (unfold over in refl) }, l)
+          lengths : rl ∷ length es ∷ [] ≡ lengthsOf (layerOf e)
+          lengths =
+              let w = whole e (its .its) in
+              rw (er ∙ sym (root-size e (omega (arith, w .fills))), ee) (unfold lengthsOf layerOf in refl)
+
+          ended : xs ≡ innerOf e → length e - k ≡ length (innerOf e) → layerIn e (rl ∷ length es ∷ []) ≡ layerOf e → rl ∷ length es ∷ [] ≡ lengthsOf (layerOf e)
+              → Unwraps r (length e - k) (mid 0 (length e - k - 0) out xs) (rl ∷ length es ∷ [])
+          ended i n l m = unfold unwrap in rw (eq-eqb (unwrapRefusal (length out) e) 0 (sym q ∙ z)) (record { answers = q; counts = n; writes = rw (i, whole-part, n) (unfold over in refl) }, l, m)

@@ -10,7 +10,7 @@ ghost use denote.Ref.{ptr};
 ghost use Rattle.meaning.specs.Octets.{pick, two};
 ghost use Rattle.meaning.specs.Calls.{over};
 ghost use Rattle.meaning_layers.specs.Layers.{plainKind, eightKind, eightSize, familyOf, wrapped, wrapRefusal, wrap as wrapOf, unwrapRefusal, unwrap as unwrapOf};
-ghost use Rattle.meaning_layers.specs.LayerCalls.{Writes, HandsPart, layerIn};
+ghost use Rattle.meaning_layers.specs.LayerCalls.{Writes, HandsPart, layerIn, lengthsOf};
 ghost use Rattle.wire_wraps.specs.Room.{Fits, headOf};
 use meaning::OPAQUE_LIMIT;
 use meaning::ROOT_LIMIT;
@@ -184,7 +184,7 @@ fn unwrap_refusal(name: &[u8], room: usize) -> u32
 pub fn unwrap_core(name: &[u8], out: &mut [u8], lengths: &mut [u64; 2], answer: &mut u32) -> usize
     ensures { λ r. ⌜ (let u = unwrapOf (length (now (out .entry))) (now (name .entry)) in
         Writes (u .answer) (u .octets) (now (answer .exit)) r (now (out .entry)) (now (out .exit))
-        × (layerIn (now (name .entry)) (now (lengths .exit)) ≡ u .layer)) ⌝ }
+        × (layerIn (now (name .entry)) (now (lengths .exit)) ≡ u .layer) × (now (lengths .exit) ≡ lengthsOf (u .layer))) ⌝ }
 {
     let refusal = unwrap_refusal(name, out.len());
     *answer = refusal;
@@ -210,7 +210,7 @@ pub fn unwrap<'a>(
 ) -> &'a mut [u8]
     ensures { λ r. ⌜ (let u = unwrapOf (length (now (out .entry))) (now (name .entry)) in
         HandsPart (u .answer) (u .octets) (now (answer .exit)) (now r)
-        × (layerIn (now (name .entry)) (now (lengths .exit)) ≡ u .layer)) × (ptr r ≡ ptr (out .entry)) ⌝ }
+        × (layerIn (now (name .entry)) (now (lengths .exit)) ≡ u .layer) × (now (lengths .exit) ≡ lengthsOf (u .layer))) × (ptr r ≡ ptr (out .entry)) ⌝ }
 {
     let n = unwrap_core(name, &mut *out, lengths, answer);
     &mut out[..n]

@@ -12,7 +12,7 @@ slice-aggregate-result : tie.Need-slice-aggregate-result
 slice-aggregate-result c = handed-count _ _ _ _ _ _ (c .before .before .before .unwrap-core .ensures .0)
 
 returns : tie.Need-returns
-returns c = let the-unwrap-core = c .before .before .before .unwrap-core in ((handed _ _ _ _ _ _ (the-unwrap-core .ensures .0), the-unwrap-core .ensures .1), refl)
+returns c = let the-unwrap-core = c .before .before .before .unwrap-core in ((handed _ _ _ _ _ _ (the-unwrap-core .ensures .0), the-unwrap-core .ensures .1, the-unwrap-core .ensures .2), refl)
 
 pub unwrap-spec : {M : Type 1} → statement M
 unwrap-spec = tie.close (tie.spec unwrap-core-requires slice-aggregate-result returns)
