@@ -2,6 +2,7 @@
 
 use crate::card::{Card, Found, MOST_TREES};
 use crate::layers::{self, Layer};
+use crate::plan::{self, Move, Permit};
 use crate::refusal::Refusal;
 use crate::save::LONGEST_SAVE;
 use crate::save_two::{self, LONGEST_SAVE_TWO};
@@ -42,6 +43,8 @@ pub enum Order {
     /// What goes around a name, and the name.
     Wrap(Layer, Vec<u8>),
     Unwrap(Vec<u8>),
+    Plan(u32, Vec<Permit>),
+    Vet(u32, Vec<Permit>, Vec<Move>),
 }
 
 impl Order {
@@ -72,6 +75,11 @@ impl Order {
                 format!("wrap {}", words.join(" "))
             }
             Order::Unwrap(octets) => format!("unwrap {}", hex_word(octets)),
+            Order::Plan(from, sets) => format!("plan {from} {}", sets_word(sets)),
+            Order::Vet(from, sets, list) => {
+                let list = hex_word(&plan::write_list(list));
+                format!("vet {from} {} {list}", sets_word(sets))
+            }
         }
     }
 }
@@ -122,6 +130,12 @@ fn read_order(words: &[&[u8]]) -> Option<Order> {
             Some(Order::Wrap(Layer { root, eight }, read_hex(octets)?))
         }
         [b"unwrap", octets] => Some(Order::Unwrap(read_hex(octets)?)),
+        [b"plan", from, sets] => Some(Order::Plan(read_number(from)?, read_sets(sets)?)),
+        [b"vet", from, sets, list] => Some(Order::Vet(
+            read_number(from)?,
+            read_sets(sets)?,
+            plan::read_list(&read_hex(list)?),
+        )),
         [b"lost", neighbour] => Some(Order::Lost(read_number(neighbour)?)),
         [b"restore", octets] => Some(Order::Restore(read_hex_to(octets, LONGEST_SAVE)?)),
         [b"save2"] => Some(Order::SaveTwo),
@@ -137,6 +151,14 @@ fn read_number(word: &[u8]) -> Option<u32> {
         let value = digit.is_ascii_digit().then(|| u32::from(digit - b'0'))?;
         number.checked_mul(10)?.checked_add(value)
     })
+}
+
+fn read_sets(word: &[u8]) -> Option<Vec<Permit>> {
+    Some(plan::read_sets(&read_hex(word)?))
+}
+
+fn sets_word(sets: &[Permit]) -> String {
+    hex_word(&plan::write_sets(sets))
 }
 
 pub fn read_hex(word: &[u8]) -> Option<Vec<u8>> {
@@ -176,9 +198,9 @@ pub fn answer_number<T>(answer: &Result<T, Refusal>) -> u8 {
 }
 
 /// The words of the lines that have an answer's number behind them.
-const ANSWERED: [&str; 16] = [
+const ANSWERED: [&str; 18] = [
     "take", "join", "leave", "route", "notice", "start", "save", "restore", "save2", "restore2",
-    "newer", "older", "lost", "layers", "wrap", "unwrap",
+    "newer", "older", "lost", "layers", "wrap", "unwrap", "plan", "vet",
 ];
 
 /// The answer number on a line, where it has one.
@@ -243,6 +265,8 @@ impl Bench {
             Order::Wrap(layer, octets) => {
                 event_line("wrap", &layers::wrap(layer, octets, self.room))
             }
+            Order::Plan(from, sets) => plan_line(&self.card.plan(*from, sets)),
+            Order::Vet(from, sets, list) => vet_line(&self.card.vet(*from, sets, list)),
             Order::Unwrap(octets) => unwrap_line(&layers::unwrap(octets, self.room)),
             Order::Restore(octets) => {
                 format!("restore {}", answer_number(&self.card.restore(octets)))
@@ -319,6 +343,23 @@ fn unwrap_line(answer: &Result<(Vec<u8>, Layer), Refusal>) -> String {
             format!("unwrap 0 {}", words.join(" "))
         }
         Err(refusal) => format!("unwrap {}", refusal.number()),
+    }
+}
+
+fn plan_line(answer: &Result<Option<Vec<Move>>, Refusal>) -> String {
+    match answer {
+        Ok(Some(list)) => list.iter().fold("plan 0".to_string(), |line, entry| {
+            format!("{line} {}:{}", to_hex(&entry.root), entry.to)
+        }),
+        Ok(None) => "plan none".to_string(),
+        Err(refusal) => format!("plan {}", refusal.number()),
+    }
+}
+
+fn vet_line(answer: &Result<bool, Refusal>) -> String {
+    match answer {
+        Ok(false) => "vet rejected".to_string(),
+        _ => format!("vet {}", answer_number(answer)),
     }
 }
 

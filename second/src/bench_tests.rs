@@ -199,6 +199,16 @@ fn wrap_order(root: &[u8], eight: &[u8]) -> Order {
     Order::Wrap(Layer { root, eight }, vec![6])
 }
 
+fn permit(set: u16) -> Permit {
+    let root = vec![192, 0, 2, 1];
+    Permit { root, set }
+}
+
+fn entry(to: u32) -> Move {
+    let root = vec![9; 16];
+    Move { root, to }
+}
+
 #[test]
 fn orders_read_back_what_they_write() {
     for order in [
@@ -224,6 +234,8 @@ fn orders_read_back_what_they_write() {
         Order::Unwrap(vec![]),
         wrap_order(&[192, 0, 2, 1], &[]),
         wrap_order(&[], &[1; 8]),
+        Order::Plan(0, vec![]),
+        Order::Vet(15, vec![permit(3)], vec![entry(255)]),
     ] {
         assert_eq!(
             read_line(order.to_line().as_bytes()),

@@ -334,6 +334,12 @@ impl Card {
         self.trees.iter().filter(move |tree| tree.name.root == root)
     }
 
+    /// How many labels the root's trees need where it is behind that neighbour.
+    pub fn labels_needed(&self, root: &[u8], to: u32) -> usize {
+        let served = self.trees_of(root).filter(|tree| tree.serves(Some(to)));
+        served.count()
+    }
+
     pub fn routes(&self) -> &BTreeMap<Vec<u8>, Route> {
         &self.routes
     }

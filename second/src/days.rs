@@ -10,6 +10,7 @@ use crate::held_events::*;
 use crate::layers_events::*;
 use crate::lost_events::*;
 use crate::odd_lines;
+use crate::plan_events::*;
 use crate::rng::Rng;
 use crate::save::LONGEST_SAVE;
 use crate::save_damage;
@@ -21,6 +22,8 @@ use crate::world::{World, ALL_LENGTHS, FEW_LONG, SAVED_LENGTHS};
 mod counts;
 #[path = "forms_days.rs"]
 mod forms;
+#[path = "plan_days.rs"]
+mod plans;
 
 pub struct Kind {
     pub name: &'static str,
@@ -29,7 +32,7 @@ pub struct Kind {
 }
 
 const DAMAGED: usize = 4;
-const MIXED: usize = 15;
+const MIXED: usize = 16;
 
 pub const KINDS: [Kind; MIXED + 1] = [
     kind("ordinary", open_ordinary, step_ordinary),
@@ -47,6 +50,7 @@ pub const KINDS: [Kind; MIXED + 1] = [
     kind("round", open_round, step_round),
     kind("lost", open_lost, step_lost),
     kind("layers", open_ordinary, step_layers),
+    kind("plans", plans::open, plans::step),
     kind("mixed", open_ordinary, step_mixed),
 ];
 
@@ -186,6 +190,8 @@ const LAYERS: &Recipe = &[
     (8, name_to_wrap),
     (2, wrapped_tree),
 ];
+
+const PLANS: &Recipe = &[(3, any_plan), (4, any_vet)];
 
 pub struct Maker {
     rng: Rng,

@@ -118,7 +118,7 @@ fn occasion(card: &Card, order: &Order, number: u8) -> Option<&'static str> {
             (stands && number == 12).then_some("no label for a leaf")
         }
         Order::Route(root, to) if *to < 16 && card.upstream(root) != Some(*to) => {
-            let (needed, free) = (needed(card, root, *to), card.free_labels());
+            let (needed, free) = (card.labels_needed(root, *to), card.free_labels());
             let trees = card.trees_of(root).count();
             match number {
                 12 if needed == free + 1 => Some("one label short"),
@@ -133,7 +133,7 @@ fn occasion(card: &Card, order: &Order, number: u8) -> Option<&'static str> {
 
 /// How often a day of that kind meets each occasion: what it is, by the card
 /// before an order, the order, the number written, and the card afterwards.
-fn occasions(
+pub fn occasions(
     name: &str,
     seed: u64,
     what: impl Fn(&Card, &Order, u8, &Card) -> Option<&'static str>,

@@ -99,18 +99,13 @@ pub fn silencing_route(scene: &mut Scene) -> Option<Order> {
     Some(Order::Route(tree.name.root.clone(), to))
 }
 
-/// How many labels the root's trees need where it is behind that neighbour.
-pub fn needed(card: &Card, root: &[u8], to: u32) -> usize {
-    card.trees_of(root).filter(|t| t.serves(Some(to))).count()
-}
-
 /// A move that needs one label more than are free; or just those, or fewer
 /// than there are trees, some of which need none.
 pub fn counted_route(scene: &mut Scene) -> Option<Order> {
     let (card, free) = (scene.card, scene.card.free_labels());
     let short = scene.rng.percent(40);
     let near = |root: &[u8], to: u32| {
-        let (needed, trees) = (needed(card, root, to), card.trees_of(root).count());
+        let (needed, trees) = (card.labels_needed(root, to), card.trees_of(root).count());
         if short {
             needed == free + 1
         } else {

@@ -22,6 +22,9 @@ mod notice;
 mod notice_records;
 mod notice_rows;
 mod odd_lines;
+mod plan;
+mod plan_cases;
+mod plan_events;
 mod refusal;
 mod rng;
 mod round_cases;
@@ -57,7 +60,7 @@ const USAGE: &str = "usage: second run [FILE]
 
 /// Seeds and lines of each kind's part of the gate's standard input.
 const GATE_SEEDS: [u64; 2] = [1, 2];
-const GATE_LINES: [(&str, usize); 16] = [
+const GATE_LINES: [(&str, usize); 17] = [
     ("ordinary", 120),
     ("full", 240),
     ("moves", 120),
@@ -72,6 +75,7 @@ const GATE_LINES: [(&str, usize); 16] = [
     ("round", 160),
     ("lost", 180),
     ("layers", 110),
+    ("plans", 160),
     ("lines", 50),
     ("mixed", 150),
 ];
@@ -205,6 +209,7 @@ fn write_gate_input(output: &mut impl Write) -> io::Result<()> {
         form_cases::day(),
         lost_cases::day(),
         layers_cases::day(),
+        plan_cases::day(),
     ] {
         writeln!(output, "{}", page.join("\n"))?;
     }
