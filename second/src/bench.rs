@@ -7,7 +7,7 @@ use crate::refusal::Refusal;
 use crate::save::LONGEST_SAVE;
 use crate::save_two::{self, LONGEST_SAVE_TWO};
 use crate::wire::LONGEST_RECORD;
-use std::io::{self, BufRead, Write};
+use std::io::{self, BufRead};
 
 /// What an event is lent at most, two records for each tree; a save is lent
 /// more.
@@ -93,18 +93,20 @@ pub enum Said {
 }
 
 pub fn read_line(line: &[u8]) -> Said {
-    if line.len() > LONGEST_LINE {
-        return Said::Bad;
+    match words(line) {
+        None => Said::Bad,
+        Some(words) if words.is_empty() => Said::Nothing,
+        Some(words) => read_order(&words).map_or(Said::Bad, Said::Order),
     }
+}
+
+/// What a line says, before a comment; None where it is too long.
+pub fn words(line: &[u8]) -> Option<Vec<&[u8]>> {
     let before_comment = line.split(|&c| c == b'#').next().unwrap_or(&[]);
-    let words: Vec<&[u8]> = before_comment
+    let words = before_comment
         .split(|&c| c == b' ' || c == b'\t')
-        .filter(|word| !word.is_empty())
-        .collect();
-    if words.is_empty() {
-        return Said::Nothing;
-    }
-    read_order(&words).map_or(Said::Bad, Said::Order)
+        .filter(|word| !word.is_empty());
+    (line.len() <= LONGEST_LINE).then(|| words.collect())
 }
 
 fn read_order(words: &[&[u8]]) -> Option<Order> {
@@ -146,7 +148,7 @@ fn read_order(words: &[&[u8]]) -> Option<Order> {
     }
 }
 
-fn read_number(word: &[u8]) -> Option<u32> {
+pub fn read_number(word: &[u8]) -> Option<u32> {
     word.iter().try_fold(0u32, |number, &digit| {
         let value = digit.is_ascii_digit().then(|| u32::from(digit - b'0'))?;
         number.checked_mul(10)?.checked_add(value)
@@ -165,7 +167,7 @@ pub fn read_hex(word: &[u8]) -> Option<Vec<u8>> {
     read_hex_to(word, LONGEST_HEX)
 }
 
-fn read_hex_to(word: &[u8], most: usize) -> Option<Vec<u8>> {
+pub fn read_hex_to(word: &[u8], most: usize) -> Option<Vec<u8>> {
     if word == b"-" {
         return Some(Vec::new());
     }
@@ -310,7 +312,7 @@ fn event_word(event: &Order) -> &'static str {
     }
 }
 
-fn event_line(word: &str, answer: &Result<Vec<u8>, Refusal>) -> String {
+pub fn event_line(word: &str, answer: &Result<Vec<u8>, Refusal>) -> String {
     match answer {
         Ok(records) if !records.is_empty() => format!("{word} 0 {}", to_hex(records)),
         _ => format!("{word} {}", answer_number(answer)),
@@ -401,28 +403,44 @@ fn next_line(input: &mut impl BufRead, line: &mut Vec<u8>) -> io::Result<bool> {
     }
 }
 
+/// What a line of the input is answered with.
+pub enum Answer {
+    Nothing,
+    Line(String),
+    Bad,
+}
+
 /// Replays the input; hands on each line's number and octets with its answer.
 pub fn replay(
-    mut input: impl BufRead,
-    mut hand_on: impl FnMut(u64, &[u8], String) -> io::Result<()>,
+    input: impl BufRead,
+    hand_on: impl FnMut(u64, &[u8], String) -> io::Result<()>,
 ) -> io::Result<()> {
     let mut bench = Bench::new();
+    let answer = |line: &[u8]| match read_line(line) {
+        Said::Nothing => Answer::Nothing,
+        Said::Order(order) => Answer::Line(bench.obey(&order)),
+        Said::Bad => Answer::Bad,
+    };
+    replay_on(input, answer, hand_on)
+}
+
+/// The same on whatever answers lines.
+pub fn replay_on(
+    mut input: impl BufRead,
+    mut answer: impl FnMut(&[u8]) -> Answer,
+    mut hand_on: impl FnMut(u64, &[u8], String) -> io::Result<()>,
+) -> io::Result<()> {
     let mut line = Vec::new();
     let mut number = 0;
     while next_line(&mut input, &mut line)? {
         number += 1;
-        match read_line(&line) {
-            Said::Nothing => {}
-            Said::Order(order) => hand_on(number, &line, bench.obey(&order))?,
-            Said::Bad => hand_on(number, &line, format!("? {number}"))?,
+        match answer(&line) {
+            Answer::Nothing => {}
+            Answer::Line(written) => hand_on(number, &line, written)?,
+            Answer::Bad => hand_on(number, &line, format!("? {number}"))?,
         }
     }
     Ok(())
-}
-
-pub fn run(input: impl BufRead, output: &mut impl Write) -> io::Result<()> {
-    replay(input, |_, _, answer| writeln!(output, "{answer}"))?;
-    output.flush()
 }
 
 #[cfg(test)]

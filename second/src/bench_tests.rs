@@ -1,8 +1,10 @@
 use super::*;
+use crate::session::Program;
 
 fn output(input: &[u8]) -> String {
     let mut output = Vec::new();
-    run(input, &mut output).expect("memory can be written");
+    let run = Program::Bench.run(input, &mut output);
+    run.expect("memory can be written");
     String::from_utf8(output).expect("only text is written")
 }
 

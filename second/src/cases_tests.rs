@@ -1,5 +1,5 @@
 use super::*;
-use crate::bench;
+use crate::session::Program;
 
 /// The lines written for each case, by its number; 0 is what comes before.
 fn outputs() -> Vec<Vec<String>> {
@@ -20,7 +20,8 @@ fn outputs() -> Vec<Vec<String>> {
 
 fn run(text: &str) -> Vec<String> {
     let mut output = Vec::new();
-    bench::run(text.as_bytes(), &mut output).expect("memory can be written");
+    let run = Program::Bench.run(text.as_bytes(), &mut output);
+    run.expect("memory can be written");
     let text = String::from_utf8(output).expect("only text is written");
     text.lines().map(str::to_string).collect()
 }

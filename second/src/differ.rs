@@ -1,6 +1,6 @@
 //! Where another program's output leaves that of this one.
 
-use crate::bench;
+use crate::session::Program;
 use std::io::{self, BufRead, Write};
 use std::process::ExitCode;
 
@@ -15,12 +15,13 @@ struct Difference {
 
 /// Writes the first difference and fails, or writes how many lines agree.
 pub fn show(
+    program: Program,
     day: impl BufRead,
     other: impl BufRead,
     output: &mut impl Write,
 ) -> io::Result<ExitCode> {
     let mut other = other;
-    let (agreeing, difference) = compare(day, &mut other)?;
+    let (agreeing, difference) = compare(program, day, &mut other)?;
     if let Some(difference) = difference {
         write_difference(&difference, output)?;
         return Ok(ExitCode::FAILURE);
@@ -35,10 +36,14 @@ pub fn show(
     Ok(ExitCode::SUCCESS)
 }
 
-fn compare(day: impl BufRead, other: &mut impl BufRead) -> io::Result<(u64, Option<Difference>)> {
+fn compare(
+    program: Program,
+    day: impl BufRead,
+    other: &mut impl BufRead,
+) -> io::Result<(u64, Option<Difference>)> {
     let mut agreeing = 0;
     let mut difference = None;
-    bench::replay(day, |number, order, answer| {
+    program.replay(day, |number, order, answer| {
         if difference.is_some() {
             return Ok(());
         }
@@ -90,7 +95,13 @@ mod tests {
 
     fn verdict(day: &str, other: &str) -> String {
         let mut output = Vec::new();
-        show(day.as_bytes(), other.as_bytes(), &mut output).expect("memory can be written");
+        let shown = show(
+            Program::Bench,
+            day.as_bytes(),
+            other.as_bytes(),
+            &mut output,
+        );
+        shown.expect("memory can be written");
         String::from_utf8(output).expect("only text is written")
     }
 

@@ -2,6 +2,8 @@
 //! days to run on it and on the first.
 
 mod bench;
+mod box_cases;
+mod box_days;
 mod card;
 mod cases;
 mod damage;
@@ -22,6 +24,7 @@ mod notice;
 mod notice_records;
 mod notice_rows;
 mod odd_lines;
+mod pdu;
 mod plan;
 mod plan_cases;
 mod plan_events;
@@ -36,15 +39,22 @@ mod save_damage;
 mod save_rows;
 mod save_two;
 mod save_two_cases;
+mod session;
 mod wire;
 mod world;
 
 use refusal::HIGHEST_REFUSAL;
+use session::Program;
 use std::fs::File;
 use std::io::{self, BufReader, BufWriter, Write};
 use std::process::ExitCode;
 
 const USAGE: &str = "usage: second run [FILE]
+       second box [FILE]
+       second box-cases
+       second box-stdin
+       second box-day SEED LINES
+       second box-differ DAY OUTPUT
        second day KIND SEED LINES
        second cases
        second stdin
@@ -80,6 +90,9 @@ const GATE_LINES: [(&str, usize); 17] = [
     ("mixed", 150),
 ];
 
+/// Seed and lines of each made day of the box's standard input.
+const BOX_DAYS: [(u64, usize); 2] = [(1, 180), (2, 180)];
+
 fn main() -> ExitCode {
     let words: Vec<String> = std::env::args().skip(1).collect();
     let words: Vec<&str> = words.iter().map(String::as_str).collect();
@@ -101,19 +114,12 @@ fn main() -> ExitCode {
 /// None where the words are no sub-command.
 fn obey(words: &[&str], output: &mut impl Write) -> io::Result<Option<ExitCode>> {
     let lines = match *words {
-        ["run"] => {
-            bench::run(io::stdin().lock(), output)?;
-            return Ok(Some(ExitCode::SUCCESS));
-        }
-        ["run", file] => {
-            bench::run(open(file)?, output)?;
-            return Ok(Some(ExitCode::SUCCESS));
-        }
-        ["differ", day, other] => return differ::show(open(day)?, open(other)?, output).map(Some),
+        ["run" | "box" | "differ" | "box-differ", ..] => return on_program(words, output),
         ["refusals", file] => refusals(open(file)?)?,
         ["notices", file] => notice_records::in_run(open(file)?)?,
         ["read-notices", file] => notice_records::in_lines(open(file)?)?,
-        ["notice-records", seed, count] => match (seed.parse(), count.parse()) {
+        ["notice-records" | "box-day", seed, count] => match (seed.parse(), count.parse()) {
+            (Ok(seed), Ok(count)) if words[0] == "box-day" => box_days::make(seed, count),
             (Ok(seed), Ok(count)) => notice_records::make(seed, count),
             _ => return Ok(None),
         },
@@ -131,12 +137,31 @@ fn obey(words: &[&str], output: &mut impl Write) -> io::Result<Option<ExitCode>>
             None => return Ok(None),
         },
         ["cases"] => cases::day(),
+        ["box-cases"] => box_cases::day(),
+        ["box-stdin"] => return write_box_input(output).map(|()| Some(ExitCode::SUCCESS)),
         ["stdin"] => return write_gate_input(output).map(|()| Some(ExitCode::SUCCESS)),
         ["kinds"] => days::KINDS.iter().map(|k| k.name.to_string()).collect(),
         _ => return Ok(None),
     };
     for line in lines {
         writeln!(output, "{line}")?;
+    }
+    Ok(Some(ExitCode::SUCCESS))
+}
+
+/// Runs the bench or the box, or holds another's output against it.
+fn on_program(words: &[&str], output: &mut impl Write) -> io::Result<Option<ExitCode>> {
+    let program = match words[0] {
+        "run" | "differ" => Program::Bench,
+        _ => Program::Box,
+    };
+    match *words {
+        ["run" | "box"] => program.run(io::stdin().lock(), output)?,
+        ["run" | "box", file] => program.run(open(file)?, output)?,
+        ["differ" | "box-differ", day, other] => {
+            return differ::show(program, open(day)?, open(other)?, output).map(Some);
+        }
+        _ => return Ok(None),
     }
     Ok(Some(ExitCode::SUCCESS))
 }
@@ -222,6 +247,19 @@ fn write_gate_input(output: &mut impl Write) -> io::Result<()> {
             writeln!(output, "# {name}, seed {seed}\nstart 16\nroom {whole}")?;
             write_lines(&days::make(kind, seed, count), output)?;
         }
+    }
+    Ok(())
+}
+
+fn write_box_input(output: &mut impl Write) -> io::Result<()> {
+    writeln!(output, "{}", box_cases::day().join("\n"))?;
+    for (seed, lines) in BOX_DAYS {
+        // The streams begin empty, as the maker's did.
+        let lost: Vec<String> = (0..session::STREAMS).map(|n| format!("lost {n}")).collect();
+        writeln!(output, "# a day, seed {seed}\n{}", lost.join("\n"))?;
+        let whole = bench::WHOLE_BUFFER;
+        writeln!(output, "start 16\nroom {whole}")?;
+        writeln!(output, "{}", box_days::make(seed, lines).join("\n"))?;
     }
     Ok(())
 }

@@ -27,6 +27,8 @@ pub enum Refusal {
     /// Octets that no table would write, of request [3], or a table that the
     /// form has no space for, of request [5].
     NoSave = 19,
+    /// Too little room for a message, or too small a buffer, of request [12].
+    Unfit = 20,
     /// Octets that are no Notification record, of request [1].
     NoNotice = 21,
     /// Nothing inside a name, of request [9].

@@ -16,7 +16,7 @@ pub const MESSAGE_HEAD: usize = 8;
 pub const EXTENDED: u8 = 255;
 
 const P2MP: u8 = 6;
-const MARK: [u8; 2] = [0x4c, 0x44];
+pub const MARK: [u8; 2] = [0x4c, 0x44];
 const TLV_HEAD: usize = 4;
 /// Type and length, which the message's length field does not count.
 const UNCOUNTED: usize = 4;
