@@ -212,6 +212,13 @@ pub fn written_number(line: &str) -> Option<u8> {
     answered.then(|| words.next()?.parse().ok())?
 }
 
+/// The numbers on those lines that have one.
+#[cfg(test)]
+pub fn written_numbers(lines: &[String]) -> Vec<u8> {
+    let numbers = lines.iter().filter_map(|line| written_number(line));
+    numbers.collect()
+}
+
 /// The octets of the record on a line written for a notice.
 pub fn notice_record(line: &str) -> Option<Vec<u8>> {
     read_hex(line.strip_prefix("notice 0 ")?.as_bytes())

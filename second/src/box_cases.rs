@@ -375,16 +375,10 @@ mod tests {
     use crate::session::Program;
     use std::collections::BTreeSet;
 
-    /// Each answer, its hex cut off.
+    /// The answers that begin so.
     fn answers(word: &str) -> Vec<String> {
-        let mut answers = Vec::new();
-        let replayed = Program::Box.replay(day().join("\n").as_bytes(), |_, _, answer| {
-            if answer.starts_with(word) {
-                answers.push(answer);
-            }
-            Ok(())
-        });
-        replayed.expect("memory can be read");
+        let mut answers = Program::Box.answers(day().join("\n").as_bytes());
+        answers.retain(|answer| answer.starts_with(word));
         answers
     }
 

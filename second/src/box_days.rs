@@ -3,9 +3,10 @@
 
 use crate::bench::{self, Answer, Order, WHOLE_BUFFER};
 use crate::damage;
-use crate::days::{room_near, HELD, MOVES, ORDINARY};
+use crate::days::room_near;
 use crate::events::{choose, lookup, Scene};
 use crate::pdu::{self, LEAST_ROOM, LONGEST, PDU_HEAD};
+use crate::recipes::{HELD, MOVES, ORDINARY};
 use crate::rng::Rng;
 use crate::session::{BoxOrder, SessionBox, STREAMS};
 use crate::world::{World, FEW_LONG};
@@ -164,7 +165,7 @@ impl Maker {
         };
         let octets: Vec<u8> = self.under_way[place].drain(..count.min(most)).collect();
         self.give(BoxOrder::Octets(place as u32, octets));
-        if self.session.streams[place].is_stopped() && self.rng.percent(50) {
+        if self.session.streams[place].is_stopped() && self.rng.percent(30) {
             self.lose_stream(place);
         }
     }
@@ -302,14 +303,7 @@ mod tests {
     use std::collections::BTreeMap;
 
     fn answers(seed: u64, count: usize) -> Vec<String> {
-        let mut answers = Vec::new();
-        let day = make(seed, count).join("\n");
-        let replayed = Program::Box.replay(day.as_bytes(), |_, _, answer| {
-            answers.push(answer);
-            Ok(())
-        });
-        replayed.expect("memory can be read");
-        answers
+        Program::Box.answers(make(seed, count).join("\n").as_bytes())
     }
 
     #[test]

@@ -9,6 +9,8 @@ use crate::wire::{self, Kind, TreeName};
 pub const ROOT: [u8; 4] = [192, 0, 2, 1];
 /// Of a tree that has a number, under a root of 4 octets.
 pub const NUMBERED_RECORD: usize = 4 + 30 + formed::SHORTEST;
+/// 2001:db8::1.
+pub const LONG_ROOT: [u8; 16] = [0x20, 0x01, 0x0d, 0xb8, 0, 0, 0, 0, 0, 0, 0, 0, 0, 0, 0, 1];
 pub const OTHER_ROOT: [u8; 4] = [192, 0, 2, 2];
 const THIRD_ROOT: [u8; 4] = [192, 0, 2, 3];
 

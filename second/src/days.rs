@@ -5,15 +5,12 @@ use crate::bench::{self, Bench, Order, Said};
 use crate::card::{Card, MOST_ROOTS, MOST_TREES, NO_ROUTE};
 use crate::damage;
 use crate::events::*;
-use crate::formed;
-use crate::held_events::*;
-use crate::layers_events::*;
-use crate::lost_events::*;
+use crate::held_events::mapped_back;
 use crate::odd_lines;
-use crate::plan_events::*;
+use crate::random::*;
+use crate::recipes::*;
 use crate::rng::Rng;
 use crate::save::LONGEST_SAVE;
-use crate::save_damage;
 use crate::save_two;
 use crate::wire;
 use crate::world::{World, ALL_LENGTHS, FEW_LONG, SAVED_LENGTHS};
@@ -24,6 +21,8 @@ mod counts;
 mod forms;
 #[path = "plan_days.rs"]
 mod plans;
+#[path = "saves_days.rs"]
+mod saves;
 
 pub struct Kind {
     pub name: &'static str,
@@ -44,7 +43,7 @@ pub const KINDS: [Kind; MIXED + 1] = [
     kind("room", open_room, step_room),
     kind("lines", open_ordinary, step_lines),
     kind("held", open_held, step_held),
-    kind("saves", open_saves, step_saves),
+    kind("saves", saves::open, saves::step),
     kind("forms", forms::open, forms::step),
     kind("counts", counts::open, counts::step),
     kind("round", open_round, step_round),
@@ -61,137 +60,6 @@ const fn kind(name: &'static str, open: fn(&mut Maker), step: fn(&mut Maker)) ->
 pub fn kind_named(name: &str) -> Option<usize> {
     KINDS.iter().position(|kind| kind.name == name)
 }
-
-pub const ORDINARY: &Recipe = &[
-    (9, new_tree),
-    (4, new_leaf),
-    (12, further_branch),
-    (2, repeated_branch),
-    (2, changed_branch),
-    (10, branch_withdraw),
-    (4, last_goes),
-    (3, stray_withdraw),
-    (12, awaited_release),
-    (3, stray_release),
-    (1, early_release),
-    (4, standing_join),
-    (5, leaf_leave),
-    (2, stray_leave),
-    (6, new_route),
-    (4, moved_route),
-    (1, same_route),
-    (2, ended_route),
-    (2, any_route),
-];
-
-const AT_THE_EDGE: &Recipe = &[
-    (10, new_tree),
-    (6, new_leaf),
-    (12, further_branch),
-    (2, repeated_branch),
-    (3, changed_branch),
-    (6, branch_withdraw),
-    (3, last_goes),
-    (2, stray_withdraw),
-    (4, awaited_release),
-    (3, stray_release),
-    (1, early_release),
-    (4, standing_join),
-    (3, leaf_leave),
-    (2, stray_leave),
-    (8, new_route),
-    (8, moved_route),
-    (1, same_route),
-    (2, ended_route),
-    (3, any_route),
-];
-
-const GROW: &Recipe = &[(2, new_tree), (1, new_leaf)];
-
-const DRAIN: &Recipe = &[(3, moved_trees), (1, moved_route)];
-
-pub const MOVES: &Recipe = &[
-    (12, moved_trees),
-    (2, ended_route),
-    (2, any_route),
-    (2, same_route),
-    (3, new_tree),
-    (2, new_leaf),
-    (3, further_branch),
-    (2, branch_withdraw),
-    (2, last_goes),
-    (8, awaited_release),
-    (2, stray_release),
-];
-
-const NO_RELEASE: &Recipe = &[
-    (5, moved_trees),
-    (2, moved_route),
-    (6, new_tree),
-    (5, new_leaf),
-    (2, further_branch),
-    (4, branch_withdraw),
-    (6, last_goes),
-    (3, leaf_leave),
-    (2, stray_release),
-    (1, early_release),
-    (2, new_route),
-    (1, ended_route),
-];
-
-pub const HELD: &Recipe = &[
-    (5, mapped_back),
-    (6, new_tree_mapped_back),
-    (2, mapped_back_again),
-    (6, silent_tree_grows),
-    (9, last_live_goes),
-    (4, held_goes),
-    (4, waking_route),
-    (4, silencing_route),
-    (6, counted_route),
-    (2, new_tree),
-    (2, new_leaf),
-    (1, further_branch),
-    (6, branch_withdraw),
-    (3, leaf_leave),
-    (1, stray_release),
-    (1, ended_route),
-    (1, new_route),
-];
-
-const ROUND: &Recipe = &[
-    (4, moved_trees),
-    (6, new_tree),
-    (4, new_leaf),
-    (1, further_branch),
-    (3, branch_withdraw),
-    (5, last_goes),
-    (3, leaf_leave),
-    (6, awaited_release),
-    (1, stray_release),
-    (1, new_route),
-    (1, ended_route),
-];
-
-pub const LOSSES: &Recipe = &[
-    (2, any_loss),
-    (1, stranger_loss),
-    (2, loss_of_nobody),
-    (5, upstream_loss),
-    (3, branch_loss),
-    (4, held_loss),
-    (5, last_live_loss),
-    (4, awaited_loss),
-];
-
-const LAYERS: &Recipe = &[
-    (8, shown_layers),
-    (8, unwrapped_name),
-    (8, name_to_wrap),
-    (2, wrapped_tree),
-];
-
-const PLANS: &Recipe = &[(3, any_plan), (4, any_vet)];
 
 pub struct Maker {
     rng: Rng,
@@ -546,76 +414,6 @@ fn step_layers(maker: &mut Maker) {
     }
 }
 
-/// Few trees: a save of a full card makes a line of 46 thousand digits.
-fn open_saves(maker: &mut Maker) {
-    maker.settle(4, (3, 2), SAVED_LENGTHS);
-    maker.give(Order::Room(LONGEST_SAVE as u32));
-    maker.route_roots(3);
-    maker.grow(3);
-}
-
-/// Saves now and then, and restores, with or without events between and also
-/// on another card, what was saved or something near it.
-fn step_saves(maker: &mut Maker) {
-    match maker.rng.below(15) {
-        0..=5 => maker.play(ORDINARY, 25),
-        14 => save_a_long_name(maker),
-        6 => maker.play(HELD, 25),
-        7 | 8 => save_now(maker),
-        9 | 10 => restore(maker, false),
-        _ => restore(maker, true),
-    }
-}
-
-/// A name that the form has no space for comes and goes; its label stays, if
-/// it had one, until it is released.
-fn save_a_long_name(maker: &mut Maker) {
-    let Some(name) = maker.world.long_name(&mut maker.rng) else {
-        return;
-    };
-    let element = wire::write_element(&name);
-    for order in [Order::Join(element.clone()), Order::Leave(element)] {
-        maker.give(order);
-        save_now(maker);
-    }
-    for order in awaited_releases(&mut maker.scene(), &name) {
-        maker.give(order);
-    }
-}
-
-/// Also in hardly room enough.
-fn save_now(maker: &mut Maker) {
-    let scarce = maker.rng.percent(30);
-    if scarce {
-        let needed = maker.needed_room(&Order::Save);
-        let room = room_near(&mut maker.rng, needed);
-        maker.give(Order::Room(room));
-    }
-    maker.give(Order::Save);
-    if scarce {
-        maker.give(Order::Room(LONGEST_SAVE as u32));
-    }
-}
-
-fn restore(maker: &mut Maker, spoiled: bool) {
-    let Some(save) = maker.rng.pick(&maker.saves) else {
-        return save_now(maker);
-    };
-    let octets = if spoiled {
-        save_damage::spoil(&mut maker.rng, &save)
-    } else {
-        save
-    };
-    if maker.rng.percent(20) {
-        restart(maker);
-    }
-    maker.give(Order::Restore(octets));
-    maker.look(60);
-    if maker.rng.percent(20) {
-        save_now(maker);
-    }
-}
-
 fn step_damaged(maker: &mut Maker) {
     let order = maker.choose(ORDINARY);
     let order = if maker.rng.percent(65) {
@@ -694,61 +492,6 @@ fn step_random(maker: &mut Maker) {
         _ => Order::Label(random_number(rng)),
     };
     maker.give(order);
-}
-
-fn random_number(rng: &mut Rng) -> u32 {
-    match rng.below(3) {
-        0 => rng.number(),
-        1 => rng.below(300) as u32,
-        _ => rng.below(20) as u32,
-    }
-}
-
-/// A right frame around random TLVs, of which some are likely ones.
-fn random_message(rng: &mut Rng) -> Vec<u8> {
-    let codes = [0x0400, 0x0402, 0x0403, 0x0400, 0x0401, 0x8403];
-    let likely = [0x0100, 0x0200, 0x8100, 0x0101];
-    let mut tlvs = Vec::new();
-    for place in 0..rng.below(4) {
-        let place = if rng.percent(80) { place } else { rng.below(4) };
-        let value = match (place, rng.percent(80)) {
-            (0, true) => random_element(rng),
-            (1, true) => (rng.number() & 0x001f_ffff).to_be_bytes().to_vec(),
-            _ => rng.next().to_be_bytes()[..rng.below(8)].to_vec(),
-        };
-        tlvs.extend(wire::write_tlv(likely[place], &value));
-    }
-    if rng.percent(10) {
-        tlvs.pop();
-    }
-    wire::write_frame(codes[rng.below(codes.len())], rng.number(), &tlvs)
-}
-
-fn random_element(rng: &mut Rng) -> Vec<u8> {
-    let (length, most_opaque) = if rng.percent(20) {
-        (rng.below(200), wire::LONGEST_OPAQUE + 12)
-    } else {
-        (rng.below(50), 12)
-    };
-    let mut octets = rng.octets(length);
-    let heads: [&[u8]; 4] = [&[6, 0, 1, 4], &[6, 0, 2, 16], &[6, 0, 1], &[]];
-    octets.splice(..0, heads[rng.below(4)].iter().copied());
-    if let Some(field) = octets.get_mut(8..10) {
-        field.copy_from_slice(&[0, rng.below(most_opaque) as u8]);
-    }
-    let claimed = octets.get(9).map_or(0, |&octet| usize::from(octet));
-    if rng.percent(50) {
-        octets.truncate(10 + claimed);
-    } else if rng.percent(60) && claimed >= formed::SHORTEST {
-        octets.truncate(10);
-        octets.extend(formed::any(rng, claimed));
-    }
-    octets
-}
-
-fn random_root(rng: &mut Rng) -> Vec<u8> {
-    let length = [4, 16, 4, 16, 0, 3, 5, 12, 17, 20][rng.below(10)];
-    rng.octets(length)
 }
 
 fn open_room(maker: &mut Maker) {

@@ -1,24 +1,13 @@
 use super::*;
+use crate::bench::written_numbers as numbers;
 use crate::card::LabelUse;
 use crate::notice::Notice;
+use crate::session::Program;
 use std::collections::{BTreeMap, BTreeSet};
 
 /// The lines written for a day.
 fn answers(lines: &[Vec<u8>]) -> Vec<String> {
-    let mut answers = Vec::new();
-    bench::replay(lines.join(&b'\n').as_slice(), |_, _, answer| {
-        answers.push(answer);
-        Ok(())
-    })
-    .expect("memory can be read");
-    answers
-}
-
-fn numbers(answers: &[String]) -> Vec<u8> {
-    answers
-        .iter()
-        .filter_map(|answer| bench::written_number(answer))
-        .collect()
+    Program::Bench.answers(&lines.join(&b'\n'))
 }
 
 #[test]

@@ -141,21 +141,11 @@ impl Page {
 #[cfg(test)]
 mod tests {
     use super::*;
-    use crate::bench;
+    use crate::bench::written_numbers as numbers;
+    use crate::session::Program;
 
     fn answers() -> Vec<String> {
-        let mut answers = Vec::new();
-        bench::replay(day().join("\n").as_bytes(), |_, _, answer| {
-            answers.push(answer);
-            Ok(())
-        })
-        .expect("memory can be read");
-        answers
-    }
-
-    fn numbers(lines: &[String]) -> Vec<u8> {
-        let numbers = lines.iter().filter_map(|line| bench::written_number(line));
-        numbers.collect()
+        Program::Bench.answers(day().join("\n").as_bytes())
     }
 
     #[test]

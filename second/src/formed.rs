@@ -2,10 +2,10 @@
 //! type, length and value.
 
 use crate::rng::Rng;
-use crate::wire::EXTENDED;
+use crate::wire::{write_opaque_element, ELEMENT_HEAD, EXTENDED, EXTENDED_HEAD};
 
 /// The shortest element, one without a value.
-pub const SHORTEST: usize = 3;
+pub const SHORTEST: usize = ELEMENT_HEAD;
 
 /// Each value, and whether elements fill it.
 pub const VALUES: [(&[u8], bool); 31] = [
@@ -44,22 +44,19 @@ pub const VALUES: [(&[u8], bool); 31] = [
 
 /// One element, without a value.
 pub fn bare(kind: u8) -> Vec<u8> {
-    vec![kind, 0, 0]
+    write_opaque_element(kind, &[])
 }
 
 /// One element that has just so many octets, its value all `filling`.
 pub fn single(kind: u8, length: usize, filling: u8) -> Vec<u8> {
-    let mut octets = vec![kind];
-    octets.extend(((length - SHORTEST) as u16).to_be_bytes());
-    octets.resize(length, filling);
-    octets
+    write_opaque_element(kind, &vec![filling; length - ELEMENT_HEAD])
 }
 
 /// One element of an extended type, of 5 octets or more.
 pub fn extended(kind: u16, length: usize) -> Vec<u8> {
     let mut octets = vec![EXTENDED];
     octets.extend(kind.to_be_bytes());
-    octets.extend(((length - 5) as u16).to_be_bytes());
+    octets.extend(((length - EXTENDED_HEAD) as u16).to_be_bytes());
     octets.resize(length, 0);
     octets
 }

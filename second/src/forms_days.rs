@@ -2,6 +2,7 @@
 //! one of the other form, restored.
 
 use super::*;
+use crate::save_damage;
 use crate::save_two::LONGEST_SAVE_TWO;
 
 /// The kinds of the heads.

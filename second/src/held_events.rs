@@ -99,24 +99,47 @@ pub fn silencing_route(scene: &mut Scene) -> Option<Order> {
     Some(Order::Route(tree.name.root.clone(), to))
 }
 
+/// A move of a root to another neighbour, if one is as wanted.
+fn move_where(scene: &mut Scene, wanted: impl Fn(&[u8], u32) -> bool) -> Option<Order> {
+    let card = scene.card;
+    let mut orders = Vec::new();
+    for root in &scene.world.roots {
+        let others = (0..NEIGHBOURS).filter(|to| card.upstream(root) != Some(*to));
+        orders.extend(others.filter(|to| wanted(root, *to)).map(|to| (root, to)));
+    }
+    let (root, to) = scene.rng.pick(&orders)?;
+    Some(Order::Route(root.clone(), to))
+}
+
 /// A move that needs one label more than are free; or just those, or fewer
 /// than there are trees, some of which need none.
 pub fn counted_route(scene: &mut Scene) -> Option<Order> {
     let (card, free) = (scene.card, scene.card.free_labels());
     let short = scene.rng.percent(40);
-    let near = |root: &[u8], to: u32| {
+    move_where(scene, |root, to| {
         let (needed, trees) = (card.labels_needed(root, to), card.trees_of(root).count());
         if short {
             needed == free + 1
         } else {
             needed == free || (needed < free && free < trees)
         }
-    };
-    let mut orders = Vec::new();
-    for root in &scene.world.roots {
-        let others = (0..NEIGHBOURS).filter(|to| card.upstream(root) != Some(*to));
-        orders.extend(others.filter(|to| near(root, *to)).map(|to| (root, to)));
-    }
-    let (root, to) = scene.rng.pick(&orders)?;
-    Some(Order::Route(root.clone(), to))
+    })
+}
+
+/// A move of a root of which all trees are just as many as the free labels, or
+/// one more; or all but those that have one branch alone.
+pub fn bounded_route(scene: &mut Scene) -> Option<Order> {
+    let (card, free) = (scene.card, scene.card.free_labels());
+    let lone = |tree: &&Tree| tree.branches.len() == 1 && !tree.leaf;
+    let over = scene.rng.below(2);
+    let least = scene.rng.percent(60);
+    move_where(scene, |root, _| {
+        let trees = card.trees_of(root).count();
+        let bound = if least {
+            trees - card.trees_of(root).filter(lone).count()
+        } else {
+            trees
+        };
+        trees > 0 && bound == free + over
+    })
 }

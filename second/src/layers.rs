@@ -2,15 +2,13 @@
 //! element of type 7 or 8 (RFC 6512) holds another P2MP element.
 
 use crate::refusal::Refusal;
-use crate::wire::{self, TreeName, LONGEST_OPAQUE};
+use crate::wire::{self, TreeName, ELEMENT_HEAD, LONGEST_OPAQUE};
 
 /// Its value is a P2MP element.
 pub const RECURSIVE: u8 = 7;
 /// Its value is eight octets and then a P2MP element.
 pub const VPN_RECURSIVE: u8 = 8;
 pub const EIGHT: usize = 8;
-/// Type and length of the element that holds the inner one.
-pub const HOLDER_HEAD: usize = 3;
 
 /// What lies around a name: a root, and eight octets or none.
 #[derive(Clone, Debug, PartialEq, Eq)]
@@ -44,14 +42,14 @@ pub fn read(element: &[u8]) -> Result<(Vec<Layer>, TreeName), Refusal> {
 
 /// None where the name is a last layer.
 fn peel(name: &TreeName) -> Option<(Layer, TreeName)> {
-    let (head, value) = name.opaque.split_at_checked(HOLDER_HEAD)?;
-    let alone = usize::from(head[1]) << 8 | usize::from(head[2]);
+    let (head, value) = name.opaque.split_at_checked(ELEMENT_HEAD)?;
+    let length = u16::from_be_bytes([head[1], head[2]]);
     let front = match head[0] {
         RECURSIVE => 0,
         VPN_RECURSIVE => EIGHT,
         _ => return None,
     };
-    if alone != value.len() {
+    if usize::from(length) != value.len() {
         return None;
     }
     let (eight, inner) = value.split_at_checked(front)?;
@@ -71,7 +69,7 @@ pub fn wrap(layer: &Layer, element: &[u8], room: usize) -> Result<Vec<u8>, Refus
         return Err(Refusal::Element);
     }
     let value = [&layer.eight[..], element].concat();
-    if HOLDER_HEAD + value.len() > LONGEST_OPAQUE {
+    if ELEMENT_HEAD + value.len() > LONGEST_OPAQUE {
         return Err(Refusal::OpaqueLength);
     }
     inner?;
@@ -82,20 +80,12 @@ pub fn wrap(layer: &Layer, element: &[u8], room: usize) -> Result<Vec<u8>, Refus
     };
     let octets = wire::write_element(&TreeName {
         root: layer.root.clone(),
-        opaque: held(kind, &value),
+        opaque: wire::write_opaque_element(kind, &value),
     });
     if octets.len() > room {
         return Err(Refusal::Room);
     }
     Ok(octets)
-}
-
-/// One element of an opaque value.
-pub fn held(kind: u8, value: &[u8]) -> Vec<u8> {
-    let mut octets = vec![kind];
-    octets.extend((value.len() as u16).to_be_bytes());
-    octets.extend(value);
-    octets
 }
 
 #[cfg(test)]

@@ -3,9 +3,9 @@
 use crate::bench::{Order, WHOLE_BUFFER};
 use crate::cases::{element_claiming, tree_a, Page, OTHER_ROOT, ROOT};
 use crate::formed;
-use crate::layers::{self, held, Layer, RECURSIVE, VPN_RECURSIVE};
+use crate::layers::{self, Layer, RECURSIVE, VPN_RECURSIVE};
 use crate::save_cases::tree_b;
-use crate::wire::{self, Kind, TreeName, LONGEST_OPAQUE};
+use crate::wire::{self, write_opaque_element as held, Kind, TreeName, LONGEST_OPAQUE};
 
 const EIGHT: [u8; 8] = [0, 0, 0xfd, 0xe8, 0, 0, 0, 1];
 
@@ -181,21 +181,11 @@ impl Page {
 #[cfg(test)]
 mod tests {
     use super::*;
-    use crate::bench;
+    use crate::bench::written_numbers as numbers;
+    use crate::session::Program;
 
     fn answers() -> Vec<String> {
-        let mut answers = Vec::new();
-        bench::replay(day().join("\n").as_bytes(), |_, _, answer| {
-            answers.push(answer);
-            Ok(())
-        })
-        .expect("memory can be read");
-        answers
-    }
-
-    fn numbers(lines: &[String]) -> Vec<u8> {
-        let numbers = lines.iter().filter_map(|line| bench::written_number(line));
-        numbers.collect()
+        Program::Bench.answers(day().join("\n").as_bytes())
     }
 
     #[test]

@@ -4,9 +4,9 @@ use crate::bench::{Order, WHOLE_BUFFER};
 use crate::damage;
 use crate::events::Scene;
 use crate::formed;
-use crate::layers::{self, held, Layer, EIGHT, RECURSIVE, VPN_RECURSIVE};
+use crate::layers::{self, Layer, EIGHT, RECURSIVE, VPN_RECURSIVE};
 use crate::rng::Rng;
-use crate::wire::{self, TreeName};
+use crate::wire::{self, write_opaque_element as held, TreeName};
 
 const MOST_LAYERS: usize = 9;
 

@@ -2,6 +2,7 @@ use super::*;
 use crate::bench::answer_number;
 use crate::formed;
 use crate::rng::Rng;
+use crate::wire::write_opaque_element as held;
 
 const ANY_ROOM: usize = 1000;
 
@@ -46,7 +47,7 @@ fn wrapping_and_unwrapping_are_inverse() {
         for length in 3..100 {
             let element = name(root, &formed::any(&mut rng, length));
             let layer = around(outer, eight);
-            let fits = HOLDER_HEAD + eight + element.len() <= 128;
+            let fits = ELEMENT_HEAD + eight + element.len() <= 128;
             let wrapped = wrap(&layer, &element, ANY_ROOM);
             assert_eq!(answer_number(&wrapped), if fits { 0 } else { 7 });
             let Ok(wrapped) = wrapped else { continue };

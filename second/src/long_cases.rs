@@ -1,12 +1,11 @@
 //! Request [5], "Longer names", as a page of cases.
 
 use crate::bench::Order;
-use crate::cases::{mapping, Page, ROOT};
+use crate::cases::{mapping, Page, LONG_ROOT, ROOT};
 use crate::formed;
 use crate::save::LONGEST_SAVE;
 use crate::wire::{self, Kind, TreeName, LONGEST_OPAQUE};
 
-const LONG_ROOT: [u8; 16] = [0x20, 0x01, 0x0d, 0xb8, 0, 0, 0, 0, 0, 0, 0, 0, 0, 0, 0, 1];
 /// Both sides of what is taken and of what form one of a save has space for.
 const LENGTHS: [usize; 7] = [3, 32, 33, 90, 127, LONGEST_OPAQUE, LONGEST_OPAQUE + 1];
 
@@ -101,18 +100,13 @@ impl Page {
 mod tests {
     use super::*;
     use crate::bench;
+    use crate::session::Program;
 
     /// Written for each name.
     const LINES: usize = 14;
 
     fn answers() -> Vec<String> {
-        let mut answers = Vec::new();
-        bench::replay(day().join("\n").as_bytes(), |_, _, answer| {
-            answers.push(answer);
-            Ok(())
-        })
-        .expect("memory can be read");
-        answers
+        Program::Bench.answers(day().join("\n").as_bytes())
     }
 
     /// The number on each line that has one, of each name of the page.

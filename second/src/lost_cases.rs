@@ -205,22 +205,21 @@ impl Page {
 mod tests {
     use super::*;
     use crate::bench;
+    use crate::session::Program;
 
     /// What is written for each loss of the page: number, then neighbour and
     /// label of each record, all of them Withdraws.
     fn losses() -> Vec<(u8, Vec<(u8, u8)>)> {
-        let mut losses = Vec::new();
-        bench::replay(day().join("\n").as_bytes(), |_, _, answer| {
-            let Some(answer) = answer.strip_prefix("lost ") else {
-                return Ok(());
-            };
+        let answers = Program::Bench.answers(day().join("\n").as_bytes());
+        let losses = answers
+            .iter()
+            .filter_map(|answer| answer.strip_prefix("lost "));
+        let read = |answer: &str| {
             let (number, hex) = answer.split_once(' ').unwrap_or((answer, ""));
             let records = bench::read_hex(hex.as_bytes()).expect("it is hex");
-            losses.push((number.parse().expect("a number"), withdraws(&records)));
-            Ok(())
-        })
-        .expect("memory can be read");
-        losses
+            (number.parse().expect("a number"), withdraws(&records))
+        };
+        losses.map(read).collect()
     }
 
     fn withdraws(records: &[u8]) -> Vec<(u8, u8)> {

@@ -3,6 +3,8 @@
 
 use super::held::*;
 use super::*;
+use crate::bench::{self, Bench, Said};
+use crate::days;
 
 fn gone(card: &mut Card, neighbour: u32) -> Vec<(u8, u8, u8)> {
     told(card.lost(neighbour, WHOLE_BUFFER))
@@ -141,4 +143,72 @@ fn oldest_first() {
     needs_room(&before, 2, |card, room| answer_number(&card.lost(7, room)));
     let next = card.next_identifier();
     assert_eq!(next, before.next_identifier() + 2);
+}
+
+/// What the request says of one tree: what is left of it, and the label that
+/// is withdrawn from an upstream other than N.
+fn left_of(card: &Card, tree: &Tree, lost: u32) -> (Option<Tree>, Option<(u32, u32)>) {
+    let mut tree = tree.clone();
+    tree.branches.remove(&lost);
+    let given = card.label_of(&tree.name).filter(|(_, to)| *to != lost);
+    let ends = given.filter(|(_, to)| {
+        let held = tree.branches.keys().all(|neighbour| neighbour == to);
+        held && !tree.leaf
+    });
+    let empty = tree.branches.is_empty() && !tree.leaf;
+    ((!empty).then_some(tree), ends)
+}
+
+/// The card that the request describes, and what is sent.
+fn described(card: &Card, lost: u32) -> (Card, Vec<u8>) {
+    let mut after = card.clone();
+    let mut records = Vec::new();
+    after.trees.clear();
+    for tree in card.trees() {
+        let (left, ends) = left_of(card, tree, lost);
+        after.trees.extend(left);
+        if let Some((label, to)) = ends {
+            let identifier = after.next_identifier;
+            after.next_identifier = identifier.wrapping_add(1);
+            let message = wire::write_message(Kind::Withdraw, identifier, &tree.name, label);
+            records.extend(wire::write_record(to, &message));
+            let place = (label - card.base()) as usize;
+            after.labels[place] = LabelUse::Awaiting(to, tree.name.clone());
+        }
+    }
+    for held in &mut after.labels {
+        if matches!(held, LabelUse::Mapped(n, _) | LabelUse::Awaiting(n, _) if *n == lost) {
+            *held = LabelUse::Free;
+        }
+    }
+    after
+        .routes
+        .retain(|_, route| *route != Route::Neighbour(lost));
+    after.roots.retain(|root| after.routes.contains_key(root));
+    (after, records)
+}
+
+/// On cards of made days, each neighbour is lost just as the request says.
+#[test]
+fn as_the_request_says() {
+    let mut sent = 0;
+    for name in ["held", "full", "exhaust", "lost"] {
+        let kind = days::kind_named(name).expect("it is one of the kinds");
+        let mut bench = Bench::new();
+        for (place, line) in days::make(kind, 4, 1200).iter().enumerate() {
+            if let Said::Order(order) = bench::read_line(line) {
+                bench.obey(&order);
+            }
+            if place % 40 != 39 {
+                continue;
+            }
+            for lost in 0..NEIGHBOURS {
+                let mut card = bench.card.clone();
+                let records = card.lost(lost, WHOLE_BUFFER).expect("it is taken");
+                sent += records.len();
+                assert_eq!((card, records), described(&bench.card, lost));
+            }
+        }
+    }
+    assert!(sent > 10_000, "{sent}");
 }

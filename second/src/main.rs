@@ -28,6 +28,8 @@ mod pdu;
 mod plan;
 mod plan_cases;
 mod plan_events;
+mod random;
+mod recipes;
 mod refusal;
 mod rng;
 mod round_cases;

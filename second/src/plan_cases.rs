@@ -233,16 +233,14 @@ impl Page {
 #[cfg(test)]
 mod tests {
     use super::*;
-    use crate::bench;
+    use crate::session::Program;
 
     fn answers(word: &str) -> Vec<String> {
-        let mut answers = Vec::new();
-        bench::replay(day().join("\n").as_bytes(), |_, _, answer| {
-            answers.extend(answer.strip_prefix(word).map(str::to_string));
-            Ok(())
-        })
-        .expect("memory can be read");
-        answers
+        let answers = Program::Bench.answers(day().join("\n").as_bytes());
+        let cut = answers
+            .iter()
+            .filter_map(|answer| answer.strip_prefix(word));
+        cut.map(str::to_string).collect()
     }
 
     #[test]

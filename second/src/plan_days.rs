@@ -4,6 +4,7 @@
 use super::*;
 use crate::card::Name;
 use crate::plan::{Move, Permit};
+use crate::plan_events::{any_line, any_permits};
 
 /// Every second root is behind one neighbour.
 pub fn open(maker: &mut Maker) {

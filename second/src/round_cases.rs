@@ -205,20 +205,19 @@ impl Page {
 mod tests {
     use super::*;
     use crate::bench;
+    use crate::session::Program;
     use crate::wire::GENERIC_LABEL;
 
     /// The label of each Mapping that is written for the page's orders.
     fn given() -> Vec<u32> {
+        let mut answers = Program::Bench.answers(day().join("\n").as_bytes());
+        answers.retain(|answer| !answer.starts_with("save"));
         let mut labels = Vec::new();
-        bench::replay(day().join("\n").as_bytes(), |_, _, answer| {
+        for answer in answers {
             let word = answer.split(' ').nth(2).unwrap_or("");
             let octets = bench::read_hex(word.as_bytes()).unwrap_or_default();
-            if !answer.starts_with("save") {
-                labels.extend(octets.chunks(NUMBERED_RECORD).filter_map(mapped));
-            }
-            Ok(())
-        })
-        .expect("memory can be read");
+            labels.extend(octets.chunks(NUMBERED_RECORD).filter_map(mapped));
+        }
         labels
     }
 

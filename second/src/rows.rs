@@ -3,8 +3,9 @@
 
 use crate::bench::{self, Order, WHOLE_BUFFER};
 use crate::card::{Card, Found};
-use crate::days::{room_near, spoil, HELD, LOSSES, MOVES, ORDINARY};
+use crate::days::{room_near, spoil};
 use crate::events::{any_neighbour, block_label, choose, Scene};
+use crate::recipes::{HELD, LOSSES, MOVES, ORDINARY};
 use crate::refusal::Refusal;
 use crate::rng::Rng;
 use crate::row_cards::{card_text, Words};

@@ -2,7 +2,7 @@
 
 use crate::bench::{self, Bench, Order, Said};
 use crate::card::{NO_ROUTE, THIS_NODE};
-use crate::cases::{numbered, tree_a, Page, OTHER_ROOT, ROOT};
+use crate::cases::{numbered, tree_a, Page, LONG_ROOT, OTHER_ROOT, ROOT};
 use crate::formed;
 use crate::save::{HEAD, LABEL, LONGEST_SAVE, ROUTE, TREE};
 use crate::save_damage::{counted, joined, records};
@@ -22,11 +22,9 @@ pub fn day() -> Vec<String> {
     page.lines
 }
 
-/// A tree of the root 2001:db8::1, which has no route.
+/// A tree of another root, which has no route.
 pub fn tree_b() -> TreeName {
-    let mut root = vec![0; 16];
-    root[..4].copy_from_slice(&[0x20, 0x01, 0x0d, 0xb8]);
-    root[15] = 1;
+    let root = LONG_ROOT.to_vec();
     let opaque = formed::bare(9);
     TreeName { root, opaque }
 }

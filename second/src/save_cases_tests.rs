@@ -1,13 +1,8 @@
 use super::*;
+use crate::session::Program;
 
 fn answers() -> Vec<String> {
-    let mut answers = Vec::new();
-    bench::replay(day().join("\n").as_bytes(), |_, _, answer| {
-        answers.push(answer);
-        Ok(())
-    })
-    .expect("memory can be read");
-    answers
+    Program::Bench.answers(day().join("\n").as_bytes())
 }
 
 #[test]

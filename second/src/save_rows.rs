@@ -4,8 +4,8 @@
 use crate::bench::Order;
 use crate::bench::{self, WHOLE_BUFFER};
 use crate::card::Card;
-use crate::days::{HELD, MOVES, ORDINARY};
 use crate::events::{any_neighbour, choose, Scene};
+use crate::recipes::{HELD, MOVES, ORDINARY};
 use crate::rng::Rng;
 use crate::rows::{event_text, is_event, list};
 use crate::save::LONGEST_SAVE;

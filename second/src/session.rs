@@ -155,6 +155,18 @@ impl Program {
         }
     }
 
+    /// The lines that are written for the text's.
+    #[cfg(test)]
+    pub fn answers(self, text: &[u8]) -> Vec<String> {
+        let mut answers = Vec::new();
+        let replayed = self.replay(text, |_, _, answer| {
+            answers.push(answer);
+            Ok(())
+        });
+        replayed.expect("memory can be read");
+        answers
+    }
+
     pub fn run(self, input: impl BufRead, output: &mut impl Write) -> io::Result<()> {
         self.replay(input, |_, _, answer| writeln!(output, "{answer}"))?;
         output.flush()

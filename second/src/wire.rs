@@ -12,8 +12,11 @@ pub const LONGEST_OPAQUE: usize = 128;
 pub const LONGEST_RECORD: usize = 4 + 42 + LONGEST_OPAQUE;
 pub const MESSAGE_HEAD: usize = 8;
 
-/// The element type that an extended type follows.
+/// The type of an element of an opaque value that an extended type follows.
 pub const EXTENDED: u8 = 255;
+/// Type and length of such an element, and with an extended type.
+pub const ELEMENT_HEAD: usize = 3;
+pub const EXTENDED_HEAD: usize = 5;
 
 const P2MP: u8 = 6;
 pub const MARK: [u8; 2] = [0x4c, 0x44];
@@ -158,9 +161,21 @@ pub fn forms_elements(opaque: &[u8]) -> bool {
 
 /// What follows the first element; None where that runs past the octets.
 fn after_element(octets: &[u8]) -> Option<&[u8]> {
-    let head = if *octets.first()? == EXTENDED { 5 } else { 3 };
+    let head = if *octets.first()? == EXTENDED {
+        EXTENDED_HEAD
+    } else {
+        ELEMENT_HEAD
+    };
     let length = usize::from(two_octets(octets.get(head - 2..head)?));
     octets.get(head + length..)
+}
+
+/// One element of an opaque value.
+pub fn write_opaque_element(kind: u8, value: &[u8]) -> Vec<u8> {
+    let mut octets = vec![kind];
+    octets.extend((value.len() as u16).to_be_bytes());
+    octets.extend(value);
+    octets
 }
 
 fn read_label(value: &[u8]) -> Result<u32, Refusal> {

@@ -31,13 +31,14 @@ impl World {
         let roots: Vec<Vec<u8>> = (0..roots).map(|number| root(first + number)).collect();
         let mut names = Vec::new();
         for (place, root) in roots.iter().enumerate() {
-            let count = if place == 0 { broad } else { each };
-            names.extend((0..count).map(|number| {
-                let length = lengths[(number / 2 + place + turn) % lengths.len()];
-                TreeName {
-                    root: root.clone(),
-                    opaque: opaque(number, length),
-                }
+            let count: usize = if place == 0 { broad } else { each };
+            let pairs = 0..count.div_ceil(2);
+            let lengths: Vec<usize> = pairs
+                .map(|pair| any_length(rng, lengths, pair + place + turn))
+                .collect();
+            names.extend((0..count).map(|number| TreeName {
+                root: root.clone(),
+                opaque: opaque(number, lengths[number / 2]),
             }));
         }
         World { roots, names }
@@ -69,6 +70,15 @@ impl World {
             opaque: opaque(rng.below(6), length),
         })
     }
+}
+
+/// One of the lengths in its turn, or any other up to the longest of them.
+fn any_length(rng: &mut Rng, lengths: &[usize], turn: usize) -> usize {
+    let longest = lengths.iter().copied().max().unwrap_or(formed::SHORTEST);
+    if rng.percent(20) {
+        return rng.between(formed::SHORTEST, longest);
+    }
+    lengths[turn % lengths.len()]
 }
 
 /// Neighbouring numbers give a 4-octet root and a 16-octet one that begins
@@ -124,7 +134,7 @@ mod tests {
     #[test]
     fn lengths_of_names() {
         for (lengths, most) in [(ALL_LENGTHS, LONGEST_OPAQUE), (SAVED_LENGTHS, OPAQUE_SPACE)] {
-            let world = World::new(&mut Rng::new(1), 7, (40, 12), lengths);
+            let world = World::new(&mut Rng::new(1), 30, (40, 12), lengths);
             let most_met = world.names.iter().map(|name| name.opaque.len()).max();
             assert_eq!(most_met, Some(most));
             for length in lengths {
