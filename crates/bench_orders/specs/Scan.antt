@@ -25,6 +25,8 @@ numbered (Verb.Move b) n = Said.bad
 numbered Verb.Layers n = Said.bad
 numbered Verb.Wrap n = Said.bad
 numbered Verb.Unwrap n = Said.bad
+numbered Verb.Plan n = Said.bad
+numbered Verb.Vet n = Said.bad
 numbered Verb.Other n = Said.bad
 
 unfoldable pub asNumber : Verb → List ℕ → Said
@@ -48,6 +50,8 @@ withOctets (Verb.Move b) o = Said.bad
 withOctets Verb.Layers o = Said.layers o
 withOctets Verb.Wrap o = Said.bad
 withOctets Verb.Unwrap o = Said.unwrap o
+withOctets Verb.Plan o = Said.bad
+withOctets Verb.Vet o = Said.bad
 withOctets Verb.Other o = Said.bad
 
 unfoldable pub asHex : Verb → List ℕ → Said

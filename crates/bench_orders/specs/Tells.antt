@@ -5,7 +5,7 @@ use mathlib.Core.List.{List}
 use lib.ListN.{length}
 use Rattle.meaning.specs.Save.{Form, formOf, saveLimit}
 use Rattle.bench_words.specs.Words.{part, octetsOf}
-use Rattle.bench_verbs.specs.Line.{Said, nothing, bad, start, room, take, join, leave, route, label, tree, free, notice, save, restore, lost, moves, layers, wrap, unwrap}
+use Rattle.bench_verbs.specs.Line.{Said, nothing, bad, start, room, take, join, leave, route, label, tree, free, notice, save, restore, lost, moves, layers, wrap, unwrap, plan, vet}
 use Rattle.bench_orders.specs.declared.Order.{Order}
 
 -- the order that the code hands on says so much, with the line it was read from
@@ -29,6 +29,8 @@ meant l (Order.Move b s e) = moves (formOf b) (octetsOf (part s e l))
 meant l (Order.Layers s e) = layers (octetsOf (part s e l))
 meant l (Order.Wrap r d s e) = wrap (octetsOf (part (r .start) (r .end) l)) (octetsOf (part (d .start) (d .end) l)) (octetsOf (part s e l))
 meant l (Order.Unwrap s e) = unwrap (octetsOf (part s e l))
+meant l (Order.Plan n s e) = plan n (octetsOf (part s e l))
+meant l (Order.Vet n p s e) = vet n (octetsOf (part (p .start) (p .end) l)) (octetsOf (part s e l))
 
 -- the word of HEX lies in the line
 abbrev pub Lies : List ℕ → ℕ → ℕ → Type 0
@@ -57,6 +59,8 @@ InLine l (Order.Move b s e) = SaveLies (formOf b) l s e
 InLine l (Order.Layers s e) = Lies l s e
 InLine l (Order.Wrap r d s e) = Lies l (r .start) (r .end) × Lies l (d .start) (d .end) × Lies l s e
 InLine l (Order.Unwrap s e) = Lies l s e
+InLine l (Order.Plan n s e) = Lies l s e
+InLine l (Order.Vet n p s e) = Lies l (p .start) (p .end) × Lies l s e
 
 -- what is said is what the order means
 pub record Tells (l : List ℕ) (said : Said) (r : Order) : Type 0 where

@@ -5,7 +5,9 @@ ghost use Prim.Native.Nat.{_≤_};
 ghost use lib.ListN.{length, drop};
 ghost use Rattle.bench_words.specs.Words.{part, words, isHex};
 ghost use Rattle.bench_words.specs.Scan.{numberIn};
-ghost use Rattle.bench_verbs.specs.Line.{isSaveHex, Said, withSave, withThreeHex, restore, moves, does, orderOf};
+ghost use Rattle.bench_words.specs.declared.Number.{Number};
+ghost use Rattle.bench_verbs.specs.Line.{isSaveHex, Said, withSave, withThreeHex, withNumberTwoHex, restore, moves, does, orderOf};
+ghost use Rattle.meaning.specs.Octets.{pick};
 ghost use Rattle.meaning.specs.Save.{formOf};
 ghost use Rattle.bench_orders.specs.Tells.{Tells};
 ghost use Rattle.bench_orders.specs.Scan.{asNumber, asHex};
@@ -92,6 +94,17 @@ pub enum Order {
         end: usize,
     },
     Unwrap {
+        start: usize,
+        end: usize,
+    },
+    Plan {
+        neighbour: u32,
+        start: usize,
+        end: usize,
+    },
+    Vet {
+        neighbour: u32,
+        sets: Word,
         start: usize,
         end: usize,
     },
@@ -191,6 +204,17 @@ fn with_one(line: &[u8], verb: Verb, start: usize, end: usize) -> Order
     }
 }
 
+// The number of the first of two words, where the second one is HEX.
+fn number_with_hex(line: &[u8], start: usize, end: usize, from: usize, to: usize) -> Number
+    requires { ⌜ (start ≤ end) × (end ≤ length (now line)) × (from ≤ to) × (to ≤ length (now line)) ⌝ }
+    ensures { λ r. ⌜ r ≡ pick (isHex (part from to (now (line .entry)))) (numberIn (part start end (now (line .entry)))) Number.None ⌝ }
+{
+    if bench_words::is_hex(&line[from..to]) {
+        return bench_words::read_number(&line[start..end]);
+    }
+    Number::None
+}
+
 // An order with two further words, at `start..end` and `from..to`.
 fn with_two(line: &[u8], verb: Verb, start: usize, end: usize, from: usize, to: usize) -> Order
     requires { ⌜ (start ≤ end) × (end ≤ length (now line)) × (from ≤ to) × (to ≤ length (now line)) ⌝ }
@@ -198,17 +222,14 @@ fn with_two(line: &[u8], verb: Verb, start: usize, end: usize, from: usize, to: 
 {
     match verb {
         Verb::Take => {
-            let Number::Is(neighbour) = bench_words::read_number(&line[start..end]) else {
+            let Number::Is(neighbour) = number_with_hex(line, start, end, from, to) else {
                 return Order::Bad;
             };
-            if bench_words::is_hex(&line[from..to]) {
-                return Order::Take {
-                    neighbour,
-                    start: from,
-                    end: to,
-                };
+            Order::Take {
+                neighbour,
+                start: from,
+                end: to,
             }
-            Order::Bad
         }
         Verb::Route => {
             if bench_words::is_hex(&line[start..end]) {
@@ -218,6 +239,16 @@ fn with_two(line: &[u8], verb: Verb, start: usize, end: usize, from: usize, to: 
                 return Order::Route { start, end, route };
             }
             Order::Bad
+        }
+        Verb::Plan => {
+            let Number::Is(neighbour) = number_with_hex(line, start, end, from, to) else {
+                return Order::Bad;
+            };
+            Order::Plan {
+                neighbour,
+                start: from,
+                end: to,
+            }
         }
         _ => Order::Bad,
     }
@@ -265,7 +296,31 @@ fn with_three_hex(line: &[u8], first: Word, second: Word, third: Word) -> Order
     }
 }
 
-// An order with three further words: two numbers and HEX, as `notice` takes them, or three times HEX.
+// A number and twice HEX, as `vet` takes them.
+fn with_vet(line: &[u8], first: Word, second: Word, third: Word) -> Order
+    requires { ⌜ (first .start ≤ first .end) × (first .end ≤ length (now line)) × (second .start ≤ second .end) × (second .end ≤ length (now line)) ⌝ }
+    requires { ⌜ (third .start ≤ third .end) × (third .end ≤ length (now line)) ⌝ }
+    ensures { λ r. ⌜ Tells (now (line .entry)) (withNumberTwoHex Said.vet (part (first .start) (first .end) (now (line .entry)) ∷ part (second .start) (second .end) (now (line .entry))
+        ∷ part (third .start) (third .end) (now (line .entry)) ∷ [])) r ⌝ }
+{
+    let Number::Is(neighbour) = number_at(line, first) else {
+        return Order::Bad;
+    };
+    if !hex_at(line, second) {
+        return Order::Bad;
+    }
+    if !hex_at(line, third) {
+        return Order::Bad;
+    }
+    Order::Vet {
+        neighbour,
+        sets: second,
+        start: third.start,
+        end: third.end,
+    }
+}
+
+// An order with three further words: two numbers and HEX, as `notice` takes them, three times HEX, or what `vet` takes.
 fn with_three(line: &[u8], verb: Verb, first: Word, second: Word, third: Word) -> Order
     requires { ⌜ (first .start ≤ first .end) × (first .end ≤ length (now line)) × (second .start ≤ second .end) × (second .end ≤ length (now line)) ⌝ }
     requires { ⌜ (third .start ≤ third .end) × (third .end ≤ length (now line)) ⌝ }
@@ -293,6 +348,7 @@ fn with_three(line: &[u8], verb: Verb, first: Word, second: Word, third: Word) -
             Order::Bad
         }
         Verb::Wrap => with_three_hex(line, first, second, third),
+        Verb::Vet => with_vet(line, first, second, third),
         _ => Order::Bad,
     }
 }

@@ -6,7 +6,7 @@ use lib.ListN.{replicate}
 use Rattle.meaning.specs.Octets.{same, all}
 use Rattle.bench_words.specs.Words.{ascii, uncommented, lengthen, pieces, filled, words, valueFrom, value, isNumber, digit, isHexTo, isHex, octetsOf}
 use Rattle.meaning.specs.Save.{old, new, formOf}
-use Rattle.bench_verbs.specs.Line.{isSaveHex, Said, layerVerb, saveVerb, requestedVerb, verbOf, withNumber, withHex, withSave, withNumberHex, withHexNumber, withNumbersHex, withTwoHex, withThreeHex, does, saidBy, orderOf}
+use Rattle.bench_verbs.specs.Line.{isSaveHex, Said, planVerb, layerVerb, saveVerb, requestedVerb, verbOf, withNumber, withHex, withSave, withNumberHex, withHexNumber, withNumbersHex, withTwoHex, withThreeHex, withNumberTwoHex, does, saidBy, orderOf}
 
 unfoldable pub says : String → Said
 says s = orderOf (ascii s)
@@ -94,8 +94,25 @@ pub examples-shown : (says "" ≡ Said.nothing)
     × (says "unwrap" ≡ Said.bad)
     × (says "Unwrap 06" ≡ Said.bad)
     × (says "unwrap 1 06" ≡ Said.bad)
-unfolding says ascii all uncommented lengthen pieces filled words valueFrom value isNumber digit isHexTo isHex isSaveHex octetsOf layerVerb saveVerb requestedVerb verbOf withNumber withHex withSave withNumberHex withHexNumber withNumbersHex withTwoHex withThreeHex does saidBy orderOf same formOf
-examples-shown = (refl, refl, refl, refl, refl, refl, refl, refl, refl, refl, refl, refl, refl, refl, refl, refl, refl, refl, refl, refl, refl, refl, refl, refl, refl, refl, refl, refl, refl, refl, refl, refl, refl, refl, refl, refl, refl, refl, refl, refl, refl, refl, refl, refl, refl, refl, refl, refl, refl, refl, refl, refl, refl, refl, refl, refl, refl, refl, refl, refl, refl, refl, refl, refl, refl, refl, refl, refl, refl, refl, refl, refl, refl, refl, refl, refl, refl, refl, refl, refl, refl, refl, refl)
+    × (says "plan 0 -" ≡ Said.plan 0 [])
+    × (says "plan 16 000204 # the evening before" ≡ Said.plan 16 (0 ∷ 2 ∷ 4 ∷ []))
+    × (says "plan" ≡ Said.bad)
+    × (says "plan 0" ≡ Said.bad)
+    × (says "plan 0 00020" ≡ Said.bad)
+    × (says "plan - 0" ≡ Said.bad)
+    × (says "plan 0 - -" ≡ Said.bad)
+    × (says "Plan 0 -" ≡ Said.bad)
+    × (says "vet 0 - -" ≡ Said.vet 0 [] [])
+    × (says "vet 3 0002 01C0" ≡ Said.vet 3 (0 ∷ 2 ∷ []) (1 ∷ 192 ∷ []))
+    × (says "vet" ≡ Said.bad)
+    × (says "vet 3" ≡ Said.bad)
+    × (says "vet 3 0002" ≡ Said.bad)
+    × (says "vet 3 000 01" ≡ Said.bad)
+    × (says "vet 3 0002 0" ≡ Said.bad)
+    × (says "vet x 0002 01" ≡ Said.bad)
+    × (says "vet 3 0002 01 01" ≡ Said.bad)
+unfolding says ascii all uncommented lengthen pieces filled words valueFrom value isNumber digit isHexTo isHex isSaveHex octetsOf planVerb layerVerb saveVerb requestedVerb verbOf withNumber withHex withSave withNumberHex withHexNumber withNumbersHex withTwoHex withThreeHex withNumberTwoHex does saidBy orderOf same formOf
+examples-shown = (refl, refl, refl, refl, refl, refl, refl, refl, refl, refl, refl, refl, refl, refl, refl, refl, refl, refl, refl, refl, refl, refl, refl, refl, refl, refl, refl, refl, refl, refl, refl, refl, refl, refl, refl, refl, refl, refl, refl, refl, refl, refl, refl, refl, refl, refl, refl, refl, refl, refl, refl, refl, refl, refl, refl, refl, refl, refl, refl, refl, refl, refl, refl, refl, refl, refl, refl, refl, refl, refl, refl, refl, refl, refl, refl, refl, refl, refl, refl, refl, refl, refl, refl, refl, refl, refl, refl, refl, refl, refl, refl, refl, refl, refl, refl, refl, refl, refl, refl, refl)
 
 -- the longest HEX of a message, the longest of a save, and the longest line, and one more of each
 pub limits-shown : (orderOf (ascii "join " ++ replicate 8192 48) ≡ Said.join (replicate 4096 0))
@@ -106,5 +123,5 @@ pub limits-shown : (orderOf (ascii "join " ++ replicate 8192 48) ≡ Said.join (
     × (orderOf (ascii "older " ++ replicate 111336 48) ≡ Said.bad)
     × (orderOf (replicate 131072 32) ≡ Said.nothing)
     × (orderOf (replicate 131073 32) ≡ Said.bad)
-unfolding ascii all uncommented lengthen pieces filled words valueFrom value isNumber digit isHexTo isHex isSaveHex octetsOf layerVerb saveVerb requestedVerb verbOf withNumber withHex withSave withNumberHex withHexNumber withNumbersHex withTwoHex withThreeHex does saidBy orderOf same formOf
+unfolding ascii all uncommented lengthen pieces filled words valueFrom value isNumber digit isHexTo isHex isSaveHex octetsOf planVerb layerVerb saveVerb requestedVerb verbOf withNumber withHex withSave withNumberHex withHexNumber withNumbersHex withTwoHex withThreeHex withNumberTwoHex does saidBy orderOf same formOf
 limits-shown = (refl, refl, refl, refl, refl, refl, refl, refl)

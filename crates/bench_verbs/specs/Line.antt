@@ -13,20 +13,24 @@ use Rattle.bench_verbs.specs.declared.Verb.{Verb}
 pub data Said : Type 0 where
   nothing bad free : Said
   start room label lost : ℕ → Said
-  take : ℕ → List ℕ → Said
+  take plan : ℕ → List ℕ → Said
   join leave tree layers unwrap : List ℕ → Said
   route : List ℕ → ℕ → Said
   notice : ℕ → ℕ → List ℕ → Said
   wrap : List ℕ → List ℕ → List ℕ → Said
+  vet : ℕ → List ℕ → List ℕ → Said
   save : Form → Said
   restore moves : Form → List ℕ → Said
+
+unfoldable pub planVerb : List ℕ → Verb
+planVerb w = pick (same w (ascii "plan")) Verb.Plan (pick (same w (ascii "vet")) Verb.Vet Verb.Other)
 
 unfoldable pub layerVerb : List ℕ → Verb
 layerVerb w =
     pick (same w (ascii "layers")) Verb.Layers
     (pick (same w (ascii "wrap")) Verb.Wrap
     (pick (same w (ascii "unwrap")) Verb.Unwrap
-    Verb.Other))
+    (planVerb w)))
 
 unfoldable pub saveVerb : List ℕ → Verb
 saveVerb w =
@@ -96,6 +100,10 @@ unfoldable pub withThreeHex : (List ℕ → List ℕ → List ℕ → Said) → 
 withThreeHex f [] = bad
 withThreeHex f (h ∷ ws) = pick (isHex h) (withTwoHex (f (octetsOf h)) ws) bad
 
+unfoldable pub withNumberTwoHex : (ℕ → List ℕ → List ℕ → Said) → List (List ℕ) → Said
+withNumberTwoHex f [] = bad
+withNumberTwoHex f (n ∷ ws) = pick (isNumber n) (withTwoHex (f (value n)) ws) bad
+
 unfoldable pub does : Verb → List (List ℕ) → Said
 does Verb.Start ws = withNumber start ws
 does Verb.Room ws = withNumber room ws
@@ -116,6 +124,8 @@ does (Verb.Move second) ws = withSave moves (formOf second) ws
 does Verb.Layers ws = withHex layers ws
 does Verb.Wrap ws = withThreeHex wrap ws
 does Verb.Unwrap ws = withHex unwrap ws
+does Verb.Plan ws = withNumberHex plan ws
+does Verb.Vet ws = withNumberTwoHex vet ws
 does Verb.Other ws = bad
 
 unfoldable pub saidBy : List (List ℕ) → Said

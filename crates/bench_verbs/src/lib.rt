@@ -1,6 +1,6 @@
 // The verb of a line of the bench program.
 ghost use mathlib.Core.Path.{_≡_};
-ghost use Rattle.bench_verbs.specs.Line.{layerVerb, saveVerb, requestedVerb, verbOf};
+ghost use Rattle.bench_verbs.specs.Line.{planVerb, layerVerb, saveVerb, requestedVerb, verbOf};
 
 // The word that begins an order. Where an order is of a save, the mark says that it is one of the new form.
 pub enum Verb {
@@ -21,7 +21,22 @@ pub enum Verb {
     Layers,
     Wrap,
     Unwrap,
+    Plan,
+    Vet,
     Other,
+}
+
+// The verbs of plans.
+fn plan_verb(word: &[u8]) -> Verb
+    ensures { λ r. ⌜ r ≡ planVerb (now (word .entry)) ⌝ }
+{
+    if octets::equal(word, b"plan") {
+        return Verb::Plan;
+    }
+    if octets::equal(word, b"vet") {
+        return Verb::Vet;
+    }
+    Verb::Other
 }
 
 // The verbs of names inside names.
@@ -37,7 +52,7 @@ fn layer_verb(word: &[u8]) -> Verb
     if octets::equal(word, b"unwrap") {
         return Verb::Unwrap;
     }
-    Verb::Other
+    plan_verb(word)
 }
 
 // The verbs of the orders on saves.

@@ -92,8 +92,18 @@ returns-5 : tie.Need-returns-5
 unfolding does
 returns-5 c = rw (c .before .enum-told4 .given .1) (c .with-three-hex .ensures)
 
+enum-told-5 : tie.Need-enum-told-5
+enum-told-5 c = search needs
+
+with-vet-requires : tie.Need-with-vet-requires
+with-vet-requires c κs = search needs
+
 returns-6 : tie.Need-returns-6
-returns-6 c = three-bad _ (c .before .before .args .verb) _ _ _ _ (c .match .keys3)
+unfolding does
+returns-6 c = rw (c .before .enum-told5 .given .1) (c .with-vet .ensures)
+
+returns-7 : tie.Need-returns-7
+returns-7 c = three-bad _ (c .before .before .args .verb) _ _ _ _ (c .match .keys4)
 
 pub with-three-spec : {M : Type 1} → statement M
 with-three-spec =
@@ -115,6 +125,9 @@ with-three-spec =
     returns-3
     enum-told-4
     with-three-hex-requires
+    enum-told-5
+    with-vet-requires
     returns-4
     returns-5
-    returns-6)
+    returns-6
+    returns-7)
