@@ -83,6 +83,28 @@ fn obey(
         Order::Layers { .. } | Order::Wrap { .. } | Order::Unwrap { .. } => {
             bench_wraps::on_layered(line, order, room, text)
         }
+        Order::Plan {
+            neighbour,
+            start,
+            end,
+        } => bench_plans::on_plan(numbers, names, neighbour, &line[start..end], text),
+        Order::Vet {
+            neighbour,
+            sets,
+            start,
+            end,
+        } => {
+            let from = sets.start;
+            let to = sets.end;
+            bench_plans::on_vet(
+                numbers,
+                names,
+                neighbour,
+                &line[from..to],
+                &line[start..end],
+                text,
+            )
+        }
         _ => bench_replies::on_event(numbers, names, line, order, room, text),
     }
 }

@@ -100,26 +100,28 @@ says-fed word text c room r h k e = says-only _ text c room r k (e ∙ ap (feedL
 pub lies : (l : List ℕ) (r o : Order) → InLine l r → r ≡ o → InLine l o
 lies l r o h e = rw e at h
 
-pub not-written : (o : Order) → OneOf (0 ∷ 1 ∷ 2 ∷ 3 ∷ 8 ∷ 9 ∷ 10 ∷ 12 ∷ 13 ∷ 15 ∷ 16 ∷ 17 ∷ 18 ∷ []) (tagOf the-type o) → WritesRecords o → ⊥
+pub not-written : (o : Order) → OneOf (0 ∷ 1 ∷ 2 ∷ 3 ∷ 8 ∷ 9 ∷ 10 ∷ 12 ∷ 13 ∷ 15 ∷ 16 ∷ 17 ∷ 18 ∷ 19 ∷ 20 ∷ []) (tagOf the-type o) → WritesRecords o → ⊥
 not-written Order.Blank h w = w
 not-written Order.Bad h w = w
 not-written (Order.Start n) h w = w
 not-written (Order.Room n) h w = w
-not-written (Order.Take n s e) h w = miss (0 ∷ 1 ∷ 2 ∷ 3 ∷ 8 ∷ 9 ∷ 10 ∷ 12 ∷ 13 ∷ 15 ∷ 16 ∷ 17 ∷ 18 ∷ []) 4 tt h
-not-written (Order.Join s e) h w = miss (0 ∷ 1 ∷ 2 ∷ 3 ∷ 8 ∷ 9 ∷ 10 ∷ 12 ∷ 13 ∷ 15 ∷ 16 ∷ 17 ∷ 18 ∷ []) 5 tt h
-not-written (Order.Leave s e) h w = miss (0 ∷ 1 ∷ 2 ∷ 3 ∷ 8 ∷ 9 ∷ 10 ∷ 12 ∷ 13 ∷ 15 ∷ 16 ∷ 17 ∷ 18 ∷ []) 6 tt h
-not-written (Order.Route s e n) h w = miss (0 ∷ 1 ∷ 2 ∷ 3 ∷ 8 ∷ 9 ∷ 10 ∷ 12 ∷ 13 ∷ 15 ∷ 16 ∷ 17 ∷ 18 ∷ []) 7 tt h
+not-written (Order.Take n s e) h w = miss (0 ∷ 1 ∷ 2 ∷ 3 ∷ 8 ∷ 9 ∷ 10 ∷ 12 ∷ 13 ∷ 15 ∷ 16 ∷ 17 ∷ 18 ∷ 19 ∷ 20 ∷ []) 4 tt h
+not-written (Order.Join s e) h w = miss (0 ∷ 1 ∷ 2 ∷ 3 ∷ 8 ∷ 9 ∷ 10 ∷ 12 ∷ 13 ∷ 15 ∷ 16 ∷ 17 ∷ 18 ∷ 19 ∷ 20 ∷ []) 5 tt h
+not-written (Order.Leave s e) h w = miss (0 ∷ 1 ∷ 2 ∷ 3 ∷ 8 ∷ 9 ∷ 10 ∷ 12 ∷ 13 ∷ 15 ∷ 16 ∷ 17 ∷ 18 ∷ 19 ∷ 20 ∷ []) 6 tt h
+not-written (Order.Route s e n) h w = miss (0 ∷ 1 ∷ 2 ∷ 3 ∷ 8 ∷ 9 ∷ 10 ∷ 12 ∷ 13 ∷ 15 ∷ 16 ∷ 17 ∷ 18 ∷ 19 ∷ 20 ∷ []) 7 tt h
 not-written (Order.Label n) h w = w
 not-written (Order.Tree s e) h w = w
 not-written Order.Free h w = w
-not-written (Order.Notice n k s e) h w = miss (0 ∷ 1 ∷ 2 ∷ 3 ∷ 8 ∷ 9 ∷ 10 ∷ 12 ∷ 13 ∷ 15 ∷ 16 ∷ 17 ∷ 18 ∷ []) 11 tt h
+not-written (Order.Notice n k s e) h w = miss (0 ∷ 1 ∷ 2 ∷ 3 ∷ 8 ∷ 9 ∷ 10 ∷ 12 ∷ 13 ∷ 15 ∷ 16 ∷ 17 ∷ 18 ∷ 19 ∷ 20 ∷ []) 11 tt h
 not-written (Order.Save b) h w = w
 not-written (Order.Restore b s e) h w = w
-not-written (Order.Lost n) h w = miss (0 ∷ 1 ∷ 2 ∷ 3 ∷ 8 ∷ 9 ∷ 10 ∷ 12 ∷ 13 ∷ 15 ∷ 16 ∷ 17 ∷ 18 ∷ []) 14 tt h
+not-written (Order.Lost n) h w = miss (0 ∷ 1 ∷ 2 ∷ 3 ∷ 8 ∷ 9 ∷ 10 ∷ 12 ∷ 13 ∷ 15 ∷ 16 ∷ 17 ∷ 18 ∷ 19 ∷ 20 ∷ []) 14 tt h
 not-written (Order.Move b s e) h w = w
 not-written (Order.Layers s e) h w = w
 not-written (Order.Wrap r d s e) h w = w
 not-written (Order.Unwrap s e) h w = w
+not-written (Order.Plan n s e) h w = w
+not-written (Order.Vet n p s e) h w = w
 
 pub written : (o : Order) → OneOf (4 ∷ 5 ∷ 6 ∷ 7 ∷ 11 ∷ 14 ∷ []) (tagOf the-type o) → WritesRecords o
 written Order.Blank h = miss (4 ∷ 5 ∷ 6 ∷ 7 ∷ 11 ∷ 14 ∷ []) 0 tt h
@@ -141,13 +143,15 @@ written (Order.Move b s f) h = miss (4 ∷ 5 ∷ 6 ∷ 7 ∷ 11 ∷ 14 ∷ []) 1
 written (Order.Layers s f) h = miss (4 ∷ 5 ∷ 6 ∷ 7 ∷ 11 ∷ 14 ∷ []) 16 tt h
 written (Order.Wrap r d s f) h = miss (4 ∷ 5 ∷ 6 ∷ 7 ∷ 11 ∷ 14 ∷ []) 17 tt h
 written (Order.Unwrap s f) h = miss (4 ∷ 5 ∷ 6 ∷ 7 ∷ 11 ∷ 14 ∷ []) 18 tt h
+written (Order.Plan n s f) h = miss (4 ∷ 5 ∷ 6 ∷ 7 ∷ 11 ∷ 14 ∷ []) 19 tt h
+written (Order.Vet n p s f) h = miss (4 ∷ 5 ∷ 6 ∷ 7 ∷ 11 ∷ 14 ∷ []) 20 tt h
 
-pub room-stays : (number room : ℕ) (c : Card) (l : List ℕ) (o : Order) → OneOf (0 ∷ 1 ∷ 2 ∷ 4 ∷ 5 ∷ 6 ∷ 7 ∷ 8 ∷ 9 ∷ 10 ∷ 11 ∷ 12 ∷ 13 ∷ 14 ∷ 15 ∷ 16 ∷ 17 ∷ 18 ∷ []) (tagOf the-type o) → room ≡ replyTo number room c (meant l o) .room
+pub room-stays : (number room : ℕ) (c : Card) (l : List ℕ) (o : Order) → OneOf (0 ∷ 1 ∷ 2 ∷ 4 ∷ 5 ∷ 6 ∷ 7 ∷ 8 ∷ 9 ∷ 10 ∷ 11 ∷ 12 ∷ 13 ∷ 14 ∷ 15 ∷ 16 ∷ 17 ∷ 18 ∷ 19 ∷ 20 ∷ []) (tagOf the-type o) → room ≡ replyTo number room c (meant l o) .room
 unfolding meant replyTo only counted told shifted
 room-stays number room c l Order.Blank h = refl
 room-stays number room c l Order.Bad h = refl
 room-stays number room c l (Order.Start n) h = refl
-room-stays number room c l (Order.Room n) h = absurd (miss (0 ∷ 1 ∷ 2 ∷ 4 ∷ 5 ∷ 6 ∷ 7 ∷ 8 ∷ 9 ∷ 10 ∷ 11 ∷ 12 ∷ 13 ∷ 14 ∷ 15 ∷ 16 ∷ 17 ∷ 18 ∷ []) 3 tt h)
+room-stays number room c l (Order.Room n) h = absurd (miss (0 ∷ 1 ∷ 2 ∷ 4 ∷ 5 ∷ 6 ∷ 7 ∷ 8 ∷ 9 ∷ 10 ∷ 11 ∷ 12 ∷ 13 ∷ 14 ∷ 15 ∷ 16 ∷ 17 ∷ 18 ∷ 19 ∷ 20 ∷ []) 3 tt h)
 room-stays number room c l (Order.Take n s e) h = refl
 room-stays number room c l (Order.Join s e) h = refl
 room-stays number room c l (Order.Leave s e) h = refl
@@ -163,6 +167,8 @@ room-stays number room c l (Order.Move b s e) h = refl
 room-stays number room c l (Order.Layers s e) h = refl
 room-stays number room c l (Order.Wrap r d s e) h = refl
 room-stays number room c l (Order.Unwrap s e) h = refl
+room-stays number room c l (Order.Plan n s e) h = refl
+room-stays number room c l (Order.Vet n p s e) h = refl
 
 pub short : (l : List ℕ) (s e : ℕ) → Lies l s e → length (take (e - s) (drop s l)) ≤ 8192
 short l s e h = let n = length-take-le (e - s) (drop s l) (simp length-drop (omega arith)) in omega arith

@@ -10,11 +10,13 @@ use Rattle.meaning.specs.Events.{Out, start, event, receive, join, leave, route
 use Rattle.meaning.specs.Notice.{notice}
 use Rattle.meaning.specs.Save.{Form, old, new, save, restore, Moved, move, saveLimit}
 use Rattle.meaning_layers.specs.Layers.{read, wrap, unwrap}
+use Rattle.meaning_plan.specs.PlanOctets.{checkedOctets, plannedOctets}
 use Rattle.bench_words.specs.Words.{ascii}
 use Rattle.bench_verbs.specs.Line.{Said}
 use Rattle.bench_lines.specs.Text.{countLine, eventLine, feedLine, textSpace}
 use Rattle.bench_layers.specs.LayerText.{layersLine, wrapLine, unwrapLine}
 use Rattle.bench_orders.specs.declared.Order.{Order}
+use Rattle.bench_replies.specs.PlanText.{planLine, verdictLine}
 
 -- room: how many octets of output later events and saves are lent
 pub record Reply : Type 0 where
@@ -89,6 +91,8 @@ replyTo number room c (Said.moves f octets) = shifted (moveWord f) (move f (othe
 replyTo number room c (Said.layers name) = only (layersLine (read name)) c room
 replyTo number room c (Said.wrap root eight name) = only (wrapLine (wrap (nameRoom room) root eight name)) c room
 replyTo number room c (Said.unwrap name) = only (unwrapLine (unwrap (nameRoom room) name)) c room
+replyTo number room c (Said.plan n sets) = only (planLine (plannedOctets c n sets)) c room
+replyTo number room c (Said.vet n sets list) = only (verdictLine (checkedOctets c n sets list)) c room
 
 -- ---- what the functions state
 
@@ -124,3 +128,5 @@ WritesRecords (Order.Move b s e) = ⊥
 WritesRecords (Order.Layers s e) = ⊥
 WritesRecords (Order.Wrap r d s e) = ⊥
 WritesRecords (Order.Unwrap s e) = ⊥
+WritesRecords (Order.Plan n s e) = ⊥
+WritesRecords (Order.Vet n p s e) = ⊥

@@ -11,7 +11,7 @@ abbrev these : List ℕ
 these = 16 ∷ 17 ∷ 18 ∷ []
 
 abbrev others : List ℕ
-others = 0 ∷ 1 ∷ 2 ∷ 3 ∷ 4 ∷ 5 ∷ 6 ∷ 7 ∷ 8 ∷ 9 ∷ 10 ∷ 11 ∷ 12 ∷ 13 ∷ 14 ∷ 15 ∷ []
+others = 0 ∷ 1 ∷ 2 ∷ 3 ∷ 4 ∷ 5 ∷ 6 ∷ 7 ∷ 8 ∷ 9 ∷ 10 ∷ 11 ∷ 12 ∷ 13 ∷ 14 ∷ 15 ∷ 19 ∷ 20 ∷ []
 
 pub layered : (o : Order) → OneOf these (tagOf the-type o) → OnLayers o
 layered Order.Blank h = miss these _ tt h
@@ -33,6 +33,8 @@ layered (Order.Move b s e) h = miss these _ tt h
 layered (Order.Layers s e) h = tt
 layered (Order.Wrap r d s e) h = tt
 layered (Order.Unwrap s e) h = tt
+layered (Order.Plan n s e) h = miss these _ tt h
+layered (Order.Vet n p s e) h = miss these _ tt h
 
 pub not-layered : (o : Order) → OneOf others (tagOf the-type o) → OnLayers o → ⊥
 not-layered Order.Blank h w = w
@@ -54,3 +56,5 @@ not-layered (Order.Move b s e) h w = w
 not-layered (Order.Layers s e) h w = miss others _ tt h
 not-layered (Order.Wrap r d s e) h w = miss others _ tt h
 not-layered (Order.Unwrap s e) h w = miss others _ tt h
+not-layered (Order.Plan n s e) h w = w
+not-layered (Order.Vet n p s e) h w = w

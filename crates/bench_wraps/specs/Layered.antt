@@ -21,3 +21,5 @@ OnLayers (Order.Move b s e) = ⊥
 OnLayers (Order.Layers s e) = Unit
 OnLayers (Order.Wrap r d s e) = Unit
 OnLayers (Order.Unwrap s e) = Unit
+OnLayers (Order.Plan n s e) = ⊥
+OnLayers (Order.Vet n p s e) = ⊥

@@ -131,8 +131,52 @@ on-layered-requires c κs =
     let start = c .before .before .before .before in
     (start .pre .0, layered (start .args .order) (c .before .match .keys11), start .pre .1)
 
+enum-known-order-8 : tie.Need-enum-known-order-8
+enum-known-order-8 c = search needs
+
+sub-on-plan : tie.Need-sub-on-plan
+sub-on-plan c = lies _ _ _ (c .before .before .before .before .before .before .before .pre .0) (c .before .before .before .order8 .given .1) .0
+
+part-on-plan-start : tie.Need-part-on-plan-start
+part-on-plan-start c = lies _ _ _ (c .before .before .before .before .before .before .before .pre .0) (c .before .before .before .order8 .given .1) .0
+
+part-on-plan-end : tie.Need-part-on-plan-end
+part-on-plan-end c = lies _ _ _ (c .before .before .before .before .before .before .before .pre .0) (c .before .before .before .order8 .given .1) .1
+
+on-plan-requires : tie.Need-on-plan-requires
+on-plan-requires c κs =
+    let start = c .before .before .before .before .before .before .before .before .before in
+    (short _ _ _ (lies _ _ _ (start .pre .0) (c .before .before .before .before .before .order8 .given .1)), start .pre .1)
+
+enum-known-order-9 : tie.Need-enum-known-order-9
+enum-known-order-9 c = search needs
+
+sub-on-vet : tie.Need-sub-on-vet
+sub-on-vet c = lies _ _ _ (c .before .before .before .before .before .before .before .pre .0) (c .before .before .before .order9 .given .1) .0 .0
+
+part-on-vet-start : tie.Need-part-on-vet-start
+part-on-vet-start c = lies _ _ _ (c .before .before .before .before .before .before .before .pre .0) (c .before .before .before .order9 .given .1) .0 .0
+
+part-on-vet-end : tie.Need-part-on-vet-end
+part-on-vet-end c = lies _ _ _ (c .before .before .before .before .before .before .before .pre .0) (c .before .before .before .order9 .given .1) .0 .1
+
+sub-on-vet-2 : tie.Need-sub-on-vet-2
+sub-on-vet-2 c = lies _ _ _ (c .before .before .before .before .before .before .before .before .pre .0) (c .before .before .before .before .order9 .given .1) .1 .0
+
+part-on-vet-start-2 : tie.Need-part-on-vet-start-2
+part-on-vet-start-2 c = lies _ _ _ (c .before .before .before .before .before .before .before .before .pre .0) (c .before .before .before .before .order9 .given .1) .1 .0
+
+part-on-vet-end-2 : tie.Need-part-on-vet-end-2
+part-on-vet-end-2 c = lies _ _ _ (c .before .before .before .before .before .before .before .before .pre .0) (c .before .before .before .before .order9 .given .1) .1 .1
+
+on-vet-requires : tie.Need-on-vet-requires
+on-vet-requires c κs =
+    let start = c .before .before .before .before .before .before .before .before .before .before in
+    let words = lies _ _ _ (start .pre .0) (c .before .before .before .before .before .before .order9 .given .1) in
+    (short _ _ _ (words .0), short _ _ _ (words .1), start .pre .1)
+
 on-event-requires : tie.Need-on-event-requires
-on-event-requires c κs = (c .before .before .before .before .before .before .pre .0, written (c .before .before .before .before .before .before .args .order) (c .before .before .before .match .keys12), c .before .before .before .before .before .before .pre .1)
+on-event-requires c κs = (c .before .before .before .before .before .before .pre .0, written (c .before .before .before .before .before .before .args .order) (c .before .before .before .match .keys14), c .before .before .before .before .before .before .pre .1)
 
 returns : tie.Need-returns
 unfolding meant replyTo only counted ascii
@@ -216,7 +260,21 @@ same-length-11 : tie.Need-same-length-11
 same-length-11 c = search needs
 
 returns-12 : tie.Need-returns-12
-returns-12 c = c .before .before .on-event .ensures _
+unfolding meant
+returns-12 c = rw (c .before .before .before .before .before .before .before .before .order8 .given .1) (c .before .before .on-plan .ensures _ _)
+
+same-length-12 : tie.Need-same-length-12
+same-length-12 c = search needs
+
+returns-13 : tie.Need-returns-13
+unfolding meant
+returns-13 c = rw (c .before .before .before .before .before .before .before .before .before .order9 .given .1) (c .before .before .on-vet .ensures _ _)
+
+same-length-13 : tie.Need-same-length-13
+same-length-13 c = search needs
+
+returns-14 : tie.Need-returns-14
+returns-14 c = c .before .before .on-event .ensures _
 
 pub obey-spec : {M : Type 1} → statement M
 obey-spec =
@@ -260,6 +318,19 @@ obey-spec =
     part-on-move-end
     on-move-requires
     on-layered-requires
+    enum-known-order-8
+    sub-on-plan
+    part-on-plan-start
+    part-on-plan-end
+    on-plan-requires
+    enum-known-order-9
+    sub-on-vet
+    part-on-vet-start
+    part-on-vet-end
+    sub-on-vet-2
+    part-on-vet-start-2
+    part-on-vet-end-2
+    on-vet-requires
     on-event-requires
     returns
     same-length
@@ -283,4 +354,8 @@ obey-spec =
     same-length-10
     returns-11
     same-length-11
-    returns-12)
+    returns-12
+    same-length-12
+    returns-13
+    same-length-13
+    returns-14)
