@@ -31,6 +31,11 @@ THIS_NODE = 16
 NO_ROUTE = 17
 ROUTE_WORDS = {"here": THIS_NODE, "none": NO_ROUTE}
 UNREADABLE = (ValueError, struct.error)
+NEIGHBOURS = 16
+ROOT_SPACE = 16
+SET_SIZE = 2 + 1 + ROOT_SPACE  # the neighbours that a root may have, a bit each, and the root
+ENTRY_SIZE = 1 + 1 + ROOT_SPACE  # a neighbour and the root
+LIST_WORD = "list"  # in words, between the sets and the list
 NAMED_ORDERS = ("join", "leave", "tree", "layers", "unwrap")
 RECORD_ANSWERS = ("take", "join", "leave", "route", "notice", "lost")
 SAVE_ANSWERS = ("save", "save2", "newer", "older")
@@ -159,6 +164,20 @@ def read_message(octets):
     return message if octets[MESSAGE_HEAD:].startswith(message_octets(message)[MESSAGE_HEAD:]) else None
 
 
+def spaced(root):
+    """A root behind its length, in its space."""
+    return bytes([len(root)]) + root.ljust(ROOT_SPACE, b"\0")
+
+
+def cut_spaced(octets, size):
+    """What stands before the root, and the root, of each piece of this size."""
+    if len(octets) % size:
+        raise ValueError("a piece is cut short")
+    for at in range(0, len(octets), size):
+        head, field = octets[at : at + size - 1 - ROOT_SPACE], octets[at + size - 1 - ROOT_SPACE : at + size]
+        yield head, field[1 : 1 + field[0]]
+
+
 # Names in words
 
 
@@ -214,6 +233,48 @@ def read_name(root, opaque):
     return Name(read_address(root), read_opaque(opaque))
 
 
+# Plans in words
+
+
+def read_choices(word):
+    """Root and neighbours of 'ROOT=NEIGHBOUR,NEIGHBOUR'."""
+    root, _, choices = word.partition("=")
+    return read_address(root), [] if choices == "none" else [read_number(choice) for choice in choices.split(",")]
+
+
+def choices_word(root, choices):
+    return f"{address_in_words(root)}={','.join(map(str, choices)) or 'none'}"
+
+
+def set_octets(word):
+    root, choices = read_choices(word)
+    if any(choice >= NEIGHBOURS for choice in choices):
+        raise ValueError(f"no set: {word}")
+    return sum(1 << choice for choice in set(choices)).to_bytes(2, "big") + spaced(root)
+
+
+def entry_octets(word):
+    root, (neighbour,) = read_choices(word)
+    return bytes([neighbour]) + spaced(root)
+
+
+def pieces_octets(words, piece):
+    """The octets of sets or entries in words, in hex; one word may be hex already."""
+    if len(words) == 1 and "=" not in words[0]:
+        return words[0]
+    return hex_word(b"".join(map(piece, words)))
+
+
+def sets_words(octets):
+    pieces = cut_spaced(octets, SET_SIZE)
+    bits = ((root, int.from_bytes(head, "big")) for head, root in pieces)
+    return [choices_word(root, [n for n in range(NEIGHBOURS) if chosen >> n & 1]) for root, chosen in bits] or ["-"]
+
+
+def list_words(octets):
+    return [choices_word(root, head) for head, root in cut_spaced(octets, ENTRY_SIZE)] or ["-"]
+
+
 # Orders in words
 
 
@@ -245,6 +306,11 @@ def words_to_octets(words):
         return [verb, root_word(rest[0]), rest[1], *name]
     if verb == "route" and len(rest) == 2:
         return [verb, root_word(rest[0]), str(ROUTE_WORDS.get(rest[1], rest[1]))]
+    if verb == "plan" and len(rest) >= 2:
+        return [verb, rest[0], pieces_octets(rest[1:], set_octets)]
+    if verb == "vet" and LIST_WORD in rest[2:-1]:
+        at = rest.index(LIST_WORD)
+        return [verb, rest[0], pieces_octets(rest[1:at], set_octets), pieces_octets(rest[at + 1 :], entry_octets)]
     raise ValueError("no order in words")
 
 
@@ -254,6 +320,10 @@ def octets_to_words(words):
     if verb == "route" and len(rest) == 2:
         places = {str(number): word for word, number in ROUTE_WORDS.items()}
         return [verb, address_in_words(read_hex(rest[0])), places.get(rest[1], rest[1])]
+    if verb == "plan" and len(rest) == 2:
+        return [verb, rest[0], *sets_words(read_hex(rest[1]))]
+    if verb == "vet" and len(rest) == 3:
+        return [verb, rest[0], *sets_words(read_hex(rest[1])), LIST_WORD, *list_words(read_hex(rest[2]))]
     octets = read_hex(rest[-1]) if rest else b""
     message, name = read_message(octets), read_element(octets)
     if verb == "take" and len(rest) == 2 and message:

@@ -167,6 +167,13 @@ class Page(unittest.TestCase):
             text = show.page("day", day, replay.replay(made.BENCH, day))
             self.assertNotIn("<u>", text)
 
+    def test_a_plan_is_told(self):
+        day = ["plan 3 192.0.2.1=0,5", "vet 3 - list 192.0.2.1=0", *example("crew.txt")]
+        text = show.page("crew", day, replay.replay(made.BENCH, day))
+        for said in ("A plan for the line to neighbour 3, permitted 192.0.2.1=0,5<", "nothing to move", "lists 3 roots",
+                     "192.0.2.1 over neighbour 0", "May 192.0.2.1=0 empty the line to neighbour 3? Permitted -<", "rejected"):
+            self.assertIn(said, text)
+
     def test_every_text_has_contrast(self):
         for rule in show.colour_rules().splitlines():
             colour, text = re.findall("#([0-9a-f]{6})", rule)

@@ -14,6 +14,7 @@ LINES = 400
 TREE = "192.0.2.1 01:00000007"
 ELEMENT = "06000104c0000201000701000400000007"
 MAPPING = "04000021000000010100001106000104c00002010007010004000000070200000400000064"
+SPACE = "00" * 12  # behind a root of 4 octets
 # in words, in octets
 ORDERS = (
     (f"mapping 1 {TREE} 100", f"take 1 {MAPPING}"),
@@ -31,6 +32,10 @@ ORDERS = (
     ("route 192.0.2.1 none", "route c0000201 17"),
     (f"notice 1 10 mapping {TREE} 100", f"notice 1 10 {MAPPING}"),
     (f"wrap 192.0.2.9 - {TREE}", f"wrap c0000209 - {ELEMENT}"),
+    ("plan 3 192.0.2.1=0,15 2001:db8::1=none", f"plan 3 800104c0000201{SPACE}00001020010db8000000000000000000000001"),
+    ("plan 3 -", "plan 3 -"),
+    ("vet 3 192.0.2.1=0 list 192.0.2.1=255", f"vet 3 000104c0000201{SPACE} ff04c0000201{SPACE}"),
+    ("vet 16 - list -", "vet 16 - -"),
     ("lost 3", "lost 3"),
     ("free", "free"),
     ("", ""),
@@ -41,6 +46,8 @@ ALSO = (
     ("  mapping\t1  192.0.2.1 01:00000007 100 01", f"  take 1 {MAPPING}"),
     ("join 2001:DB8:0::1 0A:0B", "join 0600021020010db800000000000000000000000100040a00010b"),
     ("route c0000201 here", "route c0000201 16"),
+    ("plan 3 192.0.2.1=9,8,9", f"plan 3 030004c0000201{SPACE}"),
+    ("vet 3 - list 192.0.2.1=07", f"vet 3 - 0704c0000201{SPACE}"),
 )
 NO_WORDS = (
     "mapping 1 192.0.2.1 01:00000007",
@@ -55,6 +62,19 @@ NO_WORDS = (
     "join c0000201 01:00",
     "route 192.0.2.1",
     "route here 192.0.2.1",
+    "plan 3",
+    "plan 3 192.0.2.1=16",
+    "plan 3 192.0.2.1=",
+    "plan 3 192.0.2.1=1 -",
+    f"plan 3 000105c0000201{SPACE}",
+    f"plan 3 000104c0000201{SPACE[2:]}",
+    f"plan 3 000104c0000201{SPACE[2:]}01",
+    "vet 3 192.0.2.1=1 192.0.2.1=1",
+    "vet 3 list 192.0.2.1=1",
+    "vet 3 192.0.2.1=1 list",
+    "vet 3 192.0.2.1=1 list 192.0.2.1=256",
+    "vet 3 192.0.2.1=1 list 192.0.2.1=1,2",
+    "vet 3 - list 192.0.2.1=none",
     "take 1 " + MAPPING.upper(),
     "route\tc0000201  3 # odd spaces",
     "\u00b2 \u00b9\x85\x00",
@@ -80,7 +100,11 @@ ANSWERS = (
     (f"unwrap 0 {ELEMENT} c0000209 -", f"unwrap: {TREE} within 192.0.2.9 -"),
     ("unwrap 22", "unwrap: refused 22: a last layer, with nothing inside to unwrap"),
     ("plan 0 c0000201:3", "plan: 192.0.2.1 over neighbour 3"),
+    ("plan 0 c0000201:3 c0000202:0", "plan: 192.0.2.1 over neighbour 3\n      192.0.2.2 over neighbour 0"),
+    ("plan 0", "plan: nothing to move"),
     ("plan none", "plan: none"),
+    ("plan 1", "plan: refused 1: a neighbour above 15, or a route that is none"),
+    ("vet 0", "vet: accepted"),
     ("vet rejected", "vet: rejected"),
 )
 
