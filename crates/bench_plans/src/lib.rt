@@ -9,7 +9,6 @@ ghost use Rattle.bench_verbs.specs.Line.{Said};
 ghost use Rattle.bench_lines.specs.Text.{Adds, textSpace};
 ghost use Rattle.bench_replies.specs.Reply.{replyTo, Says};
 ghost use Rattle.bench_replies.specs.PlanText.{saidLine, moveText, moveSpace, movesText, movesSpace, movesLine, planLine, verdictLine};
-use meaning::ROOT_LIMIT;
 use meaning_plan::ENTRY_SIZE;
 use meaning_plan::LIST_LIMIT;
 use memory::NUMBER_COUNT;
@@ -25,7 +24,7 @@ fn add_move(text: &mut [u8], at: usize, list: &[u8], place: usize) -> usize
     ensures { λ r. ⌜ Adds (moveText (entryIn (drop place (now (list .entry))))) (now (text .entry)) (now (text .exit)) at r ⌝ }
     ensures { λ r. ⌜ r ≤ at + moveSpace ⌝ }
 {
-    let root = save_fields::spaced(list, place + 1, ROOT_LIMIT);
+    let root = plan_check::root_at(list, place + 1);
     let at = bench_lines::add(text, at, b" ");
     let at = bench_lines::add_hex(text, at, root);
     let at = bench_lines::add(text, at, b":");

@@ -14,7 +14,7 @@ use Rattle.meaning.specs.Examples.{NoneWrong, heard}
 use Rattle.meaning.specs.Corners.{scarce, left}
 use Rattle.meaning.specs.Save.{padded, spaced, spacedIn}
 use Rattle.meaning_plan.specs.Plan.{Move, moveFor, Allowed, allowedFor, setOf, permits, goesBy, needList, mayHave, isMove, listedOnce, accepts, Verdict, refusal, rejected, accepted, checked, goesFirst, cheapest, choice, isBelow, isBefore, insert, asMove, through, chosen, proposal, isFound, Plan, refused, none, listed, planned, ordered, carriedOut, answers, isTaken, noRefusal, someThrough}
-use Rattle.meaning_plan.specs.PlanOctets.{setIn, setsIn, allowedIn, entryOf, listOf, entryIn, entriesIn, isList, listIn, checkedOctets, plannedOctets}
+use Rattle.meaning_plan.specs.PlanOctets.{spaceRoot, setIn, setsIn, allowedIn, entryOf, listOf, entryIn, entriesIn, isList, listIn, checkedOctets, plannedOctets}
 
 -- ---- a card
 
@@ -229,7 +229,12 @@ octetTests =
     sameVerdict (checkedOctets card 1 sets (0 ∷ 200 ∷ (D ++ replicate 12 0))) rejected ∷
     sameVerdict (checkedOctets card 1 sets (255 ∷ inSpace D)) rejected ∷
     sameVerdict (checkedOctets card 1 sets (toZero ++ toZero)) rejected ∷
-    -- 15. no list at all, for a neighbour that no root goes by, and for one above 15
+    -- 15. a length of 16, and one beyond the space, which names no root: in a list, in a set
+    sameVerdict (checkedOctets (done card X 4) 4 sets (0 ∷ 16 ∷ X)) accepted ∷
+    sameVerdict (checkedOctets (done card X 4) 4 sets (0 ∷ 17 ∷ X)) rejected ∷
+    permits (allowedIn (1 ∷ 1 ∷ 16 ∷ X)) X 0 ∷
+    not (permits (allowedIn (1 ∷ 1 ∷ 17 ∷ X)) X 0) ∷
+    -- 19. no list at all, for a neighbour that no root goes by, and for one above 15
     sameVerdict (checkedOctets card 5 [] []) accepted ∷
     sameVerdict (checkedOctets card 16 [] []) (refusal 1) ∷
     []
@@ -239,5 +244,5 @@ wrongTests i [] = []
 wrongTests i (b ∷ bs) = let later = wrongTests (suc i) bs in let here = i ∷ later in pick b later here
 
 pub plans-shown : NoneWrong (wrongAsks 1 asks) × NoneWrong (wrongLooks 1 looks) × NoneWrong (wrongTests 1 octetTests)
-unfolding computing moveFor asMove padded spaced spacedIn setIn setsIn allowedIn entryOf listOf entryIn entriesIn isList listIn checkedOctets plannedOctets inSpace sets toZero octetsOf octetTests wrongTests scarce left heard all A B D X W one done leaf card sameList samePlan agrees wrongAsks asks sameVerdict isRight wrongLooks looks allowedFor setOf permits goesBy needList mayHave isMove listedOnce accepts checked goesFirst cheapest choice isBelow isBefore insert through chosen proposal isFound planned ordered carriedOut answers isTaken noRefusal someThrough
+unfolding computing moveFor asMove padded spaced spacedIn spaceRoot setIn setsIn allowedIn entryOf listOf entryIn entriesIn isList listIn checkedOctets plannedOctets inSpace sets toZero octetsOf octetTests wrongTests scarce left heard all A B D X W one done leaf card sameList samePlan agrees wrongAsks asks sameVerdict isRight wrongLooks looks allowedFor setOf permits goesBy needList mayHave isMove listedOnce accepts checked goesFirst cheapest choice isBelow isBefore insert through chosen proposal isFound planned ordered carriedOut answers isTaken noRefusal someThrough
 plans-shown = (tt, tt, tt)

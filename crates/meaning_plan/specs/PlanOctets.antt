@@ -6,9 +6,9 @@ use mathlib.Core.Path.{_≡_, refl, ap, ap₂, _∙_}
 use mathlib.Core.Bool.{Bool, true, _&&_}
 use mathlib.Core.List.{List, [], _∷_, _++_}
 use lib.ListN.{drop, getD, length, length-append}
-use lib.Seq.{drop-at}
-use lib.Dec.{eqb}
-use borrow.Author.Tests.{eq-eqb}
+use lib.Seq.{drop-at, take-all}
+use lib.Dec.{eqb, leb}
+use borrow.Author.Tests.{eq-eqb, le-leb}
 use Rattle.meaning.specs.Octets.{pick, twoAt}
 use Rattle.meaning.specs.Wire.{rootLimit}
 use Rattle.meaning.specs.Card.{Card, routeLimit}
@@ -17,13 +17,17 @@ use Rattle.meaning.specs.Save.{spaced, spacedIn}
 use Rattle.meaning_laws.specs.SaveFields.{spaced-length, spaced-back}
 use Rattle.meaning_plan.specs.Plan.{Move, Allowed, accepts, Verdict, refusal, rejected, accepted, Plan, planned}
 
+-- the root in a space: none where the length before it is more than the space holds, as no root is written
+unfoldable pub spaceRoot : List ℕ → List ℕ
+spaceRoot o = pick (leb (getD o 0 0) rootLimit) (spacedIn rootLimit o) []
+
 -- ---- the permitted sets: 19 octets each, the set's 16 bits in two octets and the root
 
 abbrev pub setSize : ℕ
 setSize = 2 + (1 + rootLimit)
 
 unfoldable pub setIn : List ℕ → Allowed
-setIn o = record { root = spacedIn rootLimit (drop 2 o); set = twoAt o 0 }
+setIn o = record { root = spaceRoot (drop 2 o); set = twoAt o 0 }
 
 unfoldable pub setsIn : ℕ → List ℕ → List Allowed
 setsIn zero o = []
@@ -50,7 +54,7 @@ listOf [] = []
 listOf (m ∷ ms) = entryOf m ++ listOf ms
 
 unfoldable pub entryIn : List ℕ → Move
-entryIn o = record { root = spacedIn rootLimit (drop 1 o); via = getD o 0 0 }
+entryIn o = record { root = spaceRoot (drop 1 o); via = getD o 0 0 }
 
 unfoldable pub entriesIn : ℕ → List ℕ → List Move
 entriesIn zero o = []
@@ -90,12 +94,18 @@ unfolding listOf
 list-length [] = refl
 list-length (m ∷ ms) = length-append (entryOf m) (listOf ms) ∙ omega (arith, entry-length m, list-length ms)
 
+space-back : (r rest : List ℕ) → length r ≤ rootLimit → spaceRoot (spaced rootLimit r ++ rest) ≡ r
+unfolding spaceRoot
+space-back r rest h =
+    let long : getD (spaced rootLimit r ++ rest) 0 0 ≤ rootLimit = unfold spaced in rw (take-all rootLimit r h) h in
+    rw (le-leb _ _ long) (spaced-back rootLimit r h rest)
+
 pub entry-back : (m : Move) (rest : List ℕ) → Carriable m → entryIn (entryOf m ++ rest) ≡ m
 unfolding entryIn entryOf
 entry-back m rest p =
     let low = p .low in
     let same-via : m .via % 256 ≡ m .via = omega arith in
-    λ i. record { root = spaced-back rootLimit (m .root) (p .short) rest i; via = same-via i }
+    λ i. record { root = space-back (m .root) rest (p .short) i; via = same-via i }
 
 entries-back : (ms : List Move) → AllCarriable ms → entriesIn (length ms) (listOf ms) ≡ ms
 unfolding listOf entriesIn AllCarriable

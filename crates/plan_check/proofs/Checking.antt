@@ -4,7 +4,7 @@ use native.Mathlib.Numerals.{add-one}
 use native.Mathlib.Omega.{arith}
 use mathlib.Core.Path.{_≡_, refl, sym, ap, _∙_}
 use mathlib.Core.Bool.{Bool, true, false, not, _&&_, and-false}
-use mathlib.Core.List.{List, _∷_}
+use mathlib.Core.List.{List, [], _∷_}
 use lib.ListN.{length, drop, getD, drop-of-length-le}
 use lib.Seq.{drop-cons, drop-drop, getD-drop}
 use lib.Dec.{eqb, leb, ltb}
@@ -14,27 +14,41 @@ use Rattle.meaning.specs.Lists.{by-test}
 use Rattle.meaning.specs.Wire.{rootLimit}
 use Rattle.meaning.specs.Card.{Route, Card, routeOf, freeLabels}
 use Rattle.meaning.specs.Events.{needAll, noNeighbour}
-use Rattle.meaning.specs.Save.{spacedIn}
 use Rattle.memory.specs.Memory.{rootName, routeIn, entryIn as rowIn}
 use Rattle.save_rules_rows.proofs.RowRules.{At}
+use Rattle.meaning.specs.Save.{spacedIn}
 use Rattle.meaning_plan.specs.Plan.{Move, moveFor, Allowed, allowedFor, setOf, permits, goesBy, needList, mayHave, isMove, listedOnce, accepts, refusal, rejected, accepted}
-use Rattle.meaning_plan.specs.PlanOctets.{setSize, setIn, allowedIn, entrySize, entryIn, isList, listIn, checkedOctets}
+use Rattle.meaning_plan.specs.PlanOctets.{spaceRoot, setSize, setIn, allowedIn, entrySize, entryIn, isList, listIn, checkedOctets}
 use Rattle.meaning_plan.specs.Loops.{entries-length, entry-at, sets-length, set-at}
+
+-- ---- a root in its space
+
+module _ (o : List ℕ) (at k : ℕ) (h : k ≡ getD o at 0) where
+  first-is : getD (drop at o) 0 0 ≡ k
+  first-is = let z : at + 0 ≡ at = omega arith in getD-drop at o 0 0 ∙ ap (λ (n : ℕ). getD o n 0) z ∙ sym h
+
+  pub root-none : (r : List ℕ) → rootLimit < k → r ≡ [] → (r ≡ spaceRoot (drop at o)) × (length r ≤ rootLimit)
+  unfolding spaceRoot
+  root-none r b e = rw (e, first-is, lt-leb k rootLimit b) (refl, omega arith)
+
+  pub root-there : (r : List ℕ) → k ≤ rootLimit → r ≡ spacedIn rootLimit (drop at o) → r ≡ spaceRoot (drop at o)
+  unfolding spaceRoot
+  root-there r b e = e ∙ rw (first-is, le-leb k rootLimit b) refl
 
 -- ---- one record of the octets
 
 module _ (o : List ℕ) (at : ℕ) where
-  pub entry-root : (a : List ℕ) → a ≡ spacedIn rootLimit (drop (at + 1) o) → a ≡ entryIn (drop at o) .root
+  pub entry-root : (a : List ℕ) → a ≡ spaceRoot (drop (at + 1) o) → a ≡ entryIn (drop at o) .root
   unfolding entryIn
-  entry-root a e = e ∙ ap (spacedIn rootLimit) (sym (drop-drop 1 at o))
+  entry-root a e = e ∙ ap spaceRoot (sym (drop-drop 1 at o))
 
   pub entry-via : (v : ℕ) → v ≡ getD o at 0 → v ≡ entryIn (drop at o) .via
   unfolding entryIn
   entry-via v e = let z : at + 0 ≡ at = omega arith in e ∙ sym (getD-drop at o 0 0 ∙ ap (λ (k : ℕ). getD o k 0) z)
 
-  pub set-root : (a : List ℕ) → a ≡ spacedIn rootLimit (drop (at + 2) o) → a ≡ setIn (drop at o) .root
+  pub set-root : (a : List ℕ) → a ≡ spaceRoot (drop (at + 2) o) → a ≡ setIn (drop at o) .root
   unfolding setIn
-  set-root a e = e ∙ ap (spacedIn rootLimit) (sym (drop-drop 2 at o))
+  set-root a e = e ∙ ap spaceRoot (sym (drop-drop 2 at o))
 
   pub set-two : (v : ℕ) → v ≡ twoAt o at → v ≡ setIn (drop at o) .set
   unfolding setIn twoAt
@@ -44,10 +58,10 @@ module _ (o : List ℕ) (at : ℕ) where
       let second : getD (drop at o) 1 0 ≡ getD o (at + 1) 0 = getD-drop at o 1 0 in
       e ∙ rw (first, second) refl
 
-  pub set-equal : (a r : List ℕ) (b : Bool) → a ≡ spacedIn rootLimit (drop (at + 2) o) → b ≡ same a r → b ≡ same (setIn (drop at o) .root) r
+  pub set-equal : (a r : List ℕ) (b : Bool) → a ≡ spaceRoot (drop (at + 2) o) → b ≡ same a r → b ≡ same (setIn (drop at o) .root) r
   set-equal a r b e h = h ∙ ap (λ (x : List ℕ). same x r) (set-root a e)
 
-  pub entry-equal : (a r : List ℕ) (b : Bool) → a ≡ spacedIn rootLimit (drop (at + 1) o) → b ≡ same a r → b ≡ moveFor r (entryIn (drop at o))
+  pub entry-equal : (a r : List ℕ) (b : Bool) → a ≡ spaceRoot (drop (at + 1) o) → b ≡ same a r → b ≡ moveFor r (entryIn (drop at o))
   unfolding moveFor
   entry-equal a r b e h = h ∙ ap (λ (x : List ℕ). same x r) (entry-root a e)
 
@@ -57,7 +71,7 @@ module _ (o : List ℕ) (at : ℕ) where
   pub entry-zero : (r : List ℕ) (b : Bool) → b ≡ moveFor r (entryIn (drop at o)) → b ≡ false → _≡_ {A = ℕ} 0 (pick (moveFor r (entryIn (drop at o))) 1 0)
   entry-zero r b e k = rw (← e, k) refl
 
-  pub entry-needs : (c : Card) (a : List ℕ) (v k : ℕ) → a ≡ spacedIn rootLimit (drop (at + 1) o) → v ≡ getD o at 0 → k ≡ needAll a v c → k ≡ needAll (entryIn (drop at o) .root) (entryIn (drop at o) .via) c
+  pub entry-needs : (c : Card) (a : List ℕ) (v k : ℕ) → a ≡ spaceRoot (drop (at + 1) o) → v ≡ getD o at 0 → k ≡ needAll a v c → k ≡ needAll (entryIn (drop at o) .root) (entryIn (drop at o) .via) c
   entry-needs c a v k ea ev e = rw (← entry-root a ea, ← entry-via v ev) e
 
 -- ---- the record at place i

@@ -5,18 +5,31 @@ ghost use Prim.Native.Nat.{_+_, _≤_, _<_};
 ghost use lib.ListN.{length, drop};
 ghost use lib.Dec.{leb};
 ghost use Rattle.meaning.specs.Octets.{pick, count, all};
+ghost use Rattle.meaning.specs.Wire.{rootLimit};
 ghost use Rattle.meaning.specs.Card.{freeLabels, routeLimit, treeLimit};
 ghost use Rattle.meaning.specs.Events.{needAll};
 ghost use Rattle.memory.specs.Sizes.{Numbers, Names};
 ghost use Rattle.memory.specs.Memory.{cardOf, routeIn};
 ghost use Rattle.meaning_plan.specs.Plan.{moveFor, setOf, needList, mayHave, isMove, listedOnce, accepts};
-ghost use Rattle.meaning_plan.specs.PlanOctets.{allowedIn, entrySize, entryIn, isList, listIn, checkedOctets};
+ghost use Rattle.meaning_plan.specs.PlanOctets.{spaceRoot, allowedIn, entrySize, entryIn, isList, listIn, checkedOctets};
 ghost use Rattle.plan_check.specs.Verdict.{verdictOf};
 use meaning::ROOT_LIMIT;
 use meaning_plan::ENTRY_SIZE;
 use meaning_plan::SET_SIZE;
 use memory::NUMBER_COUNT;
 use memory::OCTET_COUNT;
+
+// ---- a root in its space
+
+// None where the length before it is more than the space holds.
+pub fn root_at(octets: &[u8], at: usize) -> &[u8]
+    ensures { λ r. ⌜ (now r ≡ spaceRoot (drop at (now (octets .entry)))) × (length (now r) ≤ rootLimit) ⌝ }
+{
+    if ROOT_LIMIT < octets::at(octets, at) as usize {
+        return &octets[0..0];
+    }
+    save_fields::spaced(octets, at, ROOT_LIMIT)
+}
 
 // ---- the permitted sets
 
@@ -28,7 +41,7 @@ fn set_of(sets: &[u8], root: &[u8]) -> u64
     let mut i = 0;
     while i < n {
         let at = i * SET_SIZE;
-        if octets::equal(save_fields::spaced(sets, at + 2, ROOT_LIMIT), root) {
+        if octets::equal(root_at(sets, at + 2), root) {
             return octets::two_at(sets, at);
         }
         i += 1;
@@ -56,7 +69,7 @@ fn is_move(numbers: &[u64], names: &[u8], n: u64, sets: &[u8], list: &[u8], at: 
     requires { ⌜ Numbers (now numbers) × Names (now names) × (at + entrySize ≤ length (now list)) ⌝ }
     ensures { λ r. ⌜ r ≡ isMove (cardOf (now (numbers .entry)) (now (names .entry))) n (allowedIn (now (sets .entry))) (entryIn (drop at (now (list .entry)))) ⌝ }
 {
-    let root = save_fields::spaced(list, at + 1, ROOT_LIMIT);
+    let root = root_at(list, at + 1);
     if memory_routes::route_of(numbers, names, root) != n {
         return false;
     }
@@ -83,7 +96,7 @@ fn listing(list: &[u8], at: usize, root: &[u8]) -> usize
     requires { ⌜ at + entrySize ≤ length (now list) ⌝ }
     ensures { λ r. ⌜ (r ≡ pick (moveFor (now (root .entry)) (entryIn (drop at (now (list .entry))))) 1 0) × (r ≤ 1) ⌝ }
 {
-    if octets::equal(save_fields::spaced(list, at + 1, ROOT_LIMIT), root) {
+    if octets::equal(root_at(list, at + 1), root) {
         1
     } else {
         0
@@ -135,7 +148,7 @@ fn entry_need(numbers: &[u64], names: &[u8], list: &[u8], at: usize) -> usize
     requires { ⌜ Numbers (now numbers) × Names (now names) × (at + entrySize ≤ length (now list)) ⌝ }
     ensures { λ r. ⌜ (let m = entryIn (drop at (now (list .entry))) in (r ≡ needAll (m .root) (m .via) (cardOf (now (numbers .entry)) (now (names .entry)))) × (r ≤ treeLimit)) ⌝ }
 {
-    let root = save_fields::spaced(list, at + 1, ROOT_LIMIT);
+    let root = root_at(list, at + 1);
     event_roots::need_all(numbers, names, root, octets::at(list, at))
 }
 

@@ -101,10 +101,7 @@ fn row_place(rows: &[u8], k: usize, root: &[u8]) -> usize
 {
     let mut i = 0;
     while i < k {
-        if is_before(
-            root,
-            save_fields::spaced(rows, i * ENTRY_SIZE + 1, ROOT_LIMIT),
-        ) {
+        if is_before(root, plan_check::root_at(rows, i * ENTRY_SIZE + 1)) {
             return i;
         }
         i += 1;

@@ -7,11 +7,11 @@ use borrow.Author.Needs.{needs}
 use Rattle.bench_plans.proofs.add_move.Statement.{statement}
 use Rattle.bench_plans.proofs.add_move.Tie as tie
 
-add-spaced : tie.Need-add-spaced
-add-spaced c = search needs
+add-root-at : tie.Need-add-root-at
+add-root-at c = search needs
 
-spaced-requires : tie.Need-spaced-requires
-spaced-requires c κs = search needs
+root-at-requires : tie.Need-root-at-requires
+root-at-requires c κs = search needs
 
 slice-aggregate-add : tie.Need-slice-aggregate-add
 slice-aggregate-add c = search needs
@@ -46,7 +46,7 @@ returns c =
     let r = c .before .before .before .before .before .before .before .before .before .before .before .before .before .before .before .before .before .before .before in
     let o = s .args .list .now in
     let p = s .args .place in
-    (rw (move-told _ _ _ (entry-root o p _ (r .spaced .ensures .0)) (entry-via o p _ (c .before .before .before .at .ensures .0))) (adds-then (a .add .ensures) (adds-then (h .add-hex .ensures .0) (adds-then (x .add2 .ensures) (c .before .before .add-number .ensures .0)))), omega (arith, a .add .ensures .count, h .add-hex .ensures .1, x .add2 .ensures .count, c .before .before .add-number .ensures .1, r .spaced .ensures .1))
+    (rw (move-told _ _ _ (entry-root o p _ (r .root-at .ensures .0)) (entry-via o p _ (c .before .before .before .at .ensures .0))) (adds-then (a .add .ensures) (adds-then (h .add-hex .ensures .0) (adds-then (x .add2 .ensures) (c .before .before .add-number .ensures .0)))), omega (arith, a .add .ensures .count, h .add-hex .ensures .1, x .add2 .ensures .count, c .before .before .add-number .ensures .1, r .root-at .ensures .1))
 
 pub add-move-spec : {M : Type 1} → statement M
-add-move-spec = tie.close (tie.spec add-spaced spaced-requires slice-aggregate-add add-requires add-hex-requires slice-aggregate-add-2 add-requires-2 at-requires add-number-requires same-length returns)
+add-move-spec = tie.close (tie.spec add-root-at root-at-requires slice-aggregate-add add-requires add-hex-requires slice-aggregate-add-2 add-requires-2 at-requires add-number-requires same-length returns)

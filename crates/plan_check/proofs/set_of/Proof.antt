@@ -21,11 +21,11 @@ loop-holds c = (omega arith, refl)
 mul-at : tie.Need-mul-at Inv-loop μ-loop
 mul-at c = search needs
 
-add-spaced : tie.Need-add-spaced Inv-loop μ-loop
-add-spaced c = search needs
+add-root-at : tie.Need-add-root-at Inv-loop μ-loop
+add-root-at c = search needs
 
-spaced-requires : tie.Need-spaced-requires Inv-loop μ-loop
-spaced-requires c κs = search needs
+root-at-requires : tie.Need-root-at-requires Inv-loop μ-loop
+root-at-requires c κs = search needs
 
 equal-requires : tie.Need-equal-requires Inv-loop μ-loop
 equal-requires c κs = search needs
@@ -38,7 +38,7 @@ returns c =
     let l = c .before .before .before .before in
     let o = c .before .before .before .before .before .before .before .before .args .sets .now in
     let i = l .before .loop .i in
-    sym (l .before .loop .inv .1 ∙ set-hit _ i _ _ (set-there o i (l .loop-test .taken)) (sym (set-equal o (i * setSize) _ _ _ (c .before .before .before .spaced .ensures .0) (c .before .before .equal .ensures)) ∙ c .before .if1 .taken) ∙ sym (set-two o (i * setSize) _ (c .two-at .ensures .0)))
+    sym (l .before .loop .inv .1 ∙ set-hit _ i _ _ (set-there o i (l .loop-test .taken)) (sym (set-equal o (i * setSize) _ _ _ (c .before .before .before .root-at .ensures .0) (c .before .before .equal .ensures)) ∙ c .before .if1 .taken) ∙ sym (set-two o (i * setSize) _ (c .two-at .ensures .0)))
 
 add-i : tie.Need-add-i Inv-loop μ-loop
 add-i c = search needs
@@ -51,10 +51,10 @@ loop-again c =
     let l = c .before .before .before in
     let o = c .before .before .before .before .before .before .before .args .sets .now in
     let i = l .before .loop .i in
-    (omega arith, l .before .loop .inv .1 ∙ set-miss _ i _ _ (set-there o i (l .loop-test .taken)) (sym (set-equal o (i * setSize) _ _ _ (c .before .before .spaced .ensures .0) (c .before .equal .ensures)) ∙ c .if1 .left))
+    (omega arith, l .before .loop .inv .1 ∙ set-miss _ i _ _ (set-there o i (l .loop-test .taken)) (sym (set-equal o (i * setSize) _ _ _ (c .before .before .root-at .ensures .0) (c .before .equal .ensures)) ∙ c .if1 .left))
 
 returns-2 : tie.Need-returns-2 Inv-loop μ-loop
 returns-2 c = sym (c .before .loop .inv .1 ∙ set-none _ _ _ (sets-end _ _ (c .loop-test .left)))
 
 pub set-of-spec : {M : Type 1} → statement M
-set-of-spec = tie.close (tie.spec Inv-loop μ-loop loop-holds mul-at add-spaced spaced-requires equal-requires two-at-requires returns add-i loop-less loop-again returns-2)
+set-of-spec = tie.close (tie.spec Inv-loop μ-loop loop-holds mul-at add-root-at root-at-requires equal-requires two-at-requires returns add-i loop-less loop-again returns-2)

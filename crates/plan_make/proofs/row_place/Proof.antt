@@ -21,14 +21,14 @@ abbrev μ-loop : tie.MeasureT-loop
 loop-holds : tie.Need-loop-holds Inv-loop μ-loop
 loop-holds c = (omega arith, omega arith)
 
-mul-spaced : tie.Need-mul-spaced Inv-loop μ-loop
-mul-spaced c = search needs
+mul-root-at : tie.Need-mul-root-at Inv-loop μ-loop
+mul-root-at c = search needs
 
-add-spaced : tie.Need-add-spaced Inv-loop μ-loop
-add-spaced c = search needs
+add-root-at : tie.Need-add-root-at Inv-loop μ-loop
+add-root-at c = search needs
 
-spaced-requires : tie.Need-spaced-requires Inv-loop μ-loop
-spaced-requires c κs = search needs
+root-at-requires : tie.Need-root-at-requires Inv-loop μ-loop
+root-at-requires c κs = search needs
 
 is-before-requires : tie.Need-is-before-requires Inv-loop μ-loop
 is-before-requires c κs = search needs
@@ -38,7 +38,7 @@ returns c =
     let l = c .before .before .before in
     let o = c .before .before .before .before .before .before .before .args .rows .now in
     let i = l .before .loop .i in
-    (omega arith, sym (l .before .loop .inv .1 ∙ place-hit _ _ i _ (row-there o _ i (l .loop-test .taken)) (sym (row-after o (i * entrySize) _ _ _ (entry-root o (i * entrySize) _ (c .before .before .spaced .ensures .0)) (c .before .is-before .ensures)) ∙ c .if1 .taken)))
+    (omega arith, sym (l .before .loop .inv .1 ∙ place-hit _ _ i _ (row-there o _ i (l .loop-test .taken)) (sym (row-after o (i * entrySize) _ _ _ (entry-root o (i * entrySize) _ (c .before .before .root-at .ensures .0)) (c .before .is-before .ensures)) ∙ c .if1 .taken)))
 
 add-i : tie.Need-add-i Inv-loop μ-loop
 add-i c = search needs
@@ -51,10 +51,10 @@ loop-again c =
     let l = c .before .before .before in
     let o = c .before .before .before .before .before .before .before .args .rows .now in
     let i = l .before .loop .i in
-    (omega arith, l .before .loop .inv .1 ∙ place-miss _ _ i _ (row-there o _ i (l .loop-test .taken)) (sym (row-after o (i * entrySize) _ _ _ (entry-root o (i * entrySize) _ (c .before .before .spaced .ensures .0)) (c .before .is-before .ensures)) ∙ c .if1 .left))
+    (omega arith, l .before .loop .inv .1 ∙ place-miss _ _ i _ (row-there o _ i (l .loop-test .taken)) (sym (row-after o (i * entrySize) _ _ _ (entry-root o (i * entrySize) _ (c .before .before .root-at .ensures .0)) (c .before .is-before .ensures)) ∙ c .if1 .left))
 
 returns-2 : tie.Need-returns-2 Inv-loop μ-loop
 returns-2 c = (omega arith, sym (c .before .loop .inv .1 ∙ place-none _ _ _ _ (entries-length _ _) (c .loop-test .left) (c .before .loop .inv .0)))
 
 pub row-place-spec : {M : Type 1} → statement M
-row-place-spec = tie.close (tie.spec Inv-loop μ-loop loop-holds mul-spaced add-spaced spaced-requires is-before-requires returns add-i loop-less loop-again returns-2)
+row-place-spec = tie.close (tie.spec Inv-loop μ-loop loop-holds mul-root-at add-root-at root-at-requires is-before-requires returns add-i loop-less loop-again returns-2)
