@@ -388,6 +388,17 @@ fn found_line(word: &str, found: Option<Found>) -> String {
     line
 }
 
+/// The card that the lines lead to.
+pub fn card_after(lines: &[impl AsRef<[u8]>]) -> Card {
+    let mut bench = Bench::new();
+    for line in lines {
+        if let Said::Order(order) = read_line(line.as_ref()) {
+            bench.obey(&order);
+        }
+    }
+    bench.card
+}
+
 /// Reads a line without its newline, however long, keeping just enough of it
 /// to see that it is too long; false at the end of the input.
 fn next_line(input: &mut impl BufRead, line: &mut Vec<u8>) -> io::Result<bool> {

@@ -2,7 +2,7 @@
 
 use crate::bench::{Order, LONGEST_HEX, WHOLE_BUFFER};
 use crate::card::Card;
-use crate::cases::{numbered, tree_a, OTHER_ROOT, ROOT};
+use crate::cases::{numbered, tree_a, Page, OTHER_ROOT, ROOT};
 use crate::damage;
 use crate::layers::{self, Layer};
 use crate::pdu::{self, LEAST_ROOM, LONGEST};
@@ -12,12 +12,8 @@ use crate::save_two::LONGEST_SAVE_TWO;
 use crate::session::BoxOrder;
 use crate::wire::{self, Kind, TreeName};
 
-struct Page {
-    lines: Vec<String>,
-}
-
 pub fn day() -> Vec<String> {
-    let mut page = Page { lines: Vec::new() };
+    let mut page = Page::new();
     page.comment("request [12]: neighbours 0 to 3 have streams. The route of A's root is 0.");
     page.one_message();
     page.several_messages();
@@ -54,76 +50,66 @@ fn good() -> Vec<u8> {
 }
 
 impl Page {
-    fn comment(&mut self, text: &str) {
-        self.lines.push(format!("# {text}"));
-    }
-
-    fn bench(&mut self, order: Order) {
-        self.lines.push(order.to_line());
-    }
-
     fn octets(&mut self, from: u32, octets: &[u8]) {
-        self.lines
-            .push(BoxOrder::Octets(from, octets.to_vec()).to_line());
+        self.text(BoxOrder::Octets(from, octets.to_vec()).to_line());
     }
 
-    fn fresh(&mut self) {
-        self.bench(Order::Start(16));
-        self.bench(Order::Route(ROOT.to_vec(), 0));
-        self.bench(Order::Lost(1));
+    /// A fresh card, and an empty stream of 1.
+    fn fresh_stream(&mut self) {
+        self.fresh();
+        self.order(Order::Lost(1));
     }
 
-    fn ask(&mut self) {
-        self.bench(Order::Tree(wire::write_element(&tree_a())));
-        self.bench(Order::Free);
+    fn ask_tree_a(&mut self) {
+        self.ask(&[], &[tree_a()]);
     }
 
     fn one_message(&mut self) {
         self.comment("Mapping <A, 100> in a PDU of 1: what case 1 writes");
-        self.bench(Order::Room(WHOLE_BUFFER as u32));
-        self.fresh();
+        self.room(WHOLE_BUFFER);
+        self.fresh_stream();
         self.octets(1, &from_1(&[mapping_a(100)]));
         self.octets(1, &[]);
-        self.ask();
+        self.ask_tree_a();
     }
 
     fn several_messages(&mut self) {
         self.comment(
             "a Mapping and a Withdraw in one PDU, and two PDUs at once: a call for each message",
         );
-        self.fresh();
+        self.fresh_stream();
         self.octets(1, &good());
         self.octets(1, &[good(), good()].concat());
-        self.ask();
+        self.ask_tree_a();
     }
 
     fn cut_anywhere(&mut self) {
         self.comment(
             "a Mapping and a Withdraw, cut behind every octet; then a Mapping octet by octet",
         );
-        self.fresh();
+        self.fresh_stream();
         for place in 1..good().len() {
             self.octets(1, &good()[..place]);
             self.octets(1, &good()[place..]);
         }
-        self.fresh();
+        self.fresh_stream();
         for octet in from_1(&[mapping_a(100)]) {
             self.octets(1, &[octet]);
         }
-        self.ask();
+        self.ask_tree_a();
         self.comment("two streams at once, each in two parts");
-        self.fresh();
+        self.fresh_stream();
         let other = pdu::write(pdu::identifier(2), &mapping_a(200));
         self.octets(1, &good()[..20]);
         self.octets(2, &other[..11]);
         self.octets(1, &good()[20..]);
         self.octets(2, &other[11..]);
-        self.ask();
+        self.ask_tree_a();
     }
 
     fn refused_messages(&mut self) {
         self.comment("messages that are refused 3, 8, 13, and 2 for 4 and 7 octets: each is eaten, and the Mapping behind them is taken");
-        self.fresh();
+        self.fresh_stream();
         let unknown = wire::write_frame(0x0401, 1, &[]);
         let short =
             |length: u8| vec![[4, 0, 0, length].to_vec(), vec![9; usize::from(length)]].concat();
@@ -137,19 +123,19 @@ impl Page {
             mapping_a(100),
         ];
         self.octets(1, &from_1(&all));
-        self.ask();
+        self.ask_tree_a();
     }
 
     /// The octets come, then good ones in vain, until 1 is lost.
     fn stops(&mut self, octets: &[u8]) {
         self.octets(1, octets);
         self.octets(1, &good());
-        self.bench(Order::Lost(1));
+        self.order(Order::Lost(1));
     }
 
     fn wrong_heads(&mut self) {
         self.comment("a wrong version or identifier stops the stream until 1 is lost; 16 and 2 being lost does not help");
-        self.fresh();
+        self.fresh_stream();
         for (place, octet) in [(0, 1), (1, 0), (1, 2), (4, 10), (7, 2), (8, 1), (9, 1)] {
             let mut octets = good();
             octets[place] = octet;
@@ -161,13 +147,13 @@ impl Page {
         self.octets(1, &octets[9..10]);
         for neighbour in [16, 2, 1] {
             self.octets(1, &good());
-            self.bench(Order::Lost(neighbour));
+            self.order(Order::Lost(neighbour));
         }
         self.octets(1, &good());
         self.comment("a wrong head behind a good PDU: what came before it is done");
         octets.splice(..0, from_1(&[mapping_a(100)]));
         self.stops(&octets);
-        self.ask();
+        self.ask_tree_a();
     }
 
     fn lengths(&mut self) {
@@ -175,7 +161,7 @@ impl Page {
         for length in [0u16, 13, 14, 4096, 4097, u16::MAX] {
             let mut octets = from_1(&[wire::write_frame(0x0401, 1, &[])]);
             octets[2..4].copy_from_slice(&length.to_be_bytes());
-            self.fresh();
+            self.fresh_stream();
             self.octets(1, &octets);
             self.octets(1, &good());
         }
@@ -188,25 +174,25 @@ impl Page {
         for octets in [alone, behind] {
             let mut shorter = octets.clone();
             shorter[3] -= 1;
-            self.fresh();
+            self.fresh_stream();
             self.stops(&shorter);
         }
         for left in 1..=4 {
-            self.fresh();
+            self.fresh_stream();
             self.octets(1, &from_1(&[mapping_a(100), vec![0; left]]));
             self.octets(1, &good());
-            self.ask();
+            self.ask_tree_a();
         }
     }
 
     fn longest_pdu(&mut self) {
         self.comment("a PDU of 4100 octets, one message of 4090; one octet more runs past");
-        self.fresh();
+        self.fresh_stream();
         let longest = damage::pad_message(&mapping_a(100), LONGEST - 6);
         let octets = from_1(&[longest.clone()]);
         self.octets(1, &octets[..LONGEST_HEX]);
         self.octets(1, &octets[LONGEST_HEX..]);
-        self.ask();
+        self.ask_tree_a();
         self.comment(
             "4090 octets are held when 4096 are offered: 10 are eaten, the rest is offered again",
         );
@@ -215,22 +201,22 @@ impl Page {
         self.octets(1, &rest[..LONGEST_HEX]);
         self.octets(1, &rest[LONGEST_HEX..]);
         self.octets(1, &good());
-        self.ask();
+        self.ask_tree_a();
     }
 
     fn rooms(&mut self) {
         self.comment("room for 347 octets is refused 20, with nothing eaten; 348 is enough; a stopped stream is no other");
-        self.fresh();
+        self.fresh_stream();
         for room in [0, LEAST_ROOM - 1, LEAST_ROOM] {
-            self.bench(Order::Room(room as u32));
+            self.room(room);
             self.octets(1, &good());
             self.octets(1, &[]);
         }
         self.octets(1, &[0; 10]);
-        self.bench(Order::Room(LEAST_ROOM as u32 - 1));
+        self.order(Order::Room(LEAST_ROOM as u32 - 1));
         self.octets(1, &good());
         self.octets(16, &good());
-        self.bench(Order::Room(WHOLE_BUFFER as u32));
+        self.room(WHOLE_BUFFER);
     }
 
     fn neighbours(&mut self) {
@@ -253,17 +239,16 @@ impl Page {
             "pack 1 4c440001",
             "Pack 1 -",
         ] {
-            self.lines.push(line.to_string());
+            self.text(line.to_string());
         }
-        self.bench(Order::Lost(3));
-        self.lines.push(format!("octets 3 {hex}"));
-        self.lines.push(format!("octets 3 {hex}00"));
-        self.bench(Order::Lost(3));
+        self.order(Order::Lost(3));
+        self.text(format!("octets 3 {hex}"));
+        self.text(format!("octets 3 {hex}00"));
+        self.order(Order::Lost(3));
     }
 
     fn pack(&mut self, to: u32, records: &[Vec<u8>]) {
-        self.lines
-            .push(BoxOrder::Pack(to, records.concat()).to_line());
+        self.text(BoxOrder::Pack(to, records.concat()).to_line());
     }
 
     fn packed(&mut self) {
@@ -279,11 +264,11 @@ impl Page {
         self.pack(0, &[]);
         let whole = 10 + 2 * (record(7, 1).len() - 4);
         for room in [whole - 1, whole, 0] {
-            self.bench(Order::Room(room as u32));
+            self.room(room);
             self.pack(7, &records);
             self.pack(5, &records);
         }
-        self.bench(Order::Room(WHOLE_BUFFER as u32));
+        self.room(WHOLE_BUFFER);
         self.records_end(&record(7, 1));
     }
 
@@ -320,7 +305,7 @@ impl Page {
     /// While a PDU of 1 is under way, which goes on behind them.
     fn every_order(&mut self) {
         self.comment("every order of the bench, between two parts of a PDU");
-        self.fresh();
+        self.fresh_stream();
         self.octets(1, &good()[..20]);
         let (element, message) = (wire::write_element(&tree_a()), mapping_a(100));
         let layer = Layer {
@@ -345,11 +330,11 @@ impl Page {
             Order::Plan(0, vec![permit.clone()]),
             Order::Vet(0, vec![permit], vec![Move { root, to: 3 }]),
         ] {
-            self.bench(order);
+            self.order(order);
         }
         self.restores();
         self.octets(1, &good()[20..]);
-        self.ask();
+        self.ask_tree_a();
     }
 
     /// Of the table of a fresh card, in either form.
@@ -364,7 +349,7 @@ impl Page {
             Order::RestoreTwo(two),
             Order::Start(600),
         ] {
-            self.bench(order);
+            self.order(order);
         }
     }
 }

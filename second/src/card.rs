@@ -29,6 +29,11 @@ impl Tree {
         self.branches.is_empty() && !self.leaf
     }
 
+    /// Only one branch, held or not, and no leaf, as request [10] counts them.
+    pub fn is_lone(&self) -> bool {
+        self.branches.len() == 1 && !self.leaf
+    }
+
     /// The branches that are fed. That of the upstream is held: what came
     /// from there does not go back.
     pub fn live(&self, upstream: Option<u32>) -> impl Iterator<Item = (u32, u32)> + '_ {

@@ -2,7 +2,7 @@
 //! with one branch alone, are about as many as the free labels.
 
 use super::*;
-use crate::card::{Tree, LABELS, NEIGHBOURS, THIS_NODE};
+use crate::card::{LABELS, NEIGHBOURS, THIS_NODE};
 use crate::held_events::{held_goes, last_live_goes, mapped_back, new_tree_mapped_back};
 
 /// What makes trees come and go, lone ones, and lone ones grow.
@@ -45,14 +45,9 @@ pub fn step(maker: &mut Maker) {
     }
 }
 
-/// Only one branch, held or not, and no leaf.
-pub fn is_lone(tree: &Tree) -> bool {
-    tree.branches.len() == 1 && !tree.leaf
-}
-
 /// How many trees of the root stand, and how many of them are lone.
 pub fn counts(card: &Card, root: &[u8]) -> (usize, usize) {
-    let lone = card.trees_of(root).filter(|tree| is_lone(tree)).count();
+    let lone = card.trees_of(root).filter(|tree| tree.is_lone()).count();
     (card.trees_of(root).count(), lone)
 }
 
@@ -77,7 +72,7 @@ fn near_move(maker: &mut Maker) {
 /// Often to a neighbour of a lone branch, which needs no label then; now and
 /// then to nobody, which needs none at all.
 fn new_way(maker: &mut Maker, root: &[u8]) -> u32 {
-    let trees = maker.card().trees_of(root).filter(|tree| is_lone(tree));
+    let trees = maker.card().trees_of(root).filter(|tree| tree.is_lone());
     let lone: Vec<u32> = trees.flat_map(|t| t.branches.keys().copied()).collect();
     match maker.rng.below(10) {
         0..=4 => maker.rng.pick(&lone).unwrap_or(NEIGHBOURS - 1),

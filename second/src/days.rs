@@ -249,6 +249,22 @@ pub fn make(kind: usize, seed: u64, lines: usize) -> Vec<Vec<u8>> {
     maker.lines
 }
 
+/// The cards that a day leads to, each after so many lines more.
+#[cfg(test)]
+pub fn cards(kind: usize, seed: u64, lines: usize, every: usize) -> Vec<Card> {
+    let mut bench = Bench::new();
+    let mut cards = Vec::new();
+    for part in make(kind, seed, lines).chunks(every) {
+        for line in part {
+            if let Said::Order(order) = bench::read_line(line) {
+                bench.obey(&order);
+            }
+        }
+        cards.push(bench.card.clone());
+    }
+    cards
+}
+
 fn open_ordinary(maker: &mut Maker) {
     let roots = maker.rng.between(3, 7);
     maker.settle(roots, (6, 4), ALL_LENGTHS);

@@ -122,11 +122,11 @@ fn occasion(card: &Card, order: &Order, number: u8) -> Option<&'static str> {
 
 /// How often a day of that kind meets each occasion: what it is, by the card
 /// before an order, the order, the number written, and the card afterwards.
-pub fn occasions(
+pub fn occasions<What: Ord>(
     name: &str,
     seed: u64,
-    what: impl Fn(&Card, &Order, u8, &Card) -> Option<&'static str>,
-) -> BTreeMap<&'static str, usize> {
+    what: impl Fn(&Card, &Order, u8, &Card) -> Option<What>,
+) -> BTreeMap<What, usize> {
     let kind = kind_named(name).expect("it is one of the kinds");
     let mut met = BTreeMap::new();
     let mut bench = Bench::new();

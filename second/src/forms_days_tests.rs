@@ -1,5 +1,5 @@
+use super::super::tests::occasions;
 use super::*;
-use std::collections::BTreeMap;
 
 /// What an order of the day met.
 fn occasion(before: &Card, order: &Order, number: u8, after: &Card) -> Option<String> {
@@ -35,19 +35,7 @@ fn occasion(before: &Card, order: &Order, number: u8, after: &Card) -> Option<St
 #[test]
 fn a_day_of_forms_has_its_occasions() {
     for seed in 1..=3 {
-        let mut met: BTreeMap<String, usize> = BTreeMap::new();
-        let mut bench = Bench::new();
-        for line in make(kind_named("forms").expect("a kind"), seed, 3000) {
-            let Said::Order(order) = bench::read_line(&line) else {
-                continue;
-            };
-            let before = bench.card.clone();
-            let written = bench.obey(&order);
-            let number = bench::written_number(&written).unwrap_or(0);
-            if let Some(what) = occasion(&before, &order, number, &bench.card) {
-                *met.entry(what).or_insert(0) += 1;
-            }
-        }
+        let met = occasions("forms", seed, occasion);
         for what in [
             "newer 0 of one",
             "newer 16 of one",

@@ -130,13 +130,12 @@ pub fn counted_route(scene: &mut Scene) -> Option<Order> {
 /// one more; or all but those that have one branch alone.
 pub fn bounded_route(scene: &mut Scene) -> Option<Order> {
     let (card, free) = (scene.card, scene.card.free_labels());
-    let lone = |tree: &&Tree| tree.branches.len() == 1 && !tree.leaf;
     let over = scene.rng.below(2);
     let least = scene.rng.percent(60);
     move_where(scene, |root, _| {
         let trees = card.trees_of(root).count();
         let bound = if least {
-            trees - card.trees_of(root).filter(lone).count()
+            trees - card.trees_of(root).filter(|tree| tree.is_lone()).count()
         } else {
             trees
         };

@@ -3,7 +3,6 @@
 
 use super::held::*;
 use super::*;
-use crate::bench::{self, Bench, Said};
 use crate::days;
 
 fn gone(card: &mut Card, neighbour: u32) -> Vec<(u8, u8, u8)> {
@@ -194,19 +193,12 @@ fn as_the_request_says() {
     let mut sent = 0;
     for name in ["held", "full", "exhaust", "lost"] {
         let kind = days::kind_named(name).expect("it is one of the kinds");
-        let mut bench = Bench::new();
-        for (place, line) in days::make(kind, 4, 1200).iter().enumerate() {
-            if let Said::Order(order) = bench::read_line(line) {
-                bench.obey(&order);
-            }
-            if place % 40 != 39 {
-                continue;
-            }
+        for card in days::cards(kind, 4, 1200, 40) {
             for lost in 0..NEIGHBOURS {
-                let mut card = bench.card.clone();
-                let records = card.lost(lost, WHOLE_BUFFER).expect("it is taken");
+                let mut after = card.clone();
+                let records = after.lost(lost, WHOLE_BUFFER).expect("it is taken");
                 sent += records.len();
-                assert_eq!((card, records), described(&bench.card, lost));
+                assert_eq!((after, records), described(&card, lost));
             }
         }
     }

@@ -1,26 +1,16 @@
 use super::*;
-use crate::bench::{self, Bench};
-use crate::bench::{answer_number, Order, Said, WHOLE_BUFFER};
+use crate::bench::{answer_number, Bench, Order, WHOLE_BUFFER};
 use crate::days;
 use crate::rng::Rng;
 use crate::wire::{self, TreeName};
 
 /// Cards of made days, as they stand every now and then.
 fn cards() -> Vec<Card> {
-    let mut cards = Vec::new();
-    for name in ["exhaust", "held", "lost", "plans"] {
-        let kind = days::kind_named(name).expect("it is one of the kinds");
-        let mut bench = Bench::new();
-        for (place, line) in days::make(kind, 7, 900).iter().enumerate() {
-            if let Said::Order(order) = bench::read_line(line) {
-                bench.obey(&order);
-            }
-            if place % 60 == 59 {
-                cards.push(bench.card.clone());
-            }
-        }
-    }
-    cards
+    let names = ["exhaust", "held", "lost", "plans"].into_iter();
+    let kinds = names.map(|name| days::kind_named(name).expect("it is one of the kinds"));
+    kinds
+        .flat_map(|kind| days::cards(kind, 7, 900, 60))
+        .collect()
 }
 
 fn any_permits(rng: &mut Rng, roots: &[Vec<u8>]) -> Vec<Permit> {

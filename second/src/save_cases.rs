@@ -1,6 +1,6 @@
 //! Request [3], "Save the table over a card swap", as a page of cases.
 
-use crate::bench::{self, Bench, Order, Said};
+use crate::bench::{self, Order};
 use crate::card::{NO_ROUTE, THIS_NODE};
 use crate::cases::{numbered, tree_a, Page, LONG_ROOT, OTHER_ROOT, ROOT};
 use crate::formed;
@@ -40,13 +40,8 @@ const LABEL_17: usize = LABEL_16 + LABEL;
 impl Page {
     /// What the card that the page's orders lead to would write.
     pub fn saved(&self) -> Vec<u8> {
-        let mut bench = Bench::new();
-        for line in &self.lines {
-            if let Said::Order(order) = bench::read_line(line.as_bytes()) {
-                bench.obey(&order);
-            }
-        }
-        bench.card.save(LONGEST_SAVE).expect("there is room")
+        let card = bench::card_after(&self.lines);
+        card.save(LONGEST_SAVE).expect("there is room")
     }
 
     fn save_in(&mut self, room: usize) {
@@ -173,28 +168,13 @@ impl Page {
     fn other_tables(&mut self) {
         self.swapped();
         let save = self.saved();
-        let [head, route, tree_a, tree_b, awaiting, mapped] = [0, 1, 2, 3, 4, 5];
         self.comment("what another table would write is taken: without the label that awaits release, or without B; B before A; B alone");
-        for kept in [
-            &[head, route, tree_a, tree_b, mapped][..],
-            &[head, route, tree_a, awaiting, mapped],
-            &[head, route, tree_b, tree_a, awaiting, mapped],
-            &[head, tree_b],
-        ] {
+        for kept in OTHER_TABLES {
             self.restore(&kept_of(&save, kept));
             self.order(Order::Save);
         }
-        self.comment("refused 19: A's label gone, A gone, its route gone, a label twice, labels changed about, a tree twice, a route twice, trees before routes");
-        for kept in [
-            &[head, route, tree_a, tree_b, awaiting][..],
-            &[head, route, tree_b, awaiting, mapped],
-            &[head, tree_a, tree_b, awaiting, mapped],
-            &[head, route, tree_a, tree_b, awaiting, mapped, mapped],
-            &[head, route, tree_a, tree_b, mapped, awaiting],
-            &[head, route, tree_a, tree_b, tree_b, awaiting, mapped],
-            &[head, route, route, tree_a, tree_b, awaiting, mapped],
-            &[head, tree_a, route, tree_b, awaiting, mapped],
-        ] {
+        self.comment(NO_TABLES_SAY);
+        for kept in NO_TABLES {
             self.restore(&kept_of(&save, kept));
         }
         self.order(Order::Save);
@@ -225,6 +205,26 @@ impl Page {
         self.order(Order::Free);
     }
 }
+
+/// Records of the example, of either form: 0 the head, 1 the route, 2 A, 3 B,
+/// 4 the label that awaits release, 5 the one that is mapped.
+pub const OTHER_TABLES: [&[usize]; 4] = [
+    &[0, 1, 2, 3, 5],
+    &[0, 1, 2, 4, 5],
+    &[0, 1, 3, 2, 4, 5],
+    &[0, 3],
+];
+pub const NO_TABLES: [&[usize]; 8] = [
+    &[0, 1, 2, 3, 4],
+    &[0, 1, 3, 4, 5],
+    &[0, 2, 3, 4, 5],
+    &[0, 1, 2, 3, 4, 5, 5],
+    &[0, 1, 2, 3, 5, 4],
+    &[0, 1, 2, 3, 3, 4, 5],
+    &[0, 1, 1, 2, 3, 4, 5],
+    &[0, 2, 1, 3, 4, 5],
+];
+pub const NO_TABLES_SAY: &str = "refused 19: A's label gone, A gone, its route gone, a label twice, labels changed about, a tree twice, a route twice, trees before routes";
 
 pub fn kept_of(save: &[u8], kept: &[usize]) -> Vec<u8> {
     let all = records(save);

@@ -1,19 +1,8 @@
 use super::*;
-use crate::bench::{self, Bench, Said};
+use crate::bench::{self, card_after, Bench, Said};
 use crate::days;
 use crate::rng::Rng;
 use crate::save_damage;
-
-fn card_after(lines: &[&str]) -> Card {
-    let mut bench = Bench::new();
-    for line in lines {
-        match bench::read_line(line.as_bytes()) {
-            Said::Order(order) => drop(bench.obey(&order)),
-            other => panic!("{other:?}"),
-        }
-    }
-    bench.card
-}
 
 /// The card of the example in docs/SAVE.md.
 fn swapped() -> Card {
@@ -141,27 +130,20 @@ fn what_is_written_is_read_back() {
     let mut rng = Rng::new(1);
     let mut saved = 0;
     for (kind, seed) in (0..days::KINDS.len()).flat_map(|k| [(k, 8), (k, 9), (k, 10)]) {
-        let mut bench = Bench::new();
-        for (place, line) in days::make(kind, seed, 400).iter().enumerate() {
-            if let Said::Order(order) = bench::read_line(line) {
-                bench.obey(&order);
-            }
-            if place % 20 != 0 {
-                continue;
-            }
-            let Ok(save) = bench.card.save(LONGEST_SAVE) else {
-                assert!(bench.card.names().any(|name| name.opaque.len() > 32));
+        for card in days::cards(kind, seed, 400, 20) {
+            let Ok(save) = card.save(LONGEST_SAVE) else {
+                assert!(card.names().any(|name| name.opaque.len() > 32));
                 continue;
             };
             let mut other = Card::start(99).1;
             assert_eq!(other.restore(&save), Ok(()));
-            assert_eq!(other, bench.card.swapped());
+            assert_eq!(other, card.swapped());
             saved += 1;
             let spoiled = save_damage::spoil(&mut rng, &save);
             if other.restore(&spoiled).is_ok() {
                 assert_eq!(other.save(LONGEST_SAVE), Ok(spoiled));
             } else {
-                assert_eq!(other, bench.card.swapped());
+                assert_eq!(other, card.swapped());
             }
         }
     }

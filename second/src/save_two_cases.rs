@@ -1,10 +1,10 @@
 //! Request [7], "Second saved form and the way back", as a page of cases.
 
-use crate::bench::{self, Bench, Order, Said};
+use crate::bench::{self, Order};
 use crate::cases::{numbered, tree_a, Page, ROOT};
 use crate::formed;
 use crate::save::LONGEST_SAVE;
-use crate::save_cases::{kept_of, tree_b};
+use crate::save_cases::{kept_of, tree_b, NO_TABLES, NO_TABLES_SAY, OTHER_TABLES};
 use crate::save_two::{HEAD_TWO, LABEL_TWO, LONGEST_SAVE_TWO, TREE_TWO};
 use crate::wire::{self, Kind, TreeName, LONGEST_OPAQUE};
 
@@ -41,16 +41,8 @@ const LAST_GIVEN: usize = HEAD_TWO - 4;
 impl Page {
     /// What the card that the page's orders lead to would write in form two.
     fn saved_two(&self) -> Vec<u8> {
-        let mut bench = Bench::new();
-        for line in &self.lines {
-            if let Said::Order(order) = bench::read_line(line.as_bytes()) {
-                bench.obey(&order);
-            }
-        }
-        bench
-            .card
-            .save_two(LONGEST_SAVE_TWO)
-            .expect("there is room")
+        let card = bench::card_after(&self.lines);
+        card.save_two(LONGEST_SAVE_TWO).expect("there is room")
     }
 
     fn restore_two(&mut self, octets: &[u8]) {
@@ -349,28 +341,13 @@ impl Page {
     fn other_tables_in_two(&mut self) {
         self.swapped();
         let two = self.saved_two();
-        let [head, route, tree_a, tree_b, awaiting, mapped] = [0, 1, 2, 3, 4, 5];
         self.comment("what another table would write is taken: without the label that awaits release, or without B; B before A");
-        for kept in [
-            &[head, route, tree_a, tree_b, mapped][..],
-            &[head, route, tree_a, awaiting, mapped],
-            &[head, route, tree_b, tree_a, awaiting, mapped],
-            &[head, tree_b],
-        ] {
+        for kept in OTHER_TABLES {
             self.restore_two(&kept_of(&two, kept));
             self.order(Order::SaveTwo);
         }
-        self.comment("refused 19: A's label gone, A gone, its route gone, a label twice, labels changed about, a tree twice, a route twice, trees before routes");
-        for kept in [
-            &[head, route, tree_a, tree_b, awaiting][..],
-            &[head, route, tree_b, awaiting, mapped],
-            &[head, tree_a, tree_b, awaiting, mapped],
-            &[head, route, tree_a, tree_b, awaiting, mapped, mapped],
-            &[head, route, tree_a, tree_b, mapped, awaiting],
-            &[head, route, tree_a, tree_b, tree_b, awaiting, mapped],
-            &[head, route, route, tree_a, tree_b, awaiting, mapped],
-            &[head, tree_a, route, tree_b, awaiting, mapped],
-        ] {
+        self.comment(NO_TABLES_SAY);
+        for kept in NO_TABLES {
             let octets = kept_of(&two, kept);
             self.restore_two(&octets);
             self.older(&octets);

@@ -1,13 +1,9 @@
 use super::*;
+use crate::bench::Bench;
+use crate::session::Program;
 
 fn answers() -> Vec<String> {
-    let mut answers = Vec::new();
-    bench::replay(day().join("\n").as_bytes(), |_, _, answer| {
-        answers.push(answer);
-        Ok(())
-    })
-    .expect("memory can be read");
-    answers
+    Program::Bench.answers(day().join("\n").as_bytes())
 }
 
 #[test]

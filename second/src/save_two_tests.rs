@@ -1,30 +1,16 @@
 use super::*;
-use crate::bench::{self, Bench, Said};
+use crate::bench;
+use crate::cases::Page;
 use crate::days;
 use crate::rng::Rng;
 use crate::save::LONGEST_SAVE;
 use crate::save_damage;
 
-fn card_after(lines: &[&str]) -> Card {
-    let mut bench = Bench::new();
-    for line in lines {
-        match bench::read_line(line.as_bytes()) {
-            Said::Order(order) => drop(bench.obey(&order)),
-            other => panic!("{other:?}"),
-        }
-    }
-    bench.card
-}
-
 /// The card of the example in docs/SAVE.md.
 fn swapped() -> Card {
-    card_after(&[
-        "start 16",
-        "route c0000201 0",
-        "take 1 04000021000000010100001106000104c00002010007010004000000070200000400000064",
-        "join 0600021020010db80000000000000000000000010003090000",
-        "route c0000201 3",
-    ])
+    let mut page = Page::new();
+    page.swapped();
+    bench::card_after(&page.lines)
 }
 
 fn example() -> Vec<u8> {
@@ -114,25 +100,18 @@ fn to_and_fro() {
     let mut rng = Rng::new(1);
     let (mut short, mut taken, mut refused) = (0, 0, 0);
     for (kind, seed) in (0..days::KINDS.len()).flat_map(|k| [(k, 8), (k, 9), (k, 10)]) {
-        let mut bench = Bench::new();
-        for (place, line) in days::make(kind, seed, 400).iter().enumerate() {
-            if let Said::Order(order) = bench::read_line(line) {
-                bench.obey(&order);
-            }
-            if place % 20 != 0 {
-                continue;
-            }
-            let two = bench.card.save_two(LONGEST_SAVE_TWO).expect("room");
+        for card in days::cards(kind, seed, 400, 20) {
+            let two = card.save_two(LONGEST_SAVE_TWO).expect("room");
             let mut other = Card::start(99).1;
             assert_eq!(other.restore_two(&two), Ok(()));
-            assert_eq!(other, bench.card);
-            let one = bench.card.save(LONGEST_SAVE);
+            assert_eq!(other, card);
+            let one = card.save(LONGEST_SAVE);
             assert_eq!(older(&two, LONGEST_SAVE), one);
             if let Ok(one) = one {
                 let again = newer(&one, LONGEST_SAVE_TWO).expect("room");
                 assert_eq!(older(&again, LONGEST_SAVE), Ok(one));
                 assert_eq!(other.restore_two(&again), Ok(()));
-                assert_eq!(other, bench.card.swapped());
+                assert_eq!(other, card.swapped());
                 short += 1;
             }
             let spoiled = save_damage::spoil(&mut rng, &two);
