@@ -111,8 +111,7 @@ impl Page {
         self.comment("messages that are refused 3, 8, 13, and 2 for 4 and 7 octets: each is eaten, and the Mapping behind them is taken");
         self.fresh_stream();
         let unknown = wire::write_frame(0x0401, 1, &[]);
-        let short =
-            |length: u8| vec![[4, 0, 0, length].to_vec(), vec![9; usize::from(length)]].concat();
+        let short = |length: u8| [vec![4, 0, 0, length], vec![9; usize::from(length)]].concat();
         let release = message(Kind::Release, &tree_a(), 16);
         let all = [
             unknown,
@@ -189,7 +188,7 @@ impl Page {
         self.comment("a PDU of 4100 octets, one message of 4090; one octet more runs past");
         self.fresh_stream();
         let longest = damage::pad_message(&mapping_a(100), LONGEST - 6);
-        let octets = from_1(&[longest.clone()]);
+        let octets = from_1(&[longest]);
         self.octets(1, &octets[..LONGEST_HEX]);
         self.octets(1, &octets[LONGEST_HEX..]);
         self.ask_tree_a();

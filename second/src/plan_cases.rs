@@ -5,6 +5,7 @@ use crate::card::THIS_NODE;
 use crate::cases::{numbered, Page, OTHER_ROOT, ROOT};
 use crate::plan::{Move, Permit};
 use crate::wire::Kind;
+use std::slice::from_ref;
 
 const LONG_ROOT: [u8; 16] = [0xc0, 0, 2, 0, 0, 0, 0, 0, 0, 0, 0, 0, 0, 0, 0, 1];
 const ALL: u16 = 0xffff;
@@ -112,7 +113,7 @@ impl Page {
             entry(&[10, 0, 0, 9], 2),
             entry(&[10, 0, 0, 2], 2),
         ] {
-            self.vet(&sets, &[&all[..], &[further.clone()]].concat());
+            self.vet(&sets, &[&all[..], from_ref(&further)].concat());
             self.vet(&sets, &[one.clone(), two.clone(), further]);
         }
         for to in [8, 1, 0, 16, 17, 255] {

@@ -101,7 +101,7 @@ fn short_lists(roots: &[Vec<u8>]) -> Vec<Vec<Move>> {
         for place in begin..end {
             let longer = moves
                 .iter()
-                .map(|m| [&lists[place][..], &[m.clone()]].concat());
+                .map(|m| [&lists[place][..], std::slice::from_ref(m)].concat());
             lists.extend(longer.collect::<Vec<_>>());
         }
         begin = end;

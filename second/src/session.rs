@@ -42,8 +42,8 @@ fn read_box_order(words: &[&[u8]]) -> Option<BoxOrder> {
         [b"octets", from, octets] => {
             let from = bench::read_number(from)?;
             let octets = bench::read_hex(octets)?;
-            let has_stream = from < STREAMS || from >= NEIGHBOURS;
-            has_stream.then_some(BoxOrder::Octets(from, octets))
+            let has_none = (STREAMS..NEIGHBOURS).contains(&from);
+            (!has_none).then_some(BoxOrder::Octets(from, octets))
         }
         [b"pack", to, records] => {
             let (to, records) = (bench::read_number(to)?, bench::read_hex(records)?);
