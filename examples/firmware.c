@@ -1,6 +1,6 @@
 /*
- * Cases 1 to 7 of the card's paper, through the library; then a notice, a save that is restored on another card, and a name
- * that is wrapped and unwrapped.
+ * Cases 1 to 7 of the card's paper, through the library; then a notice, a save that is restored on another card, a plan for the
+ * line to a neighbour, which is carried out, and a name that is wrapped and unwrapped.
  * Prints what was written; ends with 1 at the first answer, octet or lookup that is not as it must be.
  */
 #include "card.h"
@@ -218,6 +218,55 @@ static void swap(void)
     count_free(254);
 }
 
+/* A's root may have the neighbours of a set: 1 << 5 permits neighbour 5. */
+static void permit(uint8_t sets[CARD_SET_OCTETS], uint32_t neighbours)
+{
+    memset(sets, 0, CARD_SET_OCTETS);
+    put(sets, neighbours, 2);
+    sets[2] = sizeof root_of_a;
+    memcpy(sets + 3, root_of_a, sizeof root_of_a);
+}
+
+/* A plan for the line to neighbour 3, which feeds A: accepted, carried out, and nothing is left of that line. */
+static void clear_line_to_3(void)
+{
+    uint8_t sets[CARD_SET_OCTETS], list[CARD_LIST_MOST] = {0};
+    uint32_t answer = 77;
+    size_t entries = 77;
+    permit(sets, 1 << 1 | 1 << 3 | 1 << 5);
+    printf("Plan for neighbour 3\n");
+    if (!card_plan(numbers, names, 3, sets, sizeof sets, list, &entries, &answer) || answer != CARD_ACCEPTED)
+        fail("the plan");
+    printf("  %zu entry, over neighbour %u\n", entries, list[0]);
+    /* 1 needs no label: A's only branch comes from there, and would be held */
+    if (entries != 1 || list[0] != 1 || list[1] != sizeof root_of_a || memcmp(list + 2, root_of_a, list[1]) != 0)
+        fail("the entry");
+    if (!card_check_list(numbers, names, 3, sets, sizeof sets, list, CARD_ENTRY_OCTETS, &answer))
+        fail("a list of the planner's");
+    route("Carried out", list[0], 1, (struct record[]){{3, WITHDRAW, 9, 18}});
+    if (!card_plan(numbers, names, 3, sets, sizeof sets, list, &entries, &answer) || entries != 0)
+        fail("a line that nothing goes over");
+}
+
+/* Before it is carried out: a list with 3 itself, one with the root left out, one for a neighbour that there is not; no plan. */
+static void refuse_plans(void)
+{
+    uint8_t sets[CARD_SET_OCTETS], entry[CARD_ENTRY_OCTETS] = {3, sizeof root_of_a, 192, 0, 2, 1}, list[CARD_LIST_MOST] = {77};
+    uint32_t answer = 77;
+    size_t entries = 77;
+    permit(sets, 1 << 3);
+    if (card_check_list(numbers, names, 3, sets, sizeof sets, entry, sizeof entry, &answer) || answer != CARD_ACCEPTED)
+        fail("a list with the neighbour itself");
+    if (card_check_list(numbers, names, 3, sets, sizeof sets, entry, 0, &answer) || answer != CARD_ACCEPTED)
+        fail("a list without the root");
+    if (card_check_list(numbers, names, 16, sets, sizeof sets, entry, sizeof entry, &answer) || answer != CARD_NO_SUCH_NEIGHBOUR)
+        fail("a list for neighbour 16");
+    if (card_plan(numbers, names, 3, sets, sizeof sets, list, &entries, &answer) || answer != CARD_ACCEPTED || entries != 0)
+        fail("a plan where there is none");
+    if (list[0] != 77)
+        fail("a list where there is none");
+}
+
 /* Wraps a name in place. */
 static size_t wrap(uint8_t *name, size_t length, size_t room, const uint8_t *root, size_t root_length, size_t eight,
                    uint32_t expected)
@@ -313,6 +362,8 @@ int main(void)
     cases_5_to_7();
     tell();
     swap();
+    refuse_plans();
+    clear_line_to_3();
     wrap_and_unwrap();
     printf("as the paper has it\n");
     return 0;

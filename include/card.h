@@ -18,25 +18,27 @@
  *   - An array has at least the elements that its parameter names; a pointer followed by a length has that many octets.
  *   - A pointer is aligned as its type asks: to 8 octets for uint64_t, to 4 for uint32_t. Octets may begin anywhere.
  *   - All that is lent was set before, to anything: what is lent for writing alone (`out`, `answer`, `branches`,
- *     `fields`, `lengths`, `spare_..`) too. A static array is set; a local without an initialiser is not.
+ *     `fields`, `lengths`, `list`, `entries`, `eaten`, `spare_..`) too. A static array is set; a local without an initialiser is
+ *     not.
  *   - What one call is lent for writing shares no octet with anything else that the same call is lent.
  *   - Nobody else reads or writes during a call what it is lent for writing, or writes what it is lent as const.
- *     Lookups, card_free_labels, card_save and card_save2 are lent the card as const: several may run at once on one card, each
- *     with `branches`, `out` and `answer` of its own.
+ *     Lookups, card_free_labels, card_save, card_save2, card_check_list and card_plan are lent the card as const: several
+ *     may run at once on one card, each with `branches`, `out`, `list`, `entries` and `answer` of its own.
  *
  * A call takes no lock, asks for no memory, calls nothing outside the library but memcpy and memset, and ends.
  *
  * The most stack that each call takes, in octets, its return address counted and its arguments not. It is read from
  * the object code, over every path (tools/stack), and memcpy and memset come on top:
  *
- *     card_start         40     card_lookup_label    8     card_notice        32     card_layers       680
- *     card_receive      592     card_lookup_name    64     card_read_notice   24     card_layer        904
- *     card_join         440     card_free_labels     8     card_save         232     card_wrap          88
- *     card_leave        496                                card_save2        216     card_unwrap       104
- *     card_route        384                                card_restore      696
- *     card_lost         344                                card_restore2     696
- *                                                          card_newer        728
- *                                                          card_older        712
+ *     card_start         40     card_notice        32     card_layers       680     card_serve         600
+ *     card_receive      592     card_read_notice   24     card_layer        904     card_is_stopped      8
+ *     card_join         440     card_save         232     card_wrap          88     card_holds_message   8
+ *     card_leave        496     card_save2        216     card_unwrap       104     card_lose          392
+ *     card_route        384     card_restore      696                               card_pack          120
+ *     card_lost         344     card_restore2     696     card_check_list   320
+ *     card_lookup_label   8     card_newer        728     card_plan         960
+ *     card_lookup_name   64     card_older        712
+ *     card_free_labels    8
  */
 #ifndef CARD_H
 #define CARD_H
@@ -67,7 +69,14 @@ enum {
     CARD_NOTICE_OCTETS = 26,    /* octets of the record of a notice */
     CARD_SAVE_MOST = 55667,     /* octets of the longest save of either form */
     CARD_LAYERS_MOST = 10,      /* most layers of a name */
-    CARD_EIGHT_OCTETS = 8       /* octets before the name that a layer of type 8 holds, its route distinguisher */
+    CARD_EIGHT_OCTETS = 8,      /* octets before the name that a layer of type 8 holds, its route distinguisher */
+    CARD_SET_OCTETS = 19,       /* octets of a root's permitted set */
+    CARD_ENTRY_OCTETS = 18,     /* octets of an entry of a list */
+    CARD_LIST_MOST = 576,       /* octets of the longest list that card_plan makes */
+    CARD_STREAM_NUMBERS = 4,    /* elements of `stream` */
+    CARD_STREAM_OCTETS = 4100,  /* octets of a stream's `buffer` */
+    CARD_SERVE_ROOM = 348,      /* octets of `out` that are enough for card_serve */
+    CARD_IDENTIFIER_OCTETS = 6  /* octets of an LDP identifier */
 };
 
 /* A route: a neighbour's number, or one of these. */
@@ -97,10 +106,11 @@ enum card_answer {
     CARD_NOT_AWAITED = 13,      /* Release: that label awaits none from this neighbour for this name */
     CARD_NOT_A_LEAF = 14,       /* leave: not a leaf */
     CARD_ROOTS_FULL = 15,       /* a new root's route while 32 stand */
-    CARD_NO_ROOM = 16,          /* output shorter than the event's records, the notice's record, the save or the name */
+    CARD_NO_ROOM = 16,          /* output shorter than the event's records, the notice's record, the save, the name or the PDUs */
     CARD_BAD_BASE = 17,         /* start: base under 16 or above 1048320 */
     CARD_MALFORMED_OPAQUE = 18, /* elements do not fill the opaque value; tested after 7 and before 8 */
     CARD_BAD_SAVE = 19,         /* save, older: a value exceeds 32 octets; restore, newer, older: not the save, in that form, of a table that keeps the rules in force */
+    CARD_SESSION_SHORT = 20,    /* serve: `out` under 348 octets, or `buffer` under 4100 */
     CARD_BAD_NOTICE = 21,       /* read_notice: octets that are not one record which card_notice could write */
     CARD_LAST_LAYER = 22        /* unwrap: nothing is inside; layer: the name has no layer so far down */
 };
@@ -270,6 +280,91 @@ enum {
  */
 size_t card_unwrap(const uint8_t *name, size_t name_length, uint8_t *out, size_t out_length,
                    uint64_t lengths[CARD_OUTER_LENGTHS], uint32_t *answer);
+
+/*
+ * A plan for a line that is to be taken down: the roots that are routed through a neighbour, each with a new one. Both calls
+ * read the card and leave it as it is. They are lent
+ *
+ *     sets: for each root CARD_SET_OCTETS: the permitted neighbours in two octets, bit v for neighbour v; the root's length;
+ *           the root in a space of 16 octets. A root of which there is none may have no neighbour; of two the first counts
+ *     list: for each entry CARD_ENTRY_OCTETS: the new neighbour; the root's length; the root in a space of 16 octets
+ *
+ * and set *answer to CARD_ACCEPTED, or for a neighbour above 15 to CARD_NO_SUCH_NEIGHBOUR and return false.
+ */
+
+/*
+ * Whether a list may be carried out, whoever made it: every root that is routed through the neighbour is listed once, no
+ * other is, each new neighbour is permitted and another one, and the list needs no more labels than are free. Then
+ * card_route is not refused for any of its entries, one after the other with no event between and CARD_OUT_MOST octets of
+ * room each time, and no route through the neighbour is left.
+ */
+bool card_check_list(const uint64_t numbers[CARD_NUMBERS], const uint8_t names[CARD_NAMES], uint32_t neighbour,
+                     const uint8_t *sets, size_t sets_length, const uint8_t *list, size_t list_length,
+                     uint32_t *answer);
+
+/*
+ * Makes such a list: true, with *entries entries at the front of `list`, shorter roots first and each by rising address,
+ * where card_check_list would accept any list; of these it needs the fewest labels. Otherwise false, with *entries 0. The
+ * rest of `list` keeps its octets. Where no root is routed through the neighbour the list has 0 entries.
+ */
+bool card_plan(const uint64_t numbers[CARD_NUMBERS], const uint8_t names[CARD_NAMES], uint32_t neighbour,
+               const uint8_t *sets, size_t sets_length, uint8_t list[CARD_LIST_MOST], size_t *entries,
+               uint32_t *answer);
+
+/*
+ * The session box: the octets that TCP brings of a neighbour, as they come, read as LDP PDUs (RFC 5036). For each neighbour
+ * the caller lends a stream and a buffer. A stream of zeros is an empty one, whatever the buffer holds; from then on only
+ * the calls below write to both.
+ *
+ *     static uint64_t stream[CARD_STREAM_NUMBERS];
+ *     static uint8_t buffer[CARD_STREAM_OCTETS];
+ *     size_t at = 0, eaten = 0;
+ *     do {
+ *         written = card_serve(numbers, names, stream, buffer, sizeof buffer, 1, expected, came + at, count - at,
+ *                              out, sizeof out, &answer, &eaten);
+ *         at += eaten;
+ *     } while (at < count || card_holds_message(stream, buffer, sizeof buffer));
+ *
+ * Made so, calls end; and however what comes is cut, the records, the card and the stream are the same in the end where no
+ * other event came between. examples/box.c is a box of four neighbours.
+ */
+
+/*
+ * Octets of a neighbour, whose LDP identifier is `expected`. *eaten is set to how many of them were eaten, from their front;
+ * the caller offers the rest again. A call eats no further than the end of a PDU and hands at most one message to the card.
+ * It returns how many octets of `out` it wrote, records as an event writes them. *answer is set to
+ *
+ *     CARD_NO_SUCH_NEIGHBOUR   the neighbour is above 15; nothing was eaten
+ *     CARD_SESSION_SHORT       `out` has under CARD_SERVE_ROOM octets or `buffer` under CARD_STREAM_OCTETS; nothing was eaten
+ *     what card_receive says   where a message was handed on: it is eaten, refused or not, and the next one may be read
+ *     CARD_ACCEPTED            where none was
+ *
+ * A version other than 1, a length field under 14 or above 4096, another identifier, or a message that runs past its PDU
+ * stops the stream: what was offered is eaten and dropped, and all that comes later, until card_lose.
+ */
+size_t card_serve(uint64_t numbers[CARD_NUMBERS], uint8_t names[CARD_NAMES], uint64_t stream[CARD_STREAM_NUMBERS],
+                  uint8_t *buffer, size_t buffer_length, uint32_t neighbour,
+                  const uint8_t expected[CARD_IDENTIFIER_OCTETS], const uint8_t *offered, size_t offered_length,
+                  uint8_t *out, size_t out_length, uint32_t *answer, size_t *eaten);
+
+/* Whether a stream has stopped. */
+bool card_is_stopped(const uint64_t stream[CARD_STREAM_NUMBERS]);
+
+/* Whether a stream holds a whole message that no call has handed on: card_serve then goes on with nothing offered too. */
+bool card_holds_message(const uint64_t stream[CARD_STREAM_NUMBERS], const uint8_t *buffer, size_t buffer_length);
+
+/* card_lost for a neighbour with a stream: where *answer is CARD_ACCEPTED the stream is empty, and reads again. */
+size_t card_lose(uint64_t numbers[CARD_NUMBERS], uint8_t names[CARD_NAMES], uint64_t stream[CARD_STREAM_NUMBERS],
+                 uint32_t neighbour, uint8_t *out, size_t out_length, uint32_t *answer);
+
+/*
+ * The messages to a neighbour among these records, in order, in PDUs of the sender `id`, each as full of whole messages as
+ * 4096 octets allow. Sets *answer to CARD_ACCEPTED, CARD_NO_SUCH_NEIGHBOUR or CARD_NO_ROOM and returns how many octets of
+ * `out` it wrote, from its front; the rest of `out` keeps its octets. No message makes no PDU. Twice the octets of the
+ * records are never too short. No card is lent.
+ */
+size_t card_pack(const uint8_t *records, size_t records_length, uint32_t neighbour,
+                 const uint8_t id[CARD_IDENTIFIER_OCTETS], uint8_t *out, size_t out_length, uint32_t *answer);
 
 #ifdef __cplusplus
 }

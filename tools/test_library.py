@@ -37,6 +37,13 @@ SIZES = {
     "CARD_OUT_MOST": "SENT_LIMIT",
     "CARD_SAVE_MOST": "SAVE_LIMIT",
     "CARD_EIGHT_OCTETS": "EIGHT_SIZE",
+    "CARD_SET_OCTETS": "SET_SIZE",
+    "CARD_ENTRY_OCTETS": "ENTRY_SIZE",
+    "CARD_LIST_MOST": "LIST_LIMIT",
+    "CARD_STREAM_NUMBERS": "STREAM_NUMBERS",
+    "CARD_STREAM_OCTETS": "STREAM_ROOM",
+    "CARD_SERVE_ROOM": "MESSAGE_ROOM",
+    "CARD_IDENTIFIER_OCTETS": "IDENTIFIER_SIZE",
 }
 PLACES = {"16": "CARD_NEIGHBOURS", "5": "CARD_FIELDS", "4": "CARD_LAYER_FIELDS", "2": "CARD_OUTER_LENGTHS"}
 LENGTHS = {**{rattle: c for c, rattle in SIZES.items()}, **PLACES}
@@ -46,7 +53,7 @@ WIDTHS = {"u8": "uint8_t", "u32": "uint32_t", "u64": "uint64_t", "usize": "size_
 def constants():
     """The named sizes of the crates that have some."""
     known = {}
-    for crate in ("meaning", "meaning_layers", "memory"):
+    for crate in ("meaning", "meaning_layers", "meaning_plan", "memory", "session"):
         source = (made.ROOT / "crates" / crate / "src/lib.rt").read_text(encoding="utf-8")
         for name, value in re.findall(r"^pub const (\w+): \w+ =([^;]+);", source, re.M):
             words = re.sub(r" as \w+", "", value).replace("/", "//")
