@@ -61,6 +61,23 @@ use Rattle.firmware_saves.proofs.card_restore.Reads as card-restore-reads
 use Rattle.firmware_saves.proofs.card_restore2.Reads as card-restore2-reads
 use Rattle.firmware_saves.proofs.card_newer.Reads as card-newer-reads
 use Rattle.firmware_saves.proofs.card_older.Reads as card-older-reads
+use Rattle.meaning_layers.specs.LayerCalls.{writes-one, hands-part-one}
+use Rattle.wire_layers.proofs.inner_start.Reads as inner-start-reads
+use Rattle.wire_layers.proofs.eight_of.Reads as eight-of-reads
+use Rattle.wire_layers.proofs.layer_count.Reads as layer-count-reads
+use Rattle.wire_layers.proofs.layer_start.Reads as layer-start-reads
+use Rattle.wire_wraps.proofs.wrap.Reads as wrap-reads
+use Rattle.wire_wraps.proofs.wrap_core.Reads as wrap-core-reads
+use Rattle.wire_wraps.proofs.unwrap.Reads as unwrap-reads
+use Rattle.wire_wraps.proofs.unwrap_core.Reads as unwrap-core-reads
+use Rattle.firmware_layers.proofs.card_layers.Reads as card-layers-reads
+use Rattle.firmware_layers.proofs.card_layer.Reads as card-layer-reads
+use Rattle.firmware_layers.proofs.card_wrap.Reads as card-wrap-reads
+use Rattle.firmware_layers.proofs.card_unwrap.Reads as card-unwrap-reads
+use Rattle.plan_check.proofs.check_list.Reads as check-list-reads
+use Rattle.plan_make.proofs.plan.Reads as plan-reads
+use Rattle.firmware_plans.proofs.card_check_list.Reads as card-check-list-reads
+use Rattle.firmware_plans.proofs.card_plan.Reads as card-plan-reads
 
 -- ---- sixteen places are told by their feed
 
@@ -234,3 +251,55 @@ card-newer-one κs a r r′ s s′ h h′ = moves-one _ _ _ _ _ _ _ _ h h′
 
 pub card-older-one : (κs : _) (a : _) (r r′ : _) (s s′ : _) → card-older-reads.Learnt κs a r s → card-older-reads.Learnt κs a r′ s′ → (now (s .1 .1 .1 .1 .1 .0) ≡ now (s′ .1 .1 .1 .1 .1 .0)) × (r ≡ r′) × (now (s .1 .1 .1 .1 .0) ≡ now (s′ .1 .1 .1 .1 .0))
 card-older-one κs a r r′ s s′ h h′ = moves-one _ _ _ _ _ _ _ _ h h′
+
+-- ---- names inside names: no card is lent
+
+pub inner-start-one : (κs : _) (a : _) (r r′ : _) (s s′ : _) → inner-start-reads.Learnt κs a r s → inner-start-reads.Learnt κs a r′ s′ → r ≡ r′
+inner-start-one κs a r r′ s s′ h h′ = h .0 ∙ sym (h′ .0)
+
+pub layer-count-one : (κs : _) (a : _) (r r′ : _) (s s′ : _) → layer-count-reads.Learnt κs a r s → layer-count-reads.Learnt κs a r′ s′ → r ≡ r′
+layer-count-one κs a r r′ s s′ h h′ = h .0 ∙ sym (h′ .0)
+
+pub layer-start-one : (κs : _) (a : _) (r r′ : _) (s s′ : _) → layer-start-reads.Learnt κs a r s → layer-start-reads.Learnt κs a r′ s′ → r ≡ r′
+layer-start-one κs a r r′ s s′ h h′ = h .0 ∙ sym (h′ .0)
+
+pub eight-of-one : (κs : _) (a : _) (r r′ : _) (s s′ : _) → eight-of-reads.Learnt κs a r s → eight-of-reads.Learnt κs a r′ s′ → now r ≡ now r′
+eight-of-one κs a r r′ s s′ h h′ = h ∙ sym h′
+
+pub card-layers-one : (κs : _) (a : _) (r r′ : _) (s s′ : _) → card-layers-reads.Learnt κs a r s → card-layers-reads.Learnt κs a r′ s′ → (now (s .1 .0) ≡ now (s′ .1 .0)) × (r ≡ r′)
+card-layers-one κs a r r′ s s′ h h′ = (h .0 ∙ sym (h′ .0), h .1 ∙ sym (h′ .1))
+
+pub card-layer-one : (κs : _) (a : _) (r r′ : _) (s s′ : _) → card-layer-reads.Learnt κs a r s → card-layer-reads.Learnt κs a r′ s′ → (r ≡ r′) × (now (s .1 .1 .0) ≡ now (s′ .1 .1 .0))
+card-layer-one κs a r r′ s s′ h h′ = (h .0 ∙ sym (h′ .0), h .1 ∙ sym (h′ .1))
+
+pub wrap-one : (κs : _) (a : _) (r r′ : _) (s s′ : _) → wrap-reads.Learnt κs a r s → wrap-reads.Learnt κs a r′ s′ → (now (s .1 .1 .1 .1 .0) ≡ now (s′ .1 .1 .1 .1 .0)) × (now r ≡ now r′)
+wrap-one κs a r r′ s s′ h h′ = hands-part-one _ _ _ _ _ _ (h .0) (h′ .0)
+
+pub wrap-core-one : (κs : _) (a : _) (r r′ : _) (s s′ : _) → wrap-core-reads.Learnt κs a r s → wrap-core-reads.Learnt κs a r′ s′ → (now (s .1 .1 .1 .1 .0) ≡ now (s′ .1 .1 .1 .1 .0)) × (r ≡ r′) × (now (s .1 .1 .1 .0) ≡ now (s′ .1 .1 .1 .0))
+wrap-core-one κs a r r′ s s′ h h′ = writes-one _ _ _ _ _ _ _ _ _ h h′
+
+pub card-wrap-one : (κs : _) (a : _) (r r′ : _) (s s′ : _) → card-wrap-reads.Learnt κs a r s → card-wrap-reads.Learnt κs a r′ s′ → (now (s .1 .1 .1 .1 .0) ≡ now (s′ .1 .1 .1 .1 .0)) × (r ≡ r′) × (now (s .1 .1 .1 .0) ≡ now (s′ .1 .1 .1 .0))
+card-wrap-one κs a r r′ s s′ h h′ = writes-one _ _ _ _ _ _ _ _ _ h h′
+
+pub unwrap-one : (κs : _) (a : _) (r r′ : _) (s s′ : _) → unwrap-reads.Learnt κs a r s → unwrap-reads.Learnt κs a r′ s′ → (now (s .1 .1 .1 .0) ≡ now (s′ .1 .1 .1 .0)) × (now r ≡ now r′) × (now (s .1 .1 .0) ≡ now (s′ .1 .1 .0))
+unwrap-one κs a r r′ s s′ h h′ = let o = hands-part-one _ _ _ _ _ _ (h .0 .0) (h′ .0 .0) in (o .0, o .1, h .0 .2 ∙ sym (h′ .0 .2))
+
+pub unwrap-core-one : (κs : _) (a : _) (r r′ : _) (s s′ : _) → unwrap-core-reads.Learnt κs a r s → unwrap-core-reads.Learnt κs a r′ s′ → (now (s .1 .1 .1 .0) ≡ now (s′ .1 .1 .1 .0)) × (r ≡ r′) × (now (s .1 .0) ≡ now (s′ .1 .0)) × (now (s .1 .1 .0) ≡ now (s′ .1 .1 .0))
+unwrap-core-one κs a r r′ s s′ h h′ = let o = writes-one _ _ _ _ _ _ _ _ _ (h .0) (h′ .0) in (o .0, o .1, o .2, h .2 ∙ sym (h′ .2))
+
+pub card-unwrap-one : (κs : _) (a : _) (r r′ : _) (s s′ : _) → card-unwrap-reads.Learnt κs a r s → card-unwrap-reads.Learnt κs a r′ s′ → (now (s .1 .1 .1 .0) ≡ now (s′ .1 .1 .1 .0)) × (r ≡ r′) × (now (s .1 .0) ≡ now (s′ .1 .0)) × (now (s .1 .1 .0) ≡ now (s′ .1 .1 .0))
+card-unwrap-one κs a r r′ s s′ h h′ = let o = writes-one _ _ _ _ _ _ _ _ _ (h .0) (h′ .0) in (o .0, o .1, o .2, h .2 ∙ sym (h′ .2))
+
+-- ---- plans: the card is lent to be read alone
+
+pub check-list-one : (κs : _) (a : _) (r r′ : _) (s s′ : _) → check-list-reads.Learnt κs a r s → check-list-reads.Learnt κs a r′ s′ → r ≡ r′
+check-list-one κs a r r′ s s′ h h′ = h ∙ sym h′
+
+pub card-check-list-one : (κs : _) (a : _) (r r′ : _) (s s′ : _) → card-check-list-reads.Learnt κs a r s → card-check-list-reads.Learnt κs a r′ s′ → (r ≡ r′) × (now (s .1 .1 .1 .1 .1 .0) ≡ now (s′ .1 .1 .1 .1 .1 .0))
+card-check-list-one κs a r r′ s s′ h h′ = (h .0 ∙ sym (h′ .0), h .1 ∙ sym (h′ .1))
+
+pub plan-one : (κs : _) (a : _) (r r′ : _) (s s′ : _) → plan-reads.Learnt κs a r s → plan-reads.Learnt κs a r′ s′ → (r ≡ r′) × (now (s .1 .1 .1 .1 .0) ≡ now (s′ .1 .1 .1 .1 .0))
+plan-one κs a r r′ s s′ h h′ = (h .0 .0 ∙ sym (h′ .0 .0), h .0 .1 ∙ sym (h′ .0 .1))
+
+pub card-plan-one : (κs : _) (a : _) (r r′ : _) (s s′ : _) → card-plan-reads.Learnt κs a r s → card-plan-reads.Learnt κs a r′ s′ → (r ≡ r′) × (now (s .1 .1 .1 .1 .0) ≡ now (s′ .1 .1 .1 .1 .0)) × (now (s .1 .1 .1 .1 .1 .0) ≡ now (s′ .1 .1 .1 .1 .1 .0)) × (now (s .1 .1 .1 .1 .1 .1 .0) ≡ now (s′ .1 .1 .1 .1 .1 .1 .0))
+card-plan-one κs a r r′ s s′ h h′ = (h .0 ∙ sym (h′ .0), h .1 ∙ sym (h′ .1), h .2 ∙ sym (h′ .2), h .3 ∙ sym (h′ .3))
