@@ -114,6 +114,12 @@ def needs_archive(what):
     return unittest.skip(why)
 
 
+def make_command(*words):
+    """`make` in library/, with the archives taken as they are."""
+    kept = [word for part in PARTS for word in ("-o", f"../target/staticlib/libfirmware_{part}.a")]
+    return ["make", "-s", "--no-print-directory", "-C", made.ROOT / "library", *kept, *words]
+
+
 class Header(unittest.TestCase):
     def test_sizes_are_those_of_the_sources(self):
         known = constants()
@@ -180,10 +186,7 @@ class Stack(unittest.TestCase):
 @needs_archive("examples/firmware.c is not built")
 class Library(unittest.TestCase):
     def make(self, *words):
-        # the archives are taken as they are
-        kept = [word for part in PARTS for word in ("-o", f"../target/staticlib/libfirmware_{part}.a")]
-        command = ["make", "-s", "--no-print-directory", "-C", made.ROOT / "library", *kept, *words]
-        return subprocess.run(command, capture_output=True, text=True, check=False)
+        return subprocess.run(make_command(*words), capture_output=True, text=True, check=False)
 
     def test_installed_and_taken_away(self):
         with tempfile.TemporaryDirectory() as folder:
