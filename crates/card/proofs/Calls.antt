@@ -14,7 +14,8 @@ use Rattle.meaning_laws.specs.RoundTrip.{heard, name-fits}
 use Rattle.meaning.specs.Card.{Card, fresh, withNext}
 use Rattle.meaning.specs.Events.{Outcome, refused, unless, refuse, accept, finish, onMapping, onWithdraw, onRelease, onMessage, noNeighbour, onOctets, onJoin, onLeave, notRoute, notRoot, onRoute, part, onLost, receive, join, leave, route, lost, outcome, event, baseOutside, start}
 use Rattle.meaning.specs.Calls.{Does}
-use Rattle.event_leaf.specs.Order.{joinOf, leaveOf}
+use Rattle.event_join.specs.Order.{joinOf}
+use Rattle.event_leave.specs.Order.{leaveOf}
 use Rattle.event_tree.proofs.Ends.{does-refused}
 use Rattle.event_route.specs.Order.{routeOrder}
 use Rattle.card.specs.Calls.{onRead}

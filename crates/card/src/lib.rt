@@ -152,7 +152,7 @@ pub fn join_core(
         *answer = refusal;
         return 0;
     }
-    event_leaf::join(numbers, names, element, out, answer)
+    event_join::join(numbers, names, element, out, answer)
 }
 
 pub fn join<'a>(
@@ -184,7 +184,7 @@ pub fn leave_core(
         *answer = refusal;
         return 0;
     }
-    event_leaf::leave(numbers, names, element, out, answer)
+    event_leave::leave(numbers, names, element, out, answer)
 }
 
 pub fn leave<'a>(

@@ -1,4 +1,4 @@
-use Rattle.event_leaf.proofs.Leaf.{joined-new, join-new}
+use Rattle.event_join.proofs.Joins.{joined-new, join-new}
 use Rattle.event_tree.proofs.Found.{zero-free, count-is}
 use Rattle.event_tree.proofs.Newcomer.{new-refused, few-trees-stand, snoc-length, grow-ready, grown-done, entered-changed}
 use mathlib.Core.Path.{refl, sym, _∙_}
@@ -8,8 +8,8 @@ use Rattle.meaning.specs.Card.{withLeaf}
 use Rattle.memory.specs.Memory.{cardOf}
 use Rattle.memory.proofs.Memory.{trees-length}
 use borrow.Author.Needs.{needs}
-use Rattle.event_leaf.proofs.join_new.Statement.{statement}
-use Rattle.event_leaf.proofs.join_new.Tie as tie
+use Rattle.event_join.proofs.join_new.Statement.{statement}
+use Rattle.event_join.proofs.join_new.Tie as tie
 
 upstream-of-requires : tie.Need-upstream-of-requires
 upstream-of-requires c κs = search needs

@@ -1,9 +1,8 @@
 use borrow.Author.Tests.{not-false, not-true}
-use Rattle.event_leaf.proofs.Leaf.{leave-leaf, leave-labels, leave-no-leaf, leaf-stands, leaf-gone}
+use Rattle.event_leave.proofs.Leaves.{leave-leaf, leave-labels, leave-no-leaf, left-standing, leaf-gone}
 use Rattle.event_tree.proofs.Ends.{no-records}
 use Rattle.event_tree.proofs.Standing.{standing-refused, standing-taken, standing-ends, settle-ready}
 use mathlib.Core.Path.{sym, _∙_}
-use mathlib.Core.Bool.{false}
 use mathlib.Core.List.{[]}
 use Prim.Native.Nat.{_<_}
 use lib.ListN.{length}
@@ -12,8 +11,8 @@ use Rattle.memory.specs.Memory.{cardOf}
 use Rattle.memory.proofs.Memory.{trees-length}
 use Rattle.memory.proofs.Trees.{branches-length}
 use borrow.Author.Needs.{needs}
-use Rattle.event_leaf.proofs.leave_standing.Statement.{statement}
-use Rattle.event_leaf.proofs.leave_standing.Tie as tie
+use Rattle.event_leave.proofs.leave_standing.Statement.{statement}
+use Rattle.event_leave.proofs.leave_standing.Tie as tie
 
 any-branch-requires : tie.Need-any-branch-requires
 any-branch-requires c κs = search needs
@@ -43,7 +42,7 @@ returns c =
     let card = (cardOf (start .args .numbers .now) (start .args .names .now)) in
     let within : start .args .i < length (card .trees) = rw trees-length (start .pre .2) in
     let none = leaf-gone (treeAt (start .args .i) card) _ (branches-length _ _ _ (start .pre .2)) (the-any-branch .ensures _) in
-    let S = leaf-stands card (start .args .i) (start .pre .4) within _ false (the-leaf-holder .ensures .0) in
+    let S = left-standing card (start .args .i) (start .pre .4) within _ (the-leaf-holder .ensures .0) in
     leave-labels card _ (start .args .i) _ (start .pre .4) S (sym (the-is-leaf .ensures _) ∙ not-true _ (the-if1 .taken)) _ (sym (c .before .no-label-for .ensures _) ∙ c .if2 .taken)
 
 same-length-3 : tie.Need-same-length-3
@@ -62,7 +61,7 @@ returns-2 c =
     let card = (cardOf (start .args .numbers .now) (start .args .names .now)) in
     let within : start .args .i < length (card .trees) = rw trees-length (start .pre .2) in
     let none = leaf-gone (treeAt (start .args .i) card) _ (branches-length _ _ _ (start .pre .2)) (the-any-branch .ensures _) in
-    let S = leaf-stands card (start .args .i) (start .pre .4) within _ false (the-leaf-holder .ensures .0) in
+    let S = left-standing card (start .args .i) (start .pre .4) within _ (the-leaf-holder .ensures .0) in
     leave-no-leaf card _ (start .args .i) _ (start .pre .4) S (sym (the-is-leaf .ensures _) ∙ not-true _ (the-if1 .taken)) _ (sym (c .before .no-label-for .ensures _) ∙ c .if2 .left)
 
 standing-refusal-requires : tie.Need-standing-refusal-requires
@@ -84,7 +83,7 @@ returns-3 c =
     let card = (cardOf (start .args .numbers .now) (start .args .names .now)) in
     let within : start .args .i < length (card .trees) = rw trees-length (start .pre .2) in
     let none = leaf-gone (treeAt (start .args .i) card) _ (branches-length _ _ _ (start .pre .2)) (the-any-branch .ensures _) in
-    let S = leaf-stands card (start .args .i) (start .pre .4) within _ false (the-leaf-holder .ensures .0) in
+    let S = left-standing card (start .args .i) (start .pre .4) within _ (the-leaf-holder .ensures .0) in
     rw (leave-leaf card _ (start .args .i) (start .pre .4) within (sym (the-is-leaf .ensures _) ∙ not-false _ (the-if1 .left)))
     (standing-refused card [] _ _ _ S _ 0 _ (no-records _) (c .before .standing-refusal .ensures) (c .if3 .taken))
 
@@ -105,7 +104,7 @@ settle-requires c κs =
     let card = (cardOf (start .args .numbers .now) (start .args .names .now)) in
     let within : start .args .i < length (card .trees) = rw trees-length (start .pre .2) in
     let none = leaf-gone (treeAt (start .args .i) card) _ (branches-length _ _ _ (start .pre .2)) (the-any-branch .ensures _) in
-    let S = leaf-stands card (start .args .i) (start .pre .4) within _ false (the-leaf-holder .ensures .0) in
+    let S = left-standing card (start .args .i) (start .pre .4) within _ (the-leaf-holder .ensures .0) in
     let R = settle-ready card [] _ _ _ S (start .args .out .now) 0 _ (no-records _) (the-standing-refusal .ensures) (the-if3 .left) _ _ (the-change-leaf .ensures) in
     (search needs, search needs, R .0, search needs, search needs, search needs, R .1, R .2)
 
@@ -133,7 +132,7 @@ returns-4 c =
     let card = (cardOf (start .args .numbers .now) (start .args .names .now)) in
     let within : start .args .i < length (card .trees) = rw trees-length (start .pre .2) in
     let none = leaf-gone (treeAt (start .args .i) card) _ (branches-length _ _ _ (start .pre .2)) (the-any-branch .ensures _) in
-    let S = leaf-stands card (start .args .i) (start .pre .4) within _ false (the-leaf-holder .ensures .0) in
+    let S = left-standing card (start .args .i) (start .pre .4) within _ (the-leaf-holder .ensures .0) in
     rw (leave-leaf card _ (start .args .i) (start .pre .4) within (sym (the-is-leaf .ensures _) ∙ not-false _ (the-if1 .left)))
     (standing-taken card [] _ _ _ S (start .args .out .now) 0 _ (no-records _) (the-standing-refusal .ensures) (the-if3 .left) _ _ _
     (standing-ends card [] _ _ _ S (start .args .out .now) _ _ _ _ _ _ (the-next-id .ensures _) (the-change-leaf .ensures) none (the-settle .ensures)))

@@ -1,4 +1,4 @@
-// A leaf that joins a tree or leaves one. Each tests all its refusals, 16 too, before it changes the table or writes an octet.
+// A leaf that joins a tree. All refusals, 16 too, are tested before the table changes or an octet is written.
 ghost use mathlib.Core.Path.{_≡_};
 ghost use Prim.Native.Nat.{_≤_, _<_};
 ghost use lib.ListN.{length};
@@ -8,7 +8,7 @@ ghost use Rattle.meaning.specs.Events.{finish};
 ghost use Rattle.meaning.specs.Calls.{Does};
 ghost use Rattle.memory.specs.Sizes.{Numbers, Names};
 ghost use Rattle.memory.specs.Memory.{cardOf, treeCount};
-ghost use Rattle.event_leaf.specs.Order.{joinOf, leaveOf};
+ghost use Rattle.event_join.specs.Order.{joinOf};
 
 // A leaf joins the tree at place i.
 fn join_standing(
@@ -77,57 +77,4 @@ pub fn join(
         return join_standing(numbers, names, i, out, answer);
     }
     join_new(numbers, names, name, out, answer)
-}
-
-// The leaf of the tree at place i leaves.
-fn leave_standing(
-    numbers: &mut [u64],
-    names: &mut [u8],
-    i: usize,
-    out: &mut [u8],
-    answer: &mut u32,
-) -> usize
-    requires { ⌜ (let c = cardOf (now numbers) (now names) in Numbers (now numbers) × Names (now names) × (i < treeCount (now numbers)) × (i < treeLimit)
-        × (i ≡ treePlace (treeAt i c .name) c)) ⌝ }
-    ensures { λ r. ⌜ (let c = cardOf (now (numbers .entry)) (now (names .entry)) in Does (finish (length (now (out .entry))) c (leaveOf c (treeAt i c .name)))
-        (now (answer .exit)) r (now (out .entry)) (now (out .exit)) (cardOf (now (numbers .exit)) (now (names .exit)))) ⌝ }
-{
-    let empty = !memory_trees::any_branch(numbers, i, 16, 0, 16);
-    let u = event_tree::leaf_holder(numbers, names, i, false);
-    if !memory_trees::is_leaf(numbers, i) {
-        *answer = if event_holder::no_label_for(numbers, i, u) {
-            12
-        } else {
-            14
-        };
-        return 0;
-    }
-    let refusal = event_tree::standing_refusal(numbers, names, i, u, 0, out.len());
-    if refusal != 0 {
-        *answer = refusal;
-        return 0;
-    }
-    let id = memory::next_id(numbers);
-    memory_counts::change_leaf(numbers, names, i, false);
-    *answer = 0;
-    event_tree::settle(numbers, names, i, u, empty, out, 0, id)
-}
-
-pub fn leave(
-    numbers: &mut [u64],
-    names: &mut [u8],
-    name: &[u8],
-    out: &mut [u8],
-    answer: &mut u32,
-) -> usize
-    requires { ⌜ Numbers (now numbers) × Names (now names) ⌝ }
-    ensures { λ r. ⌜ (let c = cardOf (now (numbers .entry)) (now (names .entry)) in Does (finish (length (now (out .entry))) c (leaveOf c (now (name .entry))))
-        (now (answer .exit)) r (now (out .entry)) (now (out .exit)) (cardOf (now (numbers .exit)) (now (names .exit)))) ⌝ }
-{
-    let i = memory_trees::tree_place(numbers, names, name);
-    if i < memory::tree_count(numbers) {
-        return leave_standing(numbers, names, i, out, answer);
-    }
-    *answer = 14;
-    0
 }

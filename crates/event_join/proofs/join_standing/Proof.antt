@@ -1,17 +1,16 @@
 use mathlib.Core.Path.{sym}
-use mathlib.Core.Bool.{true}
 use mathlib.Core.List.{[]}
 use Prim.Native.Nat.{_<_}
 use lib.ListN.{length}
 use Rattle.meaning.specs.Card.{treeAt}
 use Rattle.memory.specs.Memory.{cardOf}
 use Rattle.memory.proofs.Memory.{trees-length}
-use Rattle.event_leaf.proofs.Leaf.{join-standing, leaf-stands, leaf-full}
+use Rattle.event_join.proofs.Joins.{join-standing, joined-standing, leaf-full}
 use Rattle.event_tree.proofs.Ends.{no-records}
 use Rattle.event_tree.proofs.Standing.{standing-refused, standing-taken, standing-ends, settle-ready}
 use borrow.Author.Needs.{needs}
-use Rattle.event_leaf.proofs.join_standing.Statement.{statement}
-use Rattle.event_leaf.proofs.join_standing.Tie as tie
+use Rattle.event_join.proofs.join_standing.Statement.{statement}
+use Rattle.event_join.proofs.join_standing.Tie as tie
 
 leaf-holder-requires : tie.Need-leaf-holder-requires
 leaf-holder-requires c κs = search needs
@@ -31,7 +30,7 @@ returns c =
     let the-leaf-holder = c .before .before .before .before .leaf-holder in
     let card = (cardOf (start .args .numbers .now) (start .args .names .now)) in
     let within : start .args .i < length (card .trees) = rw trees-length (start .pre .2) in
-    let S = leaf-stands card (start .args .i) (start .pre .4) within _ true (the-leaf-holder .ensures .0) in
+    let S = joined-standing card (start .args .i) (start .pre .4) within _ (the-leaf-holder .ensures .0) in
     rw (join-standing card _ (start .args .i) (start .pre .4) within)
     (standing-refused card [] _ _ _ S _ 0 _ (no-records _) (c .before .standing-refusal .ensures) (c .if1 .taken))
 
@@ -50,7 +49,7 @@ settle-requires c κs =
     let the-change-leaf = c .before .before .before .before .before .change-leaf in
     let card = (cardOf (start .args .numbers .now) (start .args .names .now)) in
     let within : start .args .i < length (card .trees) = rw trees-length (start .pre .2) in
-    let S = leaf-stands card (start .args .i) (start .pre .4) within _ true (the-leaf-holder .ensures .0) in
+    let S = joined-standing card (start .args .i) (start .pre .4) within _ (the-leaf-holder .ensures .0) in
     let R = settle-ready card [] _ _ _ S (start .args .out .now) 0 _ (no-records _) (the-standing-refusal .ensures) (the-if1 .left) _ _ (the-change-leaf .ensures) in
     (search needs, search needs, R .0, search needs, search needs, search needs, R .1, R .2)
 
@@ -74,7 +73,7 @@ returns-2 c =
     let the-settle = c .before .before .before .before .before .before .settle in
     let card = (cardOf (start .args .numbers .now) (start .args .names .now)) in
     let within : start .args .i < length (card .trees) = rw trees-length (start .pre .2) in
-    let S = leaf-stands card (start .args .i) (start .pre .4) within _ true (the-leaf-holder .ensures .0) in
+    let S = joined-standing card (start .args .i) (start .pre .4) within _ (the-leaf-holder .ensures .0) in
     rw (join-standing card _ (start .args .i) (start .pre .4) within)
     (standing-taken card [] _ _ _ S (start .args .out .now) 0 _ (no-records _) (the-standing-refusal .ensures) (the-if1 .left) _ _ _
     (standing-ends card [] _ _ _ S (start .args .out .now) _ _ _ _ _ _ (the-next-id .ensures _) (the-change-leaf .ensures) (sym (leaf-full (treeAt (start .args .i) card))) (the-settle .ensures)))

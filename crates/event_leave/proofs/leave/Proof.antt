@@ -3,11 +3,11 @@ use Prim.Native.Nat.{_<_}
 use lib.ListN.{length}
 use Rattle.memory.specs.Memory.{cardOf, treeCount}
 use Rattle.memory.proofs.Memory.{trees-length}
-use Rattle.event_leaf.proofs.Leaf.{leave-unknown}
+use Rattle.event_leave.proofs.Leaves.{leave-unknown}
 use Rattle.event_tree.proofs.Found.{at-name, own-place, zero-free}
 use borrow.Author.Needs.{needs}
-use Rattle.event_leaf.proofs.leave.Statement.{statement}
-use Rattle.event_leaf.proofs.leave.Tie as tie
+use Rattle.event_leave.proofs.leave.Statement.{statement}
+use Rattle.event_leave.proofs.leave.Tie as tie
 
 tree-place-requires : tie.Need-tree-place-requires
 tree-place-requires c κs = search needs

@@ -1,14 +1,11 @@
--- The leaf orders. Assumes nothing.
+-- The order that a leaf leaves. Assumes nothing.
 use Prim.Native.Nat.{ℕ}
-use mathlib.Core.Bool.{true, false}
+use mathlib.Core.Bool.{false}
 use mathlib.Core.List.{List, []}
 use Rattle.meaning.specs.Octets.{_when_else_}
 use Rattle.meaning.specs.Card.{Card, withLeaf, treeOf}
-use Rattle.meaning.specs.Events.{Outcome, unless, treeRefusal, enter, become, notLeaf}
+use Rattle.meaning.specs.Events.{Outcome, unless, treeRefusal, enter, notLeaf}
 
--- a leaf order on octets that 6, 7 and 18 pass
-unfoldable pub joinOf : Card → List ℕ → Outcome
-joinOf c a = become c [] (withLeaf true (treeOf a c))
-
+-- on octets that 6, 7 and 18 pass
 unfoldable pub leaveOf : Card → List ℕ → Outcome
 leaveOf c a = unless (treeRefusal c (withLeaf false (treeOf a c))) (unless (14 when notLeaf (treeOf a c) else 0) (enter c [] (withLeaf false (treeOf a c))))

@@ -5,8 +5,8 @@ use Rattle.memory.specs.Memory.{cardOf, treeCount}
 use Rattle.memory.proofs.Memory.{trees-length}
 use Rattle.event_tree.proofs.Found.{at-name, own-place}
 use borrow.Author.Needs.{needs}
-use Rattle.event_leaf.proofs.join.Statement.{statement}
-use Rattle.event_leaf.proofs.join.Tie as tie
+use Rattle.event_join.proofs.join.Statement.{statement}
+use Rattle.event_join.proofs.join.Tie as tie
 
 tree-place-requires : tie.Need-tree-place-requires
 tree-place-requires c κs = search needs
