@@ -1,7 +1,7 @@
 -- The laws by which the calls follow the definitions. Assumes nothing.
-use Prim.Native.Nat.{ℕ, zero, suc, _≤_, _<_}
+use Prim.Native.Nat.{ℕ, _≤_, _<_}
 use native.Mathlib.Omega.{arith}
-use mathlib.Core.Path.{_≡_, refl, sym, ap, _∙_, subst}
+use mathlib.Core.Path.{_≡_, refl, sym, ap}
 use mathlib.Core.Bool.{true, false, not, and-false}
 use mathlib.Core.List.{List}
 use lib.ListN.{length}
@@ -9,16 +9,16 @@ use lib.Dec.{eqb, leb}
 use borrow.Author.Tests.{eq-eqb, ne-eqb, eqb-true, le-leb, lt-leb, le-ltb, lt-ltb}
 use Rattle.meaning.specs.Octets.{_when_else_}
 use Rattle.meaning.specs.Lists.{positive, by-test}
-use Rattle.meaning.specs.Wire.{Message, mapping, withdraw, release, messageIn, messageRefusal, elementRefusal, nameLimit}
-use Rattle.meaning_laws.specs.RoundTrip.{heard, name-fits}
+use Rattle.meaning.specs.Wire.{elementRefusal}
 use Rattle.meaning.specs.Card.{Card, fresh, withNext}
-use Rattle.meaning.specs.Events.{Outcome, refused, unless, refuse, accept, finish, onMapping, onWithdraw, onRelease, onMessage, noNeighbour, onOctets, onJoin, onLeave, notRoute, notRoot, onRoute, part, onLost, receive, join, leave, route, lost, outcome, event, baseOutside, start}
+use Rattle.meaning.specs.Events.{unless, refuse, accept, finish, noNeighbour, onOctets, onJoin, onLeave, notRoute, notRoot, onRoute, part, onLost, receive, join, leave, route, lost, outcome, event, baseOutside, start}
 use Rattle.meaning.specs.Calls.{Does}
 use Rattle.event_join.specs.Order.{joinOf}
 use Rattle.event_leave.specs.Order.{leaveOf}
 use Rattle.event_tree.proofs.Ends.{does-refused}
 use Rattle.event_route.specs.Order.{routeOrder}
-use Rattle.card.specs.Calls.{onRead}
+use Rattle.card_messages.specs.Messages.{onRead}
+use Rattle.card_messages.proofs.Messages.{unless-refused, unless-none}
 
 -- ---- start
 
@@ -49,44 +49,9 @@ module _ (base : ℕ) where
   unfolding start
   starts h k = rw (inside h k) (unfold accept fresh withNext in (refl, refl))
 
--- ---- a message by its kind
-
-module _ (c : Card) (n : ℕ) (m : Message) where
-  pub says-mapping : m .kind ≡ mapping → onMapping c n (m .name) (m .label) ≡ onMessage c n m
-  unfolding onMessage
-  says-mapping e = rw (eq-eqb (m .kind) mapping e) refl
-
-  pub says-withdraw : (m .kind ≡ mapping → ⊥) → m .kind ≡ withdraw → onWithdraw c n (m .name) (m .label) ≡ onMessage c n m
-  unfolding onMessage
-  says-withdraw p e = rw (ne-eqb (m .kind) mapping p, eq-eqb (m .kind) withdraw e) refl
-
-  pub says-release : (m .kind ≡ mapping → ⊥) → (m .kind ≡ withdraw → ⊥) → m .kind ≡ release → onRelease c n (m .name) (m .label) ≡ onMessage c n m
-  unfolding onMessage
-  says-release p q e = rw (ne-eqb (m .kind) mapping p, ne-eqb (m .kind) withdraw q, eq-eqb (m .kind) release e) refl
-
-  pub says-nothing : (m .kind ≡ mapping → ⊥) → (m .kind ≡ withdraw → ⊥) → (m .kind ≡ release → ⊥) → refused 3 ≡ onMessage c n m
-  unfolding onMessage
-  says-nothing p q r = rw (ne-eqb (m .kind) mapping p, ne-eqb (m .kind) withdraw q, ne-eqb (m .kind) release r) refl
-
 -- ---- octets from a neighbour
 
-unless-refused : (k : ℕ) (o : Outcome) → 0 < k → unless k o ≡ refused k
-unfolding unless
-unless-refused zero o h = absurd (omega arith)
-unless-refused (suc k) o h = refl
-
-unless-none : (k : ℕ) (o : Outcome) → k ≡ 0 → unless k o ≡ o
-unless-none k o e = rw e (unfold unless in refl)
-
 module _ (c : Card) (n : ℕ) (s : List ℕ) where
-  pub read-refused : (k : ℕ) (t : List ℕ) → k ≡ messageRefusal s → 0 < k → Does (finish (length t) c (onRead c n s)) k 0 t t c
-  unfolding onRead
-  read-refused k t e h = rw (← e, unless-refused k _ h) (does-refused c k t)
-
-  pub read-says : (m : Message) → messageRefusal s ≡ 0 → messageIn s ≡ m → onMessage c n m ≡ onRead c n s
-  unfolding onRead
-  read-says m e q = sym (unless-none (messageRefusal s) _ e ∙ ap (onMessage c n) q)
-
   pub far : 15 < n → (t : List ℕ) → Does (event (length t) c (receive n s)) 1 0 t t c
   unfolding event outcome onOctets noNeighbour
   far h t = rw (lt-ltb 15 n h) (unfold _when_else_ unless in does-refused c 1 t)
@@ -94,14 +59,6 @@ module _ (c : Card) (n : ℕ) (s : List ℕ) where
   pub near : n ≤ 15 → (room : ℕ) → finish room c (onRead c n s) ≡ event room c (receive n s)
   unfolding event outcome onOctets noNeighbour onRead
   near h room = rw (le-ltb 15 n h) (unfold _when_else_ unless in refl)
-
--- the name and the label of a message that is read
-pub read-fits : (s : List ℕ) (kind label : ℕ) (a : List ℕ) → messageRefusal s ≡ 0 → messageIn s ≡ record { kind = kind; name = a; label = label } → (16 ≤ label) × (length a ≤ nameLimit)
-read-fits s kind label a e q =
-    let g = heard 0 s (omega arith) e in
-    let l : messageIn s .label ≡ label = ap (λ (m : Message). m .label) q in
-    let n : messageIn s .name ≡ a = ap (λ (m : Message). m .name) q in
-    (rw l at (g .low), rw n at (name-fits (messageIn s .name) (g .name)))
 
 -- ---- leaf orders
 
@@ -121,10 +78,6 @@ module _ (c : Card) (e : List ℕ) where
   pub leave-is : elementRefusal e ≡ 0 → (room : ℕ) → finish room c (leaveOf c e) ≡ event room c (leave e)
   unfolding event outcome onLeave leaveOf
   leave-is z room = ap (finish room c) (sym (unless-none (elementRefusal e) _ z))
-
--- the same outcome by another name
-pub does-same : (room : ℕ) (c : Card) (o o' : Outcome) (a n : ℕ) (s s' : List ℕ) (d : Card) → o ≡ o' → Does (finish room c o) a n s s' d → Does (finish room c o') a n s s' d
-does-same room c o o' a n s s' d e p = subst (λ (x : Outcome). Does (finish room c x) a n s s' d) e p
 
 -- ---- route orders
 

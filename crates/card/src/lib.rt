@@ -2,18 +2,14 @@
 // Each event has a core, which says what becomes of the whole output, and a call that hands back the part that holds the records.
 ghost use mathlib.Core.Path.{_≡_};
 ghost use mathlib.Core.List.{List};
-ghost use Prim.Native.Nat.{ℕ, _≤_, _<_};
+ghost use Prim.Native.Nat.{ℕ};
 ghost use lib.ListN.{length};
 ghost use denote.Ref.{ptr};
-ghost use Rattle.meaning.specs.Wire.{nameLimit};
 ghost use Rattle.meaning.specs.Card.{freeLabels, lookupLabel, lookupName};
-ghost use Rattle.meaning.specs.Events.{start, event, finish, onMessage, receive, join, leave, route, lost, notRoot};
+ghost use Rattle.meaning.specs.Events.{start, event, receive, join, leave, route, lost, notRoot};
 ghost use Rattle.meaning.specs.Calls.{Does, Hands};
-ghost use Rattle.memory.specs.Sizes.{Numbers, Names};
 ghost use Rattle.memory.specs.Memory.{cardOf};
-ghost use Rattle.card.specs.Calls.{onRead};
 ghost use Rattle.card_lookups.specs.Feed.{feedIn};
-use wire_reader::Read;
 // The lengths of the card's two arrays, and in specs/Table the card that they denote, are handed on: whoever is above needs no more of the memory.
 pub use memory::NUMBER_COUNT;
 pub use memory::OCTET_COUNT;
@@ -38,70 +34,6 @@ pub fn start(numbers: &mut [u64; NUMBER_COUNT], base: u32) -> u32
 
 // ---- a message from a neighbour
 
-fn on_message(
-    numbers: &mut [u64],
-    names: &mut [u8],
-    n: usize,
-    kind: u64,
-    name: &[u8],
-    label: u64,
-    out: &mut [u8],
-    answer: &mut u32,
-) -> usize
-    requires { ⌜ Numbers (now numbers) × Names (now names) × (n < 16) × (16 ≤ label) × (length (now name) ≤ nameLimit) ⌝ }
-    ensures { λ r. ⌜ (let c = cardOf (now (numbers .entry)) (now (names .entry)) in Does (finish (length (now (out .entry))) c (onMessage c n (record { kind = kind; name = now (name .entry); label = label })))
-        (now (answer .exit)) r (now (out .entry)) (now (out .exit)) (cardOf (now (numbers .exit)) (now (names .exit)))) ⌝ }
-{
-    if kind == 0x0400 {
-        return event_mapping::map(numbers, names, n, name, label, out, answer);
-    }
-    if kind == 0x0402 {
-        return event_withdraw::withdraw(numbers, names, n, name, label, out, answer);
-    }
-    if kind == 0x0403 {
-        event_withdraw::release(numbers, names, n, name, label, answer);
-        return 0;
-    }
-    *answer = 3;
-    0
-}
-
-// What a message that was read says, or its refusal.
-fn on_read(
-    numbers: &mut [u64],
-    names: &mut [u8],
-    n: usize,
-    message: &[u8],
-    out: &mut [u8],
-    answer: &mut u32,
-) -> usize
-    requires { ⌜ Numbers (now numbers) × Names (now names) × (n < 16) ⌝ }
-    ensures { λ r. ⌜ (let c = cardOf (now (numbers .entry)) (now (names .entry)) in Does (finish (length (now (out .entry))) c (onRead c n (now (message .entry))))
-        (now (answer .exit)) r (now (out .entry)) (now (out .exit)) (cardOf (now (numbers .exit)) (now (names .exit)))) ⌝ }
-{
-    match wire_reader::read_message(message) {
-        Read::Refused(refusal) => {
-            *answer = refusal;
-            0
-        }
-        Read::Says {
-            kind,
-            start,
-            end,
-            label,
-        } => on_message(
-            numbers,
-            names,
-            n,
-            kind,
-            &message[start..end],
-            label,
-            out,
-            answer,
-        ),
-    }
-}
-
 pub fn receive_core(
     numbers: &mut [u64; NUMBER_COUNT],
     names: &mut [u8; OCTET_COUNT],
@@ -117,7 +49,7 @@ pub fn receive_core(
         *answer = 1;
         return 0;
     }
-    on_read(numbers, names, neighbour as usize, message, out, answer)
+    card_messages::on_read(numbers, names, neighbour as usize, message, out, answer)
 }
 
 pub fn receive<'a>(

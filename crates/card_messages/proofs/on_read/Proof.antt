@@ -1,10 +1,10 @@
 use mathlib.Core.Path.{subst}
 use native.Mathlib.Omega.{arith}
 use Rattle.wire_reader.specs.Read.{Reads}
-use Rattle.card.proofs.Calls.{does-same, read-refused, read-says, read-fits}
+use Rattle.card_messages.proofs.Messages.{does-same, read-refused, read-says, read-fits}
 use borrow.Author.Needs.{needs}
-use Rattle.card.proofs.on_read.Statement.{statement}
-use Rattle.card.proofs.on_read.Tie as tie
+use Rattle.card_messages.proofs.on_read.Statement.{statement}
+use Rattle.card_messages.proofs.on_read.Tie as tie
 
 read-message-requires : tie.Need-read-message-requires
 read-message-requires c κs = search needs

@@ -1,9 +1,9 @@
 use Rattle.memory.specs.Memory.{cardOf}
-use Rattle.card.proofs.Calls.{does-same, says-mapping, says-withdraw, says-release, says-nothing}
+use Rattle.card_messages.proofs.Messages.{does-same, says-mapping, says-withdraw, says-release, says-nothing}
 use Rattle.event_tree.proofs.Ends.{does-refused}
 use borrow.Author.Needs.{needs}
-use Rattle.card.proofs.on_message.Statement.{statement}
-use Rattle.card.proofs.on_message.Tie as tie
+use Rattle.card_messages.proofs.on_message.Statement.{statement}
+use Rattle.card_messages.proofs.on_message.Tie as tie
 
 map-requires : tie.Need-map-requires
 map-requires c κs = search needs

@@ -1,4 +1,4 @@
--- What the calls' own functions say: the parts of an event. Assumes nothing.
+-- What becomes of a message that is read, or of its refusal. Assumes nothing.
 use Prim.Native.Nat.{ℕ}
 use mathlib.Core.List.{List}
 use Rattle.meaning.specs.Wire.{messageRefusal, messageIn}
