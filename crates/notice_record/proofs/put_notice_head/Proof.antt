@@ -1,8 +1,8 @@
--- `notice_writer::put_notice_head` meets its contract: the octets of the array are those of the definition, one by one. Assumes nothing.
+-- `notice_record::put_notice_head` meets its contract: the octets of the array are those of the definition, one by one. Assumes nothing.
 use Rattle.meaning.specs.Octets.{two, four}
 use borrow.Author.Needs.{needs}
-use Rattle.notice_writer.proofs.put_notice_head.Statement.{statement}
-use Rattle.notice_writer.proofs.put_notice_head.Tie as tie
+use Rattle.notice_record.proofs.put_notice_head.Statement.{statement}
+use Rattle.notice_record.proofs.put_notice_head.Tie as tie
 
 cast-t7 : tie.Need-cast-t7
 cast-t7 c = search needs

@@ -1,8 +1,8 @@
--- `notice_writer::put_status` meets its contract: the octets of the array are those of the definition, one by one. Assumes nothing.
+-- `notice_record::put_status` meets its contract: the octets of the array are those of the definition, one by one. Assumes nothing.
 use Rattle.meaning.specs.Octets.{two, four}
 use borrow.Author.Needs.{needs}
-use Rattle.notice_writer.proofs.put_status.Statement.{statement}
-use Rattle.notice_writer.proofs.put_status.Tie as tie
+use Rattle.notice_record.proofs.put_status.Statement.{statement}
+use Rattle.notice_record.proofs.put_status.Tie as tie
 
 cast-t8 : tie.Need-cast-t8
 cast-t8 c = search needs

@@ -1,8 +1,8 @@
--- `notice_writer::is_due` meets its contract: by its tests. Assumes nothing.
-use Rattle.notice_writer.proofs.Notices.{due-none, due-three, due-other}
+-- `notice_record::is_due` meets its contract: by its tests. Assumes nothing.
+use Rattle.notice_record.proofs.Record.{due-none, due-three, due-other}
 use borrow.Author.Needs.{needs}
-use Rattle.notice_writer.proofs.is_due.Statement.{statement}
-use Rattle.notice_writer.proofs.is_due.Tie as tie
+use Rattle.notice_record.proofs.is_due.Statement.{statement}
+use Rattle.notice_record.proofs.is_due.Tie as tie
 
 status-of-requires : tie.Need-status-of-requires
 status-of-requires c κs = search needs

@@ -1,8 +1,8 @@
--- `notice_writer::put_notice` meets its contract: two parts of the output, one after the other, are the record. Assumes nothing.
-use Rattle.notice_writer.proofs.Notices.{put-two}
+-- `notice_record::put_notice` meets its contract: two parts of the output, one after the other, are the record. Assumes nothing.
+use Rattle.notice_record.proofs.Record.{put-two}
 use borrow.Author.Needs.{needs}
-use Rattle.notice_writer.proofs.put_notice.Statement.{statement}
-use Rattle.notice_writer.proofs.put_notice.Tie as tie
+use Rattle.notice_record.proofs.put_notice.Statement.{statement}
+use Rattle.notice_record.proofs.put_notice.Tie as tie
 
 status-of-requires : tie.Need-status-of-requires
 status-of-requires c κs = search needs
