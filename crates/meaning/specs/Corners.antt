@@ -3,7 +3,7 @@
 use Prim.Native.Nat.{ℕ, zero, suc, _+_, _-_}
 use mathlib.Core.Bool.{Bool, true, _&&_, false}
 use mathlib.Core.List.{List, [], _∷_, _++_}
-use lib.ListN.{length, take, replicate, set}
+use lib.ListN.{length, replicate}
 use lib.Dec.{T, eqb}
 use Rattle.meaning.specs.Octets.{same, two, four}
 use Rattle.meaning.specs.Wire.{rootIn, element, tlv, mapping, withdraw, release, recordOf}
@@ -417,20 +417,6 @@ lossRows =
     then (lost 3) 0 [] 253 20 [] ∷
     []
 
--- 64 trees of a 16-octet root with the longest names, each with a branch from 1 alone, and a label mapped to 0: the loss of 1 ends them all
-unfoldable pub branched : ℕ → ℕ → List Tree
-branched zero k = []
-branched (suc n) k = record { name = element 2 (replicate 16 32) (1 ∷ 0 ∷ 125 ∷ k ∷ replicate 124 0); branches = set (replicate 16 0) 1 100; leaf = false; label = 16 + k } ∷ branched n (suc k)
-
-unfoldable pub branchedAll : Card
-branchedAll = let ts = branched 64 0 in withTrees ts (withLabels (usedBy ts) (withRoutes (record { root = replicate 16 32; via = 0; standing = 64; lone = 64 } ∷ []) firstCard))
-
--- it writes 64 records of 174 octets, and leaves no tree; one octet less is too little room
-unfoldable pub mostLost : Bool
-mostLost =
-    let o = event 11136 branchedAll (lost 1) in
-    eqb (length (o .octets)) 11136 && eqb (length (o .card .trees)) 0 && eqb (o .card .next) 65 && eqb (event 11135 branchedAll (lost 1) .answer) 16
-
 -- a root of four octets
 unfoldable pub root : ℕ → List ℕ
 root k = 10 ∷ 0 ∷ 0 ∷ k ∷ []
@@ -471,24 +457,12 @@ endRows =
     then (heard 5 withdraw A 100) 0 (wrote 1 5 release 100) 254 17 (1 ∷ []) ∷
     []
 
--- ---- the longest order
+-- ---- the longest names
 
--- 64 trees of a 16-octet root with the longest names, each with a leaf and a label mapped to neighbour 0; the other labels are free
+-- n trees of a 16-octet root with the longest names, the k-th first, each with a leaf and a label; meaning_longest and meaning_saves have tables of them
 unfoldable pub load : ℕ → ℕ → List Tree
 load zero k = []
 load (suc n) k = record { name = element 2 (replicate 16 32) (k ∷ (two 125 ++ replicate 125 0)); branches = replicate 16 0; leaf = true; label = 16 + k } ∷ load n (suc k)
-
-unfoldable pub loaded : Card
-loaded =
-    let ts = load 64 0 in
-    withTrees ts (withLabels (take 64 (usedBy ts) ++ replicate 192 free) (withRoutes (record { root = replicate 16 32; via = 0; standing = 64; lone = 0 } ∷ []) firstCard))
-
--- each tree gives one label up and is given another, in two records of 174 octets; one octet less is too little room
-unfoldable pub mostMoved : Bool
-mostMoved =
-    let o = event 22272 loaded (route (replicate 16 32) 2) in
-    eqb (o .answer) 0 && eqb (length (o .octets)) 22272 && eqb (o .card .next) 129
-    && eqb (event 22271 loaded (route (replicate 16 32) 2) .answer) 16
 
 -- ---- what no row shows
 
@@ -538,7 +512,5 @@ pub corners-shown : NoneWrong (wrong 1 firstCard firstCard readings)
     × NoneWrong (wrong 1 lone firstCard loneRows)
     × NoneWrong (wrong 1 losing firstCard lossRows)
     × T others
-    × T mostMoved
-    × T mostLost
-unfolding computing readings other long packed fec label said holds odd wrong firstCard agrees flat feed A wide heard wrote kin grown scarce left crowd usedBy fullCard fullRows scarceRows lastRows root rooted rootRows rootedRows endRows heldRows paired needyRows countedRows rootsOf rerouted startsAs others load loaded mostMoved late restRows lone loneRows after losing lossSent lossRows branched branchedAll mostLost
-corners-shown = (tt, tt, tt, tt, tt, tt, tt, tt, tt, tt, tt, tt, tt, tt, tt, tt)
+unfolding computing readings other long packed fec label said holds odd wrong firstCard agrees flat feed A wide heard wrote kin grown scarce left crowd usedBy fullCard fullRows scarceRows lastRows root rooted rootRows rootedRows endRows heldRows paired needyRows countedRows rootsOf rerouted startsAs others late restRows lone loneRows after losing lossSent lossRows
+corners-shown = (tt, tt, tt, tt, tt, tt, tt, tt, tt, tt, tt, tt, tt, tt)
