@@ -82,7 +82,7 @@ fn its_root(numbers: &[u64], names: &[u8], i: usize) -> usize
 }
 
 // The tree at place i counted so many before: its root's entry, where there is one, counts it as it is now.
-fn recount(numbers: &mut [u64], names: &[u8], i: usize, standing: u64, lone: u64)
+pub fn recount(numbers: &mut [u64], names: &[u8], i: usize, standing: u64, lone: u64)
     requires { ⌜ Numbers (now numbers) × Names (now names) × (i < treeCount (now numbers)) × (i < treeLimit) × (standing ≤ 1) × (lone ≤ 1) ⌝ }
     ensures { λ _. ⌜ (let c = cardOf (now (numbers .entry)) (now (names .entry)) in ((t : Tree) → standing ≡ oneStanding t → lone ≡ oneLone t
         → cardOf (now (numbers .exit)) (now (names .entry)) ≡ recounted t (treeAt i c) c)) ⌝ }

@@ -69,6 +69,9 @@ pub fn decode(octets: &[u8], second: bool, numbers: &mut [u64], names: &mut [u8]
     if !save_rules_rows::names_once(numbers, names) {
         return false;
     }
+    if !save_rules_rows::roots_once(numbers, names) {
+        return false;
+    }
     save_labels::read_labels(octets, at, second, numbers, names);
     true
 }

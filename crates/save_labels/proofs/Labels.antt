@@ -1,34 +1,35 @@
 -- The labels' records, one after the other, and the label that each tree then carries. Assumes nothing.
 use Prim.Native.Nat.{ℕ, zero, suc, _+_, _*_, _-_, _%_, _≤_, _<_}
-use native.Mathlib.Nat.{suc-mul, not-suc-le-zero, le-of-suc-le-suc}
+use native.Mathlib.Nat.{not-suc-le-zero, le-of-suc-le-suc}
 use native.Mathlib.Numerals.{add-one}
 use native.Mathlib.Omega.{arith}
-use mathlib.Core.Path.{_≡_, refl, sym, ap, _∙_, subst}
-use mathlib.Core.Bool.{Bool, true, false}
-use mathlib.Core.List.{List, [], _∷_}
-use lib.ListN.{length, drop, getD, set, length-set}
-use lib.Seq.{drop-drop, getD-drop, set-getD, set-out}
+use mathlib.Core.Path.{_≡_, refl, sym, ap, ap₂, _∙_, subst}
+use mathlib.Core.Bool.{Bool, true, false, _&&_, and-false}
+use mathlib.Core.List.{List, [], _∷_, _++_, map}
+use lib.ListN.{length, take, drop, getD, set, length-append}
+use lib.Seq.{drop-drop, getD-drop, set-getD, set-out, take-all, take-suc, length-take-le}
 use lib.Dec.{eqb, leb, ltb}
-use borrow.Author.Tests.{lt-ltb, le-ltb, ltb-true, ltb-false, leb-true, leb-false, eqb-true, eqb-false}
+use borrow.Author.Tests.{lt-ltb, le-ltb, ltb-true, ltb-false, leb-true, leb-false, eqb-true, eqb-false, eq-eqb, ne-eqb}
 use Rattle.meaning.specs.Octets.{pick, place, any, same, twoAt, fourAt}
-use Rattle.meaning.specs.Lists.{by-test, place-finds, same-eq, same-no}
-use Rattle.meaning.specs.Card.{Tree, Use, free, mapped, awaiting, Card, fresh, withNext, withRoutes, withTrees, withLabels, withLabel, bare, treeAt, named, labelCount, withLast, isFree}
-use Rattle.meaning.specs.Events.{setLabel}
-use Rattle.meaning.specs.Save.{Form, formOf, lastPlace, nameIn, extent, useRead, useEnd, usesRead, useBeside, isMappedFor, labelled, allLabelled, onceEach, sameName, tableIn, highestUsed, lastIn}
+use Rattle.meaning.specs.Lists.{by-test, place-finds, same-eq, same-refl, same-flip}
+use Rattle.meaning.specs.Card.{Route, Tree, Use, free, mapped, awaiting, Card, fresh, withNext, withRoutes, withTrees, withLabels, withLabel, bare, treeAt, treePlace, named, labelCount, withLast, isFree}
+use Rattle.meaning.specs.Events.{setLabel, total, workedOut}
+use Rattle.meaning.specs.Save.{Form, formOf, lastPlace, nameIn, extent, useRead, useEnd, usesRead, useBeside, isMappedFor, labelled, allLabelled, onceEach, sameName, sameRoot, allWorkedOut, routesRead, routeRead, headSize, routeSize, tableIn, highestUsed, lastIn}
 use Rattle.meaning_laws.specs.SavePlaces.{usesEnd, use-there, uses-end-more, uses-read-more}
-use Rattle.octets.specs.Part.{tab}
-use Rattle.memory.specs.Memory.{cardOf, baseIn, treeCount, labelIn, isFreeAt, labelBefore}
+use Rattle.memory.specs.Memory.{cardOf, baseIn, treeCount, labelIn, labelName, isFreeAt, isMappedAt, labelBefore}
 use Rattle.memory.proofs.Memory.{base-range, trees-length, labels-length}
-use Rattle.memory.proofs.Marks.{never, free-in}
+use Rattle.memory.proofs.Marks.{free-in}
 use Rattle.memory.proofs.Trees.{label-at}
 use Rattle.memory.proofs.Head.{label-before}
 use Rattle.meaning_laws.specs.SaveLaws.{highest-is, highest-free}
 use Rattle.octets.proofs.Tab.{tab-get}
+use Rattle.save_rules.proofs.Rules.{mapped-not, mapped-named}
 use Rattle.save_rows.specs.Stages.{headRead, treesBegin, rowsRead, labelsBegin}
 use Rattle.save_counts.specs.Counted.{counted}
+use Rattle.save_counts.proofs.Places.{one-changed}
 use Rattle.save_fields.proofs.Read.{four-drop}
 use Rattle.save_rows.proofs.Rows.{trees-bare}
-use Rattle.save_labels.specs.Labels.{Unlabelled, Ready, OfBlock}
+use Rattle.save_labels.specs.Labels.{Unlabelled, given, OfBlock}
 
 -- ---- a label's record
 
@@ -89,191 +90,235 @@ module _ (f : Form) (c : Card) (o : List ℕ) (from : ℕ) where
       ∙ sym (uses-end-more f i (drop from o))
       ∙ ap (λ (k : ℕ). usesEnd f k (drop from o)) (sym (add-one i))
 
--- ---- the first label that is mapped for a name
+-- ---- one label, and the tree of its name
 
-module _ (ns os a : List ℕ) where
-  pub mapped-start : place (isMappedFor a) (cardOf ns os .labels) ≡ 0 + place (isMappedFor a) (drop 0 (tab labelCount (labelIn ns os)))
-  unfolding cardOf
-  mapped-start = omega arith
+map-still {ℓ} : {A : Type ℓ} (g : A → A) → ((x : A) → g x ≡ x) → (l : List A) → map g l ≡ l
+map-still g h [] = refl
+map-still g h (x ∷ l) = ap₂ (λ y ys. y ∷ ys) (h x) (map-still g h l)
 
--- ---- one tree's own label
+module _ (ns os : List ℕ) (p : ℕ) where
+  not-given : (t : Tree) → isMappedFor (t .name) (labelIn ns os p) ≡ false → given (baseIn ns + p) (labelIn ns os p) t ≡ t
+  unfolding given
+  not-given t e = rw e refl
+
+  pub given-none : isMappedAt ns p ≡ false → cardOf ns os ≡ withTrees (map (given (baseIn ns + p) (labelIn ns os p)) (cardOf ns os .trees)) (cardOf ns os)
+  unfolding withTrees
+  given-none m =
+      ap (λ (ts : List Tree). withTrees ts (cardOf ns os)) (sym (map-still _ (λ t. not-given t (mapped-not ns os p (t .name) m)) (cardOf ns os .trees)))
+
+  -- whatever the octets
+  pub none-has : ((j : ℕ) → j < treeCount ns → treeAt j (cardOf ns os) .label ≡ baseIn ns + p → ⊥) → (qs : List ℕ) (j : ℕ) → j < treeCount ns → treeAt j (cardOf ns qs) .label ≡ baseIn ns + p → ⊥
+  none-has h qs j lt e = h j lt (label-at ns os j lt ∙ sym (label-at ns qs j lt) ∙ e)
+
+  module _ (a : List ℕ) (i : ℕ) (m : isMappedAt ns p ≡ true) (ea : a ≡ labelName os p) (ei : i ≡ treePlace a (cardOf ns os)) (once : onceEach sameName (cardOf ns os .trees) ≡ true) where
+    for-name : (t : Tree) → isMappedFor (t .name) (labelIn ns os p) ≡ same a (t .name)
+    for-name t = mapped-named ns os p (t .name) m ∙ ap (λ (b : List ℕ). same b (t .name)) (sym ea)
+
+    -- the tree at place i alone
+    one-given : map (given (baseIn ns + p) (labelIn ns os p)) (cardOf ns os .trees) ≡ set (cardOf ns os .trees) i (given (baseIn ns + p) (labelIn ns os p) (treeAt i (cardOf ns os)))
+    unfolding treeAt treePlace named sameName
+    one-given =
+        rw ei
+        (one-changed (λ (t : Tree). t .name) (given (baseIn ns + p) (labelIn ns os p)) a (λ t k. not-given t (for-name t ∙ same-flip (t .name) a k)) (cardOf ns os .trees) (bare []) once)
+
+    pub given-out : (n : ℕ) → n ≡ treeCount ns → n ≤ i → cardOf ns os ≡ withTrees (map (given (baseIn ns + p) (labelIn ns os p)) (cardOf ns os .trees)) (cardOf ns os)
+    unfolding withTrees
+    given-out n e h = ap (λ (ts : List Tree). withTrees ts (cardOf ns os)) (sym (one-given ∙ set-out (cardOf ns os .trees) i _ (rw trees-length (omega arith))))
+
+    has-one : (t : Tree) → (t .label ≡ 0 → ⊥) → given (baseIn ns + p) (labelIn ns os p) t ≡ t
+    unfolding given
+    has-one t ne = rw (ne-eqb (t .label) 0 ne, and-false (isMappedFor (t .name) (labelIn ns os p))) refl
+
+    pub given-before : (treeAt i (cardOf ns os) .label ≡ 0 → ⊥) → cardOf ns os ≡ withTrees (map (given (baseIn ns + p) (labelIn ns os p)) (cardOf ns os .trees)) (cardOf ns os)
+    unfolding withTrees treeAt
+    given-before ne =
+        ap (λ (ts : List Tree). withTrees ts (cardOf ns os)) (sym (one-given ∙ ap (set (cardOf ns os .trees) i) (has-one (treeAt i (cardOf ns os)) ne) ∙ set-getD (cardOf ns os .trees) i (bare [])))
+
+    its-name : i < treeCount ns → a ≡ treeAt i (cardOf ns os) .name
+    unfolding treeAt treePlace named
+    its-name h = sym (same-eq _ a (rw ei (place-finds (named a) (cardOf ns os .trees) (bare []) (rw trees-length (omega arith)))))
+
+    takes-one : (t : Tree) → a ≡ t .name → t .label ≡ 0 → given (baseIn ns + p) (labelIn ns os p) t ≡ withLabel (baseIn ns + p) t
+    unfolding given
+    takes-one t e z = rw (for-name t, ← e, same-refl a, eq-eqb (t .label) 0 z) refl
+
+    pub given-now : (d : Card) → i < treeCount ns → treeAt i (cardOf ns os) .label ≡ 0 → d ≡ setLabel i (baseIn ns + p) (cardOf ns os) → d ≡ withTrees (map (given (baseIn ns + p) (labelIn ns os p)) (cardOf ns os .trees)) (cardOf ns os)
+    unfolding setLabel
+    given-now d h z e =
+        e ∙ ap (λ (ts : List Tree). withTrees ts (cardOf ns os)) (sym (one-given ∙ ap (set (cardOf ns os .trees) i) (takes-one (treeAt i (cardOf ns os)) (its-name h) z)))
+
+-- ---- one label more
+
+found-before {ℓ} : {A : Type ℓ} (t : A → Bool) (xs ys : List A) → place t xs < length xs → place t (xs ++ ys) ≡ place t xs
+unfolding place
+found-before t [] ys h = absurd (not-suc-le-zero h)
+found-before t (x ∷ xs) ys h = by-test (t x) (λ k. rw k refl) (λ k. rw k (ap suc (found-before t xs ys (le-of-suc-le-suc (rw k at h)))))
+
+found-behind {ℓ} : {A : Type ℓ} (t : A → Bool) (xs ys : List A) → length xs ≤ place t xs → place t (xs ++ ys) ≡ length xs + place t ys
+unfolding place
+found-behind t [] ys h = omega arith
+found-behind t (x ∷ xs) ys h =
+    by-test (t x)
+    (λ k. absurd (not-suc-le-zero (rw k at h)))
+    (λ k. let e = found-behind t xs ys (le-of-suc-le-suc (rw k at h)) in rw k (omega arith))
+
+-- the label of a tree of that name, where these are the labels from b on
+unfoldable labelOf : ℕ → List Use → List ℕ → ℕ
+labelOf b us a = pick (ltb (place (isMappedFor a) us) (length us)) (b + place (isMappedFor a) us) 0
+
+labelled-is : (b : ℕ) (us : List Use) (t : Tree) → labelled b us t ≡ withLabel (labelOf b us (t .name)) t
+unfolding labelled labelOf
+labelled-is b us t = refl
+
+module _ (b : ℕ) (us : List Use) (a : List ℕ) where
+  label-found : place (isMappedFor a) us < length us → labelOf b us a ≡ b + place (isMappedFor a) us
+  unfolding labelOf
+  label-found h = rw (lt-ltb _ _ h) refl
+
+  label-missed : length us ≤ place (isMappedFor a) us → labelOf b us a ≡ 0
+  unfolding labelOf
+  label-missed h = rw (le-ltb _ _ h) refl
+
+module _ (b : ℕ) (us : List Use) (u : Use) (low : 16 ≤ b) where
+  more-length : length (us ++ (u ∷ [])) ≡ length us + 1
+  more-length = length-append us (u ∷ [])
+
+  next-label : (a : List ℕ) → labelOf b (us ++ (u ∷ [])) a ≡ pick (isMappedFor a u && eqb (labelOf b us a) 0) (b + length us) (labelOf b us a)
+  next-label a =
+      by-test (ltb (place (isMappedFor a) us) (length us))
+      (λ k.
+      let lt : place (isMappedFor a) us < length us = ltb-true _ _ k in
+      let e = found-before (isMappedFor a) us (u ∷ []) lt in
+      let was = label-found b us a lt in
+      let is : labelOf b (us ++ (u ∷ [])) a ≡ b + place (isMappedFor a) us = label-found b (us ++ (u ∷ [])) a (omega (arith, e, more-length)) ∙ ap (λ (n : ℕ). b + n) e in
+      rw (is, was, ne-eqb (b + place (isMappedFor a) us) 0 (λ z. omega arith), and-false (isMappedFor a u)) refl)
+      (λ k.
+      let ge : length us ≤ place (isMappedFor a) us = ltb-false _ _ k in
+      let e = found-behind (isMappedFor a) us (u ∷ []) ge in
+      let was = label-missed b us a ge in
+      by-test (isMappedFor a u)
+      (λ t.
+      let here : place (isMappedFor a) (u ∷ []) ≡ 0 = unfold place in rw t refl in
+      let at : place (isMappedFor a) (us ++ (u ∷ [])) ≡ length us = omega arith in
+      rw (was, t) (label-found b (us ++ (u ∷ [])) a (omega (arith, at, more-length)) ∙ ap (λ (n : ℕ). b + n) at))
+      (λ t.
+      let gone : place (isMappedFor a) (u ∷ []) ≡ 1 = unfold place in rw t refl in
+      rw (was, t) (label-missed b (us ++ (u ∷ [])) a (omega (arith, e, gone, more-length)))))
+
+  given-is : (l n : ℕ) (t : Tree) → given l u (withLabel n t) ≡ withLabel (pick (isMappedFor (t .name) u && eqb n 0) l n) t
+  unfolding given withLabel
+  given-is l n t = by-test (isMappedFor (t .name) u && eqb n 0) (λ k. rw k refl) (λ k. rw k refl)
+
+  labelled-next : (t : Tree) → given (b + length us) u (labelled b us t) ≡ labelled b (us ++ (u ∷ [])) t
+  labelled-next t =
+      ap (given (b + length us) u) (labelled-is b us t)
+      ∙ given-is (b + length us) (labelOf b us (t .name)) t
+      ∙ ap (λ (n : ℕ). withLabel n t) (sym (next-label (t .name)))
+      ∙ sym (labelled-is b (us ++ (u ∷ [])) t)
+
+  all-next : (ts : List Tree) → map (given (b + length us) u) (allLabelled b us ts) ≡ allLabelled b (us ++ (u ∷ [])) ts
+  unfolding allLabelled
+  all-next [] = refl
+  all-next (t ∷ ts) = ap₂ (λ (s : Tree) (ss : List Tree). s ∷ ss) (labelled-next t) (all-next ts)
+
+-- ---- p labels were looked at
 
 bare-label : (t : Tree) → t .label ≡ 0 → withLabel 0 t ≡ t
 unfolding withLabel
 bare-label t e = ap (λ (l : ℕ). withLabel l t) (sym e)
 
-module _ (ns os : List ℕ) (i p : ℕ) (a : List ℕ) (ha : a ≡ treeAt i (cardOf ns os) .name) (hp : p ≡ place (isMappedFor a) (cardOf ns os .labels)) where
-  found-at : place (isMappedFor (treeAt i (cardOf ns os) .name)) (cardOf ns os .labels) ≡ p
-  found-at = rw (← ha) (sym hp)
+none-labelled : (b : ℕ) (ts : List Tree) (d : Tree) → ((j : ℕ) → j < length ts → getD ts j d .label ≡ 0) → allLabelled b [] ts ≡ ts
+unfolding allLabelled
+none-labelled b [] d h = refl
+none-labelled b (t ∷ ts) d h =
+    ap₂ (λ (s : Tree) (ss : List Tree). s ∷ ss) (labelled-is b [] t ∙ ap (λ (n : ℕ). withLabel n t) (label-missed b [] (t .name) (omega arith)) ∙ bare-label t (h 0 (omega arith))) (none-labelled b ts d (λ j k. h (suc j) (omega arith)))
 
-  no-label : treeAt i (cardOf ns os) .label ≡ 0 → labelCount ≤ p → labelled (cardOf ns os .base) (cardOf ns os .labels) (treeAt i (cardOf ns os)) ≡ treeAt i (cardOf ns os)
-  unfolding labelled
-  no-label r h =
-      let l : ltb p (length (cardOf ns os .labels)) ≡ false = le-ltb p _ (rw labels-length h) in
-      rw (found-at, l) (bare-label (treeAt i (cardOf ns os)) r)
+all-length : (b : ℕ) (us : List Use) (ts : List Tree) → length (allLabelled b us ts) ≡ length ts
+unfolding allLabelled
+all-length b us [] = refl
+all-length b us (t ∷ ts) = ap suc (all-length b us ts)
 
-  pub label-out : Ready i (cardOf ns os) → labelCount ≤ p → cardOf ns os ≡ withTrees (set (cardOf ns os .trees) i (labelled (cardOf ns os .base) (cardOf ns os .labels) (treeAt i (cardOf ns os)))) (cardOf ns os)
-  unfolding withTrees treeAt
-  label-out r h =
-      let k : set (cardOf ns os .trees) i (labelled (cardOf ns os .base) (cardOf ns os .labels) (treeAt i (cardOf ns os))) ≡ cardOf ns os .trees =
-      ap (set (cardOf ns os .trees) i) (no-label (r .none) h) ∙ set-getD (cardOf ns os .trees) i (bare []) in
-      ap (λ (ts : List Tree). withTrees ts (cardOf ns os)) (sym k)
+all-get : (b : ℕ) (us : List Use) (ts : List Tree) (j : ℕ) (d : Tree) → j < length ts → getD (allLabelled b us ts) j d ≡ labelled b us (getD ts j d)
+unfolding allLabelled
+all-get b us [] j d h = absurd (not-suc-le-zero h)
+all-get b us (t ∷ ts) zero d h = refl
+all-get b us (t ∷ ts) (suc j) d h = all-get b us ts j d (le-of-suc-le-suc h)
 
-  pub label-in : (d : Card) → p < labelCount → d ≡ setLabel i (baseIn ns + p) (cardOf ns os) → d ≡ withTrees (set (cardOf ns os .trees) i (labelled (cardOf ns os .base) (cardOf ns os .labels) (treeAt i (cardOf ns os)))) (cardOf ns os)
-  unfolding labelled setLabel cardOf
-  label-in d h e =
-      let l : ltb p (length (cardOf ns os .labels)) ≡ true = lt-ltb p _ (rw labels-length h) in
-      rw (e, ← ha, ← hp, l) refl
+-- labels do not make names the same
+any-named : (b : ℕ) (us : List Use) (t : Tree) (ts : List Tree) → any (sameName (labelled b us t)) (allLabelled b us ts) ≡ any (sameName t) ts
+unfolding any allLabelled labelled withLabel sameName named
+any-named b us t [] = refl
+any-named b us t (s ∷ ts) = rw (any-named b us t ts) refl
 
-  -- whatever the octets
-  pub none-has : Ready i (cardOf ns os) → (qs : List ℕ) (j : ℕ) → j < treeCount ns → treeAt j (cardOf ns qs) .label ≡ baseIn ns + p → ⊥
-  unfolding cardOf
-  none-has r qs j lt e = r .alone j (rw trees-length lt) (label-at ns os j lt ∙ sym (label-at ns qs j lt) ∙ e ∙ rw (hp, ha) refl)
-
--- ---- i trees have their labels
-
-module _ (b : ℕ) (us : List Use) where
-  unfoldable pub labelledTo : ℕ → List Tree → List Tree
-  labelledTo zero ts = ts
-  labelledTo (suc i) [] = []
-  labelledTo (suc i) (t ∷ ts) = labelled b us t ∷ labelledTo i ts
-
-  pub to-length : (i : ℕ) (ts : List Tree) → length (labelledTo i ts) ≡ length ts
-  unfolding labelledTo
-  to-length zero ts = refl
-  to-length (suc i) [] = refl
-  to-length (suc i) (t ∷ ts) = ap suc (to-length i ts)
-
-  to-behind : (i j : ℕ) (ts : List Tree) (d : Tree) → i ≤ j → getD (labelledTo i ts) j d ≡ getD ts j d
-  unfolding labelledTo
-  to-behind zero j ts d h = refl
-  to-behind (suc i) j [] d h = refl
-  to-behind (suc i) zero (t ∷ ts) d h = absurd (not-suc-le-zero h)
-  to-behind (suc i) (suc j) (t ∷ ts) d h = to-behind i j ts d (le-of-suc-le-suc h)
-
-  to-before : (i j : ℕ) (ts : List Tree) (d : Tree) → j < i → j < length ts → getD (labelledTo i ts) j d ≡ labelled b us (getD ts j d)
-  unfolding labelledTo
-  to-before zero j ts d h k = absurd (not-suc-le-zero h)
-  to-before (suc i) j [] d h k = absurd (not-suc-le-zero k)
-  to-before (suc i) zero (t ∷ ts) d h k = refl
-  to-before (suc i) (suc j) (t ∷ ts) d h k = to-before i j ts d (le-of-suc-le-suc h) (le-of-suc-le-suc k)
-
-  to-set : (i : ℕ) (ts : List Tree) (d : Tree) → i < length ts → set (labelledTo i ts) i (labelled b us (getD ts i d)) ≡ labelledTo (suc i) ts
-  unfolding labelledTo
-  to-set i [] d h = absurd (not-suc-le-zero h)
-  to-set zero (t ∷ ts) d h = refl
-  to-set (suc i) (t ∷ ts) d h = ap (λ (l : List Tree). labelled b us t ∷ l) (to-set i ts d (le-of-suc-le-suc h))
-
-  to-all : (i : ℕ) (ts : List Tree) → length ts ≤ i → labelledTo i ts ≡ allLabelled b us ts
-  unfolding labelledTo allLabelled
-  to-all zero [] h = refl
-  to-all zero (t ∷ ts) h = absurd (not-suc-le-zero h)
-  to-all (suc i) [] h = refl
-  to-all (suc i) (t ∷ ts) h = ap (λ (l : List Tree). labelled b us t ∷ l) (to-all i ts (le-of-suc-le-suc h))
-
--- ---- names that are once
-
-none-at {ℓ} : {A : Type ℓ} (t : A → Bool) (l : List A) (i : ℕ) (d : A) → any t l ≡ false → i < length l → t (getD l i d) ≡ false
-unfolding any
-none-at t [] i d e h = absurd (not-suc-le-zero h)
-none-at t (x ∷ l) zero d e h = by-test (t x) (λ k. absurd (never (sym (rw k at e)))) (λ k. k)
-none-at t (x ∷ l) (suc i) d e h = by-test (t x) (λ k. absurd (never (sym (rw k at e)))) (λ k. none-at t l i d (rw k at e) (le-of-suc-le-suc h))
-
-once-apart {ℓ} : {A : Type ℓ} (like : A → A → Bool) (l : List A) (j i : ℕ) (d : A) → onceEach like l ≡ true → j < i → i < length l → like (getD l j d) (getD l i d) ≡ false
-unfolding onceEach
-once-apart like [] j i d e h k = absurd (not-suc-le-zero k)
-once-apart like (x ∷ l) j zero d e h k = absurd (not-suc-le-zero h)
-once-apart like (x ∷ l) zero (suc i) d e h k =
-    by-test (any (like x) l) (λ t. absurd (never (rw t at e))) (λ t. none-at (like x) l i d t (le-of-suc-le-suc k))
-once-apart like (x ∷ l) (suc j) (suc i) d e h k =
-    by-test (any (like x) l) (λ t. absurd (never (rw t at e))) (λ t. once-apart like l j i d (rw t at e) (le-of-suc-le-suc h) (le-of-suc-le-suc k))
-
--- a label is mapped for one name
-one-name : (u : Use) (a b : List ℕ) → isMappedFor a u ≡ true → isMappedFor b u ≡ true → a ≡ b
-unfolding isMappedFor
-one-name free a b x y = absurd (never x)
-one-name (mapped n t) a b x y = sym (same-eq t a x) ∙ same-eq t b y
-one-name (awaiting n t) a b x y = absurd (never x)
-
-own-label : (b : ℕ) (us : List Use) (t : Tree) → labelled b us t .label ≡ pick (ltb (place (isMappedFor (t .name)) us) (length us)) (b + place (isMappedFor (t .name)) us) 0
-unfolding labelled withLabel
-own-label b us t = refl
-
--- two trees of different names do not carry the same label
-apart-labels : (b : ℕ) (us : List Use) (t s : Tree) → 16 ≤ b → same (s .name) (t .name) ≡ false → labelled b us t .label ≡ b + place (isMappedFor (s .name)) us → ⊥
-apart-labels b us t s h n e =
-    by-test (ltb (place (isMappedFor (t .name)) us) (length us))
-    (λ k.
-    let lt : place (isMappedFor (t .name)) us < length us = ltb-true _ _ k in
-    let z : b + place (isMappedFor (t .name)) us ≡ b + place (isMappedFor (s .name)) us = sym (own-label b us t ∙ rw k refl) ∙ e in
-    let q : place (isMappedFor (s .name)) us ≡ place (isMappedFor (t .name)) us = omega arith in
-    let x = place-finds (isMappedFor (t .name)) us free lt in
-    let y : isMappedFor (s .name) (getD us (place (isMappedFor (t .name)) us) free) ≡ true = rw q at (place-finds (isMappedFor (s .name)) us free (rw q lt)) in
-    same-no (s .name) (t .name) n (one-name _ (s .name) (t .name) y x))
-    (λ k.
-    let z : 0 ≡ b + place (isMappedFor (s .name)) us = sym (own-label b us t ∙ rw k refl) ∙ e in
-    omega arith)
+pub all-once : (b : ℕ) (us : List Use) (ts : List Tree) → onceEach sameName (allLabelled b us ts) ≡ onceEach sameName ts
+unfolding onceEach allLabelled
+all-once b us [] = refl
+all-once b us (t ∷ ts) = rw (any-named b us t ts, all-once b us ts) refl
 
 module _ (ns₀ os : List ℕ) where
   abbrev pub Labelled : ℕ → List ℕ → Type 0
-  Labelled i ns = cardOf ns os ≡ withTrees (labelledTo (cardOf ns₀ os .base) (cardOf ns₀ os .labels) i (cardOf ns₀ os .trees)) (cardOf ns₀ os)
+  Labelled p ns = cardOf ns os ≡ withTrees (allLabelled (cardOf ns₀ os .base) (take p (cardOf ns₀ os .labels)) (cardOf ns₀ os .trees)) (cardOf ns₀ os)
 
-  pub labelled-none : Labelled 0 ns₀
-  unfolding labelledTo withTrees
-  labelled-none = refl
-
-  pub labelled-in : (i : ℕ) (ns : List ℕ) → Labelled i ns → treeCount ns ≡ treeCount ns₀
-  unfolding withTrees
-  labelled-in i ns e = sym (trees-length ns os) ∙ ap (λ (x : Card). length (x .trees)) e ∙ to-length _ _ i (cardOf ns₀ os .trees) ∙ trees-length ns₀ os
-
-  tree-to : (i j : ℕ) (ns : List ℕ) → Labelled i ns → treeAt j (cardOf ns os) ≡ getD (labelledTo (cardOf ns₀ os .base) (cardOf ns₀ os .labels) i (cardOf ns₀ os .trees)) j (bare [])
-  unfolding treeAt withTrees
-  tree-to i j ns e = ap (λ (x : Card). getD (x .trees) j (bare [])) e
-
-  -- what a tree that is not yet labelled is: as it was
-  tree-yet : (i j : ℕ) (ns : List ℕ) → i ≤ j → Labelled i ns → treeAt j (cardOf ns os) ≡ treeAt j (cardOf ns₀ os)
-  unfolding treeAt
-  tree-yet i j ns h e = tree-to i j ns e ∙ to-behind _ _ i j (cardOf ns₀ os .trees) (bare []) h
-
-  tree-done : (i j : ℕ) (ns : List ℕ) → j < i → j < treeCount ns₀ → Labelled i ns → treeAt j (cardOf ns os) ≡ labelled (cardOf ns₀ os .base) (cardOf ns₀ os .labels) (treeAt j (cardOf ns₀ os))
-  unfolding treeAt
-  tree-done i j ns h k e = tree-to i j ns e ∙ to-before _ _ i j (cardOf ns₀ os .trees) (bare []) h (rw trees-length k)
-
-  kept-base : (i : ℕ) (ns : List ℕ) → Labelled i ns → (cardOf ns os .base ≡ cardOf ns₀ os .base) × (cardOf ns os .labels ≡ cardOf ns₀ os .labels)
-  unfolding withTrees
-  kept-base i ns e = (ap (λ (x : Card). x .base) e, ap (λ (x : Card). x .labels) e)
+  pub labelled-none : Unlabelled (cardOf ns₀ os) → Labelled 0 ns₀
+  unfolding withTrees treeAt
+  labelled-none un = ap (λ (ts : List Tree). withTrees ts (cardOf ns₀ os)) (sym (none-labelled (cardOf ns₀ os .base) (cardOf ns₀ os .trees) (bare []) un))
 
   base-low : 16 ≤ cardOf ns₀ os .base
   unfolding cardOf
   base-low = base-range ns₀ .0
 
-  names-apart : (j i : ℕ) → onceEach sameName (cardOf ns₀ os .trees) ≡ true → j < i → i < treeCount ns₀ → same (treeAt i (cardOf ns₀ os) .name) (treeAt j (cardOf ns₀ os) .name) ≡ false
-  unfolding treeAt sameName named
-  names-apart j i once h k = once-apart sameName (cardOf ns₀ os .trees) j i (bare []) once h (rw trees-length k)
+  module _ (p : ℕ) (ns : List ℕ) (e : Labelled p ns) where
+    kept-base : baseIn ns ≡ cardOf ns₀ os .base
+    unfolding withTrees cardOf
+    kept-base = ap (λ (x : Card). x .base) e
 
-  pub labelled-ready : (i : ℕ) (ns : List ℕ) → i < treeCount ns₀ → Unlabelled (cardOf ns₀ os) → onceEach sameName (cardOf ns₀ os .trees) ≡ true → Labelled i ns → Ready i (cardOf ns os)
-  unfolding cardOf treeAt
-  labelled-ready i ns h un once e = record {
-    none = rw (tree-yet i i ns (omega arith) e) (un i (rw trees-length h));
-    alone = λ j lt.
-        let j' : j < treeCount ns₀ = rw (trees-length ns os, labelled-in i ns e) at lt in
-        rw (tree-yet i i ns (omega arith) e, kept-base i ns e .0, kept-base i ns e .1)
-        (by-test (ltb j i)
-        (λ t k. let ji : j < i = ltb-true j i t in apart-labels (cardOf ns₀ os .base) (cardOf ns₀ os .labels) (treeAt j (cardOf ns₀ os)) (treeAt i (cardOf ns₀ os)) base-low (names-apart j i once ji h) (ap (λ (x : Tree). x .label) (sym (tree-done i j ns ji j' e)) ∙ k))
-        (λ t k. let ij : i ≤ j = ltb-false j i t in
-        let z : treeAt j (cardOf ns os) .label ≡ 0 = rw (tree-yet i j ns ij e) (un j (rw trees-length j')) in omega (arith, base-low)));
-  }
+    kept-labels : cardOf ns os .labels ≡ cardOf ns₀ os .labels
+    unfolding withTrees
+    kept-labels = ap (λ (x : Card). x .labels) e
 
-  pub labelled-more : (i : ℕ) (ns ns' : List ℕ) → i < treeCount ns₀ → Labelled i ns
-      → cardOf ns' os ≡ withTrees (set (cardOf ns os .trees) i (labelled (cardOf ns os .base) (cardOf ns os .labels) (treeAt i (cardOf ns os)))) (cardOf ns os)
-      → Labelled (i + 1) ns'
-  unfolding withTrees treeAt
-  labelled-more i ns ns' h e k =
-      let s = to-set (cardOf ns₀ os .base) (cardOf ns₀ os .labels) i (cardOf ns₀ os .trees) (bare []) (rw trees-length h) in
-      rw (k, tree-yet i i ns (omega arith) e, e, s, add-one i) refl
+    kept-trees : cardOf ns os .trees ≡ allLabelled (cardOf ns₀ os .base) (take p (cardOf ns₀ os .labels)) (cardOf ns₀ os .trees)
+    unfolding withTrees
+    kept-trees = ap (λ (x : Card). x .trees) e
 
-  pub labelled-all : (i n : ℕ) (ns : List ℕ) → n ≡ treeCount ns₀ → n ≤ i → Labelled i ns → cardOf ns os ≡ withTrees (allLabelled (cardOf ns₀ os .base) (cardOf ns₀ os .labels) (cardOf ns₀ os .trees)) (cardOf ns₀ os)
-  labelled-all i n ns hn h e = e ∙ ap (λ (ts : List Tree). withTrees ts (cardOf ns₀ os)) (to-all _ _ i (cardOf ns₀ os .trees) (omega (arith, trees-length ns₀ os)))
+    pub labelled-once : onceEach sameName (cardOf ns₀ os .trees) ≡ true → onceEach sameName (cardOf ns os .trees) ≡ true
+    labelled-once once = ap (onceEach sameName) kept-trees ∙ all-once _ _ (cardOf ns₀ os .trees) ∙ once
+
+    module _ (h : p < labelCount) where
+      p-labels : length (take p (cardOf ns₀ os .labels)) ≡ p
+      p-labels = length-take-le p (cardOf ns₀ os .labels) (rw labels-length (omega arith))
+
+      -- no tree carries the next one
+      pub labelled-alone : (j : ℕ) → j < treeCount ns → treeAt j (cardOf ns os) .label ≡ baseIn ns + p → ⊥
+      unfolding treeAt withLabel
+      labelled-alone j lt k =
+          let b : ℕ = cardOf ns₀ os .base in
+          let us : List Use = take p (cardOf ns₀ os .labels) in
+          let t : Tree = getD (cardOf ns₀ os .trees) j (bare []) in
+          let many : j < length (cardOf ns₀ os .trees) = omega (arith, trees-length ns os, ap length kept-trees, all-length b us (cardOf ns₀ os .trees)) in
+          let l : labelOf b us (t .name) ≡ b + p = sym (ap (λ (s : Tree). s .label) (ap (λ (ts : List Tree). getD ts j (bare [])) kept-trees ∙ all-get b us (cardOf ns₀ os .trees) j (bare []) many ∙ labelled-is b us t)) ∙ k ∙ ap (λ (n : ℕ). n + p) kept-base in
+          by-test (ltb (place (isMappedFor (t .name)) us) (length us))
+          (λ x. let lt : place (isMappedFor (t .name)) us < length us = ltb-true _ _ x in omega (arith, l, label-found b us (t .name) lt, p-labels))
+          (λ x. omega (arith, l, base-low, label-missed b us (t .name) (ltb-false _ _ x)))
+
+      use-at : getD (cardOf ns os .labels) p free ≡ labelIn ns os p
+      unfolding cardOf
+      use-at = tab-get labelCount (labelIn ns os) p free h
+
+      its-use : labelIn ns os p ≡ getD (cardOf ns₀ os .labels) p free
+      its-use = sym use-at ∙ ap (λ (l : List Use). getD l p free) kept-labels
+
+      pub labelled-more : (ns' : List ℕ) → cardOf ns' os ≡ withTrees (map (given (baseIn ns + p) (labelIn ns os p)) (cardOf ns os .trees)) (cardOf ns os) → Labelled (p + 1) ns'
+      unfolding withTrees
+      labelled-more ns' k =
+          let b : ℕ = cardOf ns₀ os .base in
+          let us : List Use = take p (cardOf ns₀ os .labels) in
+          let u : Use = getD (cardOf ns₀ os .labels) p free in
+          let more : us ++ (u ∷ []) ≡ take (p + 1) (cardOf ns₀ os .labels) = rw (add-one p) (sym (take-suc (cardOf ns₀ os .labels) p free (rw labels-length h))) in
+          let step : map (given (b + p) u) (allLabelled b us (cardOf ns₀ os .trees)) ≡ allLabelled b (take (p + 1) (cardOf ns₀ os .labels)) (cardOf ns₀ os .trees) = rw (← more) (rw p-labels at (all-next b us u base-low (cardOf ns₀ os .trees))) in
+          k ∙ ap (λ (c : Card). withTrees (map (given (baseIn ns + p) (labelIn ns os p)) (c .trees)) c) e ∙ rw (kept-base, its-use) (ap (λ (ts : List Tree). withTrees ts (cardOf ns₀ os)) step)
+
+  pub labelled-all : (p : ℕ) (ns : List ℕ) → labelCount ≤ p → Labelled p ns → cardOf ns os ≡ withTrees (allLabelled (cardOf ns₀ os .base) (cardOf ns₀ os .labels) (cardOf ns₀ os .trees)) (cardOf ns₀ os)
+  labelled-all p ns h e = e ∙ ap (λ (us : List Use). withTrees (allLabelled (cardOf ns₀ os .base) us (cardOf ns₀ os .trees)) (cardOf ns₀ os)) (take-all p (cardOf ns₀ os .labels) (rw labels-length h))
 
 -- ---- all labels, after the routes and the trees
 
@@ -281,6 +326,20 @@ module _ (f : Form) (o : List ℕ) where
   pub rows-unlabelled : (c : Card) → c ≡ rowsRead f o → Unlabelled c
   unfolding rowsRead withTrees treeAt
   rows-unlabelled c e j lt = rw e (trees-bare f (getD o 12 0) j (drop (treesBegin f o) o))
+
+  -- no entry counts a tree yet
+  none-counted : (n : ℕ) (rest : List ℕ) → allWorkedOut [] (routesRead n rest) ≡ routesRead n rest
+  unfolding allWorkedOut routesRead routeRead workedOut total
+  none-counted zero rest = refl
+  none-counted (suc n) rest = ap (λ (rs : List Route). routeRead rest ∷ rs) (none-counted n (drop routeSize rest))
+
+  pub rows-uncounted : (c d t s : Card) (us : List Use) (ts : List Tree) (l : ℕ) → c ≡ rowsRead f o → d ≡ withLabels us c → t ≡ withTrees ts d → s ≡ withLast l t
+      → onceEach sameRoot (c .routes) ≡ true → (onceEach sameRoot (s .routes) ≡ true) × (allWorkedOut [] (s .routes) ≡ s .routes)
+  unfolding rowsRead withLast withLabels withTrees withRoutes
+  rows-uncounted c d t s us ts l ec ed et es once =
+      let k : s .routes ≡ c .routes = ap (λ (x : Card). x .routes) es ∙ ap (λ (x : Card). x .routes) et ∙ ap (λ (x : Card). x .routes) ed in
+      let r : s .routes ≡ rowsRead f o .routes = k ∙ ap (λ (x : Card). x .routes) ec in
+      (rw k once, rw r (none-counted (getD o 11 0) (drop (headSize f) o)))
 
   -- the base that the head says
   pub base-kept : (c d : Card) (us : List Use) (ns os : List ℕ) (ts : List Tree) → c ≡ rowsRead f o → d ≡ withLabels us c → cardOf ns os ≡ withTrees ts d → fourAt o 3 ≡ baseIn ns

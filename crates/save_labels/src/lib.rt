@@ -3,16 +3,16 @@
 // With them the table is whole but for the counts, which are worked out.
 ghost use mathlib.Core.Path.{_≡_};
 ghost use mathlib.Core.Bool.{true};
-ghost use mathlib.Core.List.{List};
-ghost use Prim.Native.Nat.{ℕ, _-_, _≤_, _<_};
+ghost use mathlib.Core.List.{List, map};
+ghost use Prim.Native.Nat.{ℕ, _+_, _-_, _<_};
 ghost use lib.ListN.{drop, set};
-ghost use Rattle.meaning.specs.Octets.{place, fourAt};
-ghost use Rattle.meaning.specs.Card.{withTrees, withLabels, withLast, treeAt, labelCount, treeLimit};
-ghost use Rattle.meaning.specs.Save.{formOf, lastPlace, useRead, usesRead, isMappedFor, labelled, allLabelled, sameName, onceEach, tableIn, highestUsed, lastIn};
+ghost use Rattle.meaning.specs.Octets.{fourAt};
+ghost use Rattle.meaning.specs.Card.{withTrees, withLabels, withLast, treeAt, labelCount};
+ghost use Rattle.meaning.specs.Save.{formOf, lastPlace, useRead, usesRead, allLabelled, sameName, sameRoot, onceEach, tableIn, highestUsed, lastIn};
 ghost use Rattle.memory.specs.Sizes.{Numbers, Names};
-ghost use Rattle.memory.specs.Memory.{cardOf, baseIn, treeCount, isMappedAt, labelBefore};
+ghost use Rattle.memory.specs.Memory.{cardOf, baseIn, treeCount, labelIn, labelBefore};
 ghost use Rattle.save_rows.specs.Stages.{rowsRead, labelsBegin};
-ghost use Rattle.save_labels.specs.Labels.{Unlabelled, Ready, OfBlock};
+ghost use Rattle.save_labels.specs.Labels.{Unlabelled, given, OfBlock};
 use meaning::LABEL_COUNT;
 use meaning::LAST_PLACE;
 use meaning::NAME_LIMIT;
@@ -68,28 +68,21 @@ fn read_uses(
 
 // ---- the label that each tree carries
 
-// The place of the first label that is mapped for a name; 256 where none is.
-fn mapped_place(numbers: &[u64], names: &[u8], name: &[u8]) -> usize
-    requires { ⌜ Numbers (now numbers) × Names (now names) ⌝ }
-    ensures { λ r. ⌜ (r ≡ place (isMappedFor (now (name .entry))) (cardOf (now (numbers .entry)) (now (names .entry)) .labels)) × (r ≤ labelCount) × (r < labelCount → isMappedAt (now (numbers .entry)) r ≡ true) ⌝ }
-{
-    let mut p = 0;
-    while p < LABEL_COUNT {
-        if save_rules::is_mapped_for(numbers, names, p, name) {
-            return p;
-        }
-        p += 1;
-    }
-    LABEL_COUNT
-}
-
-fn label_tree(numbers: &mut [u64], names: &[u8], i: usize)
-    requires { ⌜ Numbers (now numbers) × Names (now names) × (i < treeCount (now numbers)) × (i < treeLimit) × Ready i (cardOf (now numbers) (now names)) ⌝ }
+// The tree of the name that the label at place p is mapped for carries it from now on, unless it carries one already.
+fn give_label(numbers: &mut [u64], names: &[u8], p: usize)
+    requires { ⌜ Numbers (now numbers) × Names (now names) × (p < labelCount) × (onceEach sameName (cardOf (now numbers) (now names) .trees) ≡ true)
+        × ((j : ℕ) → j < treeCount (now numbers) → treeAt j (cardOf (now numbers) (now names)) .label ≡ baseIn (now numbers) + p → ⊥) ⌝ }
     ensures { λ _. ⌜ (let c = cardOf (now (numbers .entry)) (now (names .entry)) in
-        cardOf (now (numbers .exit)) (now (names .entry)) ≡ withTrees (set (c .trees) i (labelled (c .base) (c .labels) (treeAt i c))) c) ⌝ }
+        cardOf (now (numbers .exit)) (now (names .entry)) ≡ withTrees (map (given (baseIn (now (numbers .entry)) + p) (labelIn (now (numbers .entry)) (now (names .entry)) p)) (c .trees)) c) ⌝ }
 {
-    let p = mapped_place(numbers, names, memory_trees::tree_name(names, i));
-    if LABEL_COUNT <= p {
+    if memory_labels::mapped_at(numbers, p) == 17 {
+        return;
+    }
+    let i = memory_trees::tree_place(numbers, names, memory_labels::label_name(names, p));
+    if memory::tree_count(numbers) <= i {
+        return;
+    }
+    if memory_trees::tree_label(numbers, i) != 0 {
         return;
     }
     memory_marks::attach(numbers, i, p);
@@ -100,11 +93,10 @@ fn label_trees(numbers: &mut [u64], names: &[u8])
     ensures { λ _. ⌜ (let c = cardOf (now (numbers .entry)) (now (names .entry)) in
         cardOf (now (numbers .exit)) (now (names .entry)) ≡ withTrees (allLabelled (c .base) (c .labels) (c .trees)) c) ⌝ }
 {
-    let n = memory::tree_count(numbers);
-    let mut i = 0;
-    while i < n {
-        label_tree(numbers, names, i);
-        i += 1;
+    let mut p = 0;
+    while p < LABEL_COUNT {
+        give_label(numbers, names, p);
+        p += 1;
     }
 }
 
@@ -149,11 +141,11 @@ fn settle(octets: &[u8], second: bool, numbers: &mut [u64])
     memory::set_turn(numbers, v);
 }
 
-// The labels, whose records begin at a place, where no two trees have one name.
+// The labels, whose records begin at a place, where no two trees have one name and no two routes one root.
 pub fn read_labels(octets: &[u8], at: usize, second: bool, numbers: &mut [u64], names: &mut [u8])
     requires { ⌜ Numbers (now numbers) × Names (now names) × (at < 65536) × (drop at (now octets) ≡ labelsBegin (formOf second) (now octets))
         × (cardOf (now numbers) (now names) ≡ rowsRead (formOf second) (now octets)) × (onceEach sameName (cardOf (now numbers) (now names) .trees) ≡ true)
-        × (second ≡ true → OfBlock (fourAt (now octets) 3) (fourAt (now octets) lastPlace)) ⌝ }
+        × (onceEach sameRoot (cardOf (now numbers) (now names) .routes) ≡ true) × (second ≡ true → OfBlock (fourAt (now octets) 3) (fourAt (now octets) lastPlace)) ⌝ }
     ensures { λ _. ⌜ cardOf (now (numbers .exit)) (now (names .exit)) ≡ tableIn (formOf second) (now (octets .entry)) ⌝ }
 {
     let labels = octets::two_at(octets, 13) as usize;

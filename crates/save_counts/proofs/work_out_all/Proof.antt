@@ -1,5 +1,6 @@
-use Rattle.save_counts.proofs.Entries.{Working, working-none, working-many, working-more, working-all}
-use Rattle.memory.proofs.Memory.{routes-length, routeCount-le}
+-- `save_counts::work_out_all` meets its contract: the invariant is that the first i trees are counted. Assumes nothing.
+use Rattle.save_counts.proofs.Entries.{Working, working-none, working-many, working-more, working-all, nothing-stands, nothing-lone}
+use Rattle.memory.proofs.Memory.{trees-length, treeCount-le}
 use Rattle.memory.specs.Memory.{cardOf}
 use borrow.Author.Needs.{needs}
 use lib.ListN.{length}
@@ -10,26 +11,27 @@ use Rattle.save_counts.proofs.work_out_all.Statement.{statement}
 use Rattle.save_counts.proofs.work_out_all.Tie as tie
 
 abbrev Inv-loop : tie.InvT-loop
-Inv-loop numbers₀ names n k₀ numbers k = (k ≤ n) × (length numbers ≡ length numbers₀) × Working k (cardOf numbers₀ names) (cardOf numbers names)
+Inv-loop numbers₀ names n i₀ numbers i = (i ≤ n) × (length numbers ≡ length numbers₀) × Working i (cardOf numbers₀ names) (cardOf numbers names)
 
 abbrev μ-loop : tie.MeasureT-loop
-μ-loop numbers₀ names n k₀ numbers k = n - k
+μ-loop numbers₀ names n i₀ numbers i = n - i
 
-route-count-requires : tie.Need-route-count-requires Inv-loop μ-loop
-route-count-requires c κs = search needs
+tree-count-requires : tie.Need-tree-count-requires Inv-loop μ-loop
+tree-count-requires c κs = search needs
 
 loop-holds : tie.Need-loop-holds Inv-loop μ-loop
-loop-holds c = (omega arith, refl, working-none _)
+loop-holds c = (omega arith, refl, working-none _ (c .before .before .before .before .pre .3))
 
-work-out-one-requires : tie.Need-work-out-one-requires Inv-loop μ-loop
-work-out-one-requires c κs =
+recount-requires : tie.Need-recount-requires Inv-loop μ-loop
+recount-requires c κs =
     let s = c .before .before .before .before .before .before .before in
     let v = c .before .before .loop .inv in
-    let many = sym (routes-length _ (s .args .names .now)) ∙ working-many _ _ _ (v .2) ∙ routes-length (s .args .numbers .now) (s .args .names .now) in
-    (v .1 ∙ s .pre .0, s .pre .1, omega (arith, many, c .before .before .before .route-count .ensures .0), omega (arith, routeCount-le (s .args .numbers .now), c .before .before .before .route-count .ensures .0))
+    let many = sym (trees-length _ (s .args .names .now)) ∙ working-many _ _ _ (v .2) ∙ trees-length (s .args .numbers .now) (s .args .names .now) in
+    let n = c .before .before .before .tree-count .ensures in
+    (v .1 ∙ s .pre .0, s .pre .1, omega (arith, many, n .0), omega (arith, treeCount-le (s .args .numbers .now), n .0), omega arith, omega arith)
 
-add-k : tie.Need-add-k Inv-loop μ-loop
-add-k c = search needs
+add-i : tie.Need-add-i Inv-loop μ-loop
+add-i c = search needs
 
 loop-less : tie.Need-loop-less Inv-loop μ-loop
 loop-less c = search needs
@@ -38,8 +40,9 @@ loop-again : tie.Need-loop-again Inv-loop μ-loop
 loop-again c =
     let s = c .before .before .before .before .before .before .before .before .before .before in
     let v = c .before .before .before .before .before .loop .inv in
-    let h : c .before .before .before .before .before .loop .k < length (cardOf (s .args .numbers .now) (s .args .names .now) .routes) = rw routes-length (omega (arith, c .before .before .before .before .before .before .route-count .ensures .0)) in
-    (omega arith, c .before .numbers .given ∙ v .1, working-more _ _ _ _ h (v .2) (c .before .before .work-out-one .ensures))
+    let n = c .before .before .before .before .before .before .tree-count .ensures in
+    let h : c .before .before .before .before .before .loop .i < length (cardOf (s .args .numbers .now) (s .args .names .now) .trees) = rw trees-length (omega (arith, n .0)) in
+    (omega arith, c .before .numbers .given ∙ v .1, working-more _ _ _ (v .2) _ h (rw trees-length (treeCount-le _)) (s .pre .2) (c .before .before .recount .ensures _ nothing-stands nothing-lone))
 
 same-length : tie.Need-same-length Inv-loop μ-loop
 same-length c = c .before .loop .inv .1
@@ -47,9 +50,7 @@ same-length c = c .before .loop .inv .1
 returns : tie.Need-returns Inv-loop μ-loop
 returns c =
     let s = c .before .before .before .before .before .before in
-    let v = c .before .loop .inv in
-    let all : c .before .loop .k ≡ length (cardOf (s .args .numbers .now) (s .args .names .now) .routes) = omega (arith, routes-length (s .args .numbers .now) (s .args .names .now), c .before .before .route-count .ensures .0) in
-    working-all _ _ _ all (v .2)
+    working-all _ _ _ (c .before .loop .inv .2) (rw trees-length (omega (arith, c .before .before .tree-count .ensures .0)))
 
 pub work-out-all-spec : {M : Type 1} → statement M
 work-out-all-spec =
@@ -57,10 +58,10 @@ work-out-all-spec =
     (tie.spec
     Inv-loop
     μ-loop
-    route-count-requires
+    tree-count-requires
     loop-holds
-    work-out-one-requires
-    add-k
+    recount-requires
+    add-i
     loop-less
     loop-again
     same-length

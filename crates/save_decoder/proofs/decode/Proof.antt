@@ -1,5 +1,5 @@
--- `save_decoder::decode` meets its contract: what the head cannot say, and a name that stands twice, are no save. Assumes nothing.
-use Rattle.save_decoder.proofs.Head.{names-not}
+-- `save_decoder::decode` meets its contract: what the head cannot say, and a name or a root that stands twice, are no save. Assumes nothing.
+use Rattle.save_decoder.proofs.Head.{names-not, roots-not}
 use Rattle.memory.proofs.Marks.{never}
 use borrow.Author.Tests.{not-true, not-false}
 use mathlib.Core.Path.{sym, _∙_}
@@ -36,11 +36,8 @@ same-length-2 c = search needs
 returns-3 : tie.Need-returns-3
 returns-3 c = ((λ t. absurd (never t)), (λ _. names-not _ _ _ (c .before .before .before .before .before .before .before .before .read-rows .ensures .0) (sym (c .before .names-once .ensures) ∙ not-true _ (c .if3 .taken))))
 
-read-labels-requires : tie.Need-read-labels-requires
-read-labels-requires c κs =
-    let s = c .before .before .before .before .before .before .before .before .before .before .before .before .before .before .before .before .before .before .before .before in
-    let r = c .before .before .before .before .before .before .before .before .before .before .read-rows .ensures in
-    (c .before .before .before .before .before .before .before .before .before .numbers .given ∙ s .pre .0, c .before .before .before .before .before .before .before .names .given ∙ s .pre .1, r .2, r .1, r .0, sym (c .before .before .before .names-once .ensures) ∙ not-false _ (c .before .before .if3 .left), c .before .before .before .before .before .before .before .before .before .before .before .before .before .before .is-last .ensures .0 (not-false _ (c .before .before .before .before .before .before .before .before .before .before .before .before .before .if2 .left)))
+roots-once-requires : tie.Need-roots-once-requires
+roots-once-requires c κs = search needs
 
 same-length-3 : tie.Need-same-length-3
 same-length-3 c = search needs
@@ -49,7 +46,30 @@ same-length-4 : tie.Need-same-length-4
 same-length-4 c = search needs
 
 returns-4 : tie.Need-returns-4
-returns-4 c = ((λ _. c .before .before .before .before .read-labels .ensures), (λ t. absurd (never (sym t))))
+returns-4 c = ((λ t. absurd (never t)), (λ _. roots-not _ _ _ (c .before .before .before .before .before .before .before .before .before .before .before .before .read-rows .ensures .0) (sym (c .before .roots-once .ensures) ∙ not-true _ (c .if4 .taken))))
+
+read-labels-requires : tie.Need-read-labels-requires
+read-labels-requires c κs =
+    let s = c .before .before .before .before .before .before .before .before .before .before .before .before .before .before .before .before .before .before .before .before .before .before .before .before in
+    let r = c .before .before .before .before .before .before .before .before .before .before .before .before .before .before .read-rows .ensures in (
+      c .before .before .before .before .before .before .before .before .before .before .before .before .before .numbers .given ∙ s .pre .0,
+      c .before .before .before .before .before .before .before .before .before .before .before .names .given ∙ s .pre .1,
+      r .2,
+      r .1,
+      r .0,
+      sym (c .before .before .before .before .before .before .before .names-once .ensures) ∙ not-false _ (c .before .before .before .before .before .before .if3 .left),
+      sym (c .before .before .before .roots-once .ensures) ∙ not-false _ (c .before .before .if4 .left),
+      c .before .before .before .before .before .before .before .before .before .before .before .before .before .before .before .before .before .before .is-last .ensures .0 (not-false _ (c .before .before .before .before .before .before .before .before .before .before .before .before .before .before .before .before .before .if2 .left)),
+    )
+
+same-length-5 : tie.Need-same-length-5
+same-length-5 c = search needs
+
+same-length-6 : tie.Need-same-length-6
+same-length-6 c = search needs
+
+returns-5 : tie.Need-returns-5
+returns-5 c = ((λ _. c .before .before .before .before .read-labels .ensures), (λ t. absurd (never (sym t))))
 
 pub decode-spec : {M : Type 1} → statement M
 decode-spec =
@@ -64,7 +84,11 @@ decode-spec =
     same-length
     same-length-2
     returns-3
-    read-labels-requires
+    roots-once-requires
     same-length-3
     same-length-4
-    returns-4)
+    returns-4
+    read-labels-requires
+    same-length-5
+    same-length-6
+    returns-5)

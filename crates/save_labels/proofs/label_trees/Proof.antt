@@ -1,53 +1,49 @@
-use Prim.Native.Nat.{_<_, _-_, _≤_}
+-- `save_labels::label_trees` meets its contract: the invariant is that the trees carry what the first p labels give them. Assumes nothing.
+use Prim.Native.Nat.{_-_, _≤_}
 use native.Mathlib.Omega.{arith}
 use mathlib.Core.Path.{_≡_, refl, _∙_}
 use lib.ListN.{length}
 use borrow.Author.Needs.{needs}
-use Rattle.memory.specs.Memory.{treeCount}
-use Rattle.save_labels.proofs.Labels.{Labelled, labelled-none, labelled-in, labelled-ready, labelled-more, labelled-all}
+use Rattle.meaning.specs.Card.{labelCount}
+use Rattle.save_labels.proofs.Labels.{Labelled, labelled-none, labelled-once, labelled-alone, labelled-more, labelled-all}
 use Rattle.save_labels.proofs.label_trees.Statement.{statement}
 use Rattle.save_labels.proofs.label_trees.Tie as tie
 
 abbrev Inv-loop : tie.InvT-loop
-Inv-loop numbers₀ names n i₀ numbers i = (i ≤ n) × (length numbers ≡ length numbers₀) × Labelled numbers₀ names i numbers
+Inv-loop numbers₀ names p₀ numbers p = (p ≤ labelCount) × (length numbers ≡ length numbers₀) × Labelled numbers₀ names p numbers
 
 abbrev μ-loop : tie.MeasureT-loop
-μ-loop numbers₀ names n i₀ numbers i = n - i
-
-tree-count-requires : tie.Need-tree-count-requires Inv-loop μ-loop
-tree-count-requires c κs = search needs
+μ-loop numbers₀ names p₀ numbers p = labelCount - p
 
 loop-holds : tie.Need-loop-holds Inv-loop μ-loop
-loop-holds c = (omega arith, refl, labelled-none _ _)
+loop-holds c = (omega arith, refl, labelled-none _ _ (c .before .before .pre .2))
 
-label-tree-requires : tie.Need-label-tree-requires Inv-loop μ-loop
-label-tree-requires c κs =
-    let s = c .before .before .before .before .before .before .before in
+give-label-requires : tie.Need-give-label-requires Inv-loop μ-loop
+give-label-requires c κs =
+    let s = c .before .before .before .before .before in
     let v = c .before .before .loop .inv in
-    let n = c .before .before .before .tree-count .ensures in
-    let h : c .before .before .loop .i < treeCount (s .args .numbers .now) = omega (arith, n .0) in
-    (v .1 ∙ s .pre .0, s .pre .1, omega (arith, labelled-in (s .args .numbers .now) (s .args .names .now) _ _ (v .2)), omega (arith, n .1), labelled-ready (s .args .numbers .now) (s .args .names .now) _ _ h (s .pre .2) (s .pre .3) (v .2))
+    let h = c .before .loop-test .taken in
+    (v .1 ∙ s .pre .0, s .pre .1, h, labelled-once (s .args .numbers .now) (s .args .names .now) (c .before .before .loop .p) _ (v .2) (s .pre .3), labelled-alone (s .args .numbers .now) (s .args .names .now) (c .before .before .loop .p) _ (v .2) h)
 
-add-i : tie.Need-add-i Inv-loop μ-loop
-add-i c = search needs
+add-p : tie.Need-add-p Inv-loop μ-loop
+add-p c = search needs
 
 loop-less : tie.Need-loop-less Inv-loop μ-loop
 loop-less c = search needs
 
 loop-again : tie.Need-loop-again Inv-loop μ-loop
 loop-again c =
-    let at-tree-count = c .before .before .before .before .before .before in
-    let s = at-tree-count .before .before .before .before in
-    let v = c .before .before .before .before .before .loop .inv in
-    (omega arith, c .before .numbers .given ∙ v .1, labelled-more (s .args .numbers .now) (s .args .names .now) _ _ _ (omega (arith, at-tree-count .tree-count .ensures .0)) (v .2) (c .before .before .label-tree .ensures))
+    let l = c .before .before .before .before .before in
+    let s = l .before .before .before in
+    (omega arith, c .before .numbers .given ∙ l .loop .inv .1, labelled-more (s .args .numbers .now) (s .args .names .now) (l .loop .p) _ (l .loop .inv .2) (c .before .before .before .before .loop-test .taken) _ (c .before .before .give-label .ensures))
 
 same-length : tie.Need-same-length Inv-loop μ-loop
 same-length c = c .before .loop .inv .1
 
 returns : tie.Need-returns Inv-loop μ-loop
 returns c =
-    let s = c .before .before .before .before .before .before in
-    labelled-all (s .args .numbers .now) (s .args .names .now) _ _ _ (c .before .before .tree-count .ensures .0) (c .loop-test .left) (c .before .loop .inv .2)
+    let s = c .before .before .before .before in
+    labelled-all (s .args .numbers .now) (s .args .names .now) (c .before .loop .p) _ (c .loop-test .left) (c .before .loop .inv .2)
 
 pub label-trees-spec : {M : Type 1} → statement M
 label-trees-spec =
@@ -55,10 +51,9 @@ label-trees-spec =
     (tie.spec
     Inv-loop
     μ-loop
-    tree-count-requires
     loop-holds
-    label-tree-requires
-    add-i
+    give-label-requires
+    add-p
     loop-less
     loop-again
     same-length

@@ -1,5 +1,5 @@
 -- `save_labels::read_labels` meets its contract: the labels, then the label of each tree, then the last one given. Assumes nothing.
-use Rattle.save_labels.proofs.Labels.{rows-unlabelled, unlabelled-kept, once-kept, base-kept, block-kept, table-whole}
+use Rattle.save_labels.proofs.Labels.{rows-unlabelled, rows-uncounted, unlabelled-kept, once-kept, base-kept, block-kept, table-whole}
 use Rattle.memory.specs.Memory.{cardOf}
 use Rattle.meaning.specs.Card.{Card}
 use mathlib.Core.Path.{_≡_, refl, sym, ap, _∙_}
@@ -24,10 +24,13 @@ settle-requires : tie.Need-settle-requires
 settle-requires c κs =
     let s = c .before .before .before .before .before .before .before .before .before .before .before .before .before .before .before .before .before in
     let base = base-kept _ (s .args .octets .now) _ _ _ _ _ _ (s .pre .4) (c .before .before .before .before .before .before .before .before .before .before .read-uses .ensures) (c .before .before .before .label-trees .ensures) in
-    (c .before .before .numbers2 .given ∙ c .before .before .before .before .before .before .before .before .before .numbers .given ∙ s .pre .0, block-kept _ _ _ _ base (s .pre .6))
+    (c .before .before .numbers2 .given ∙ c .before .before .before .before .before .before .before .before .before .numbers .given ∙ s .pre .0, block-kept _ _ _ _ base (s .pre .7))
 
 work-out-all-requires : tie.Need-work-out-all-requires
-work-out-all-requires c κs = search needs
+work-out-all-requires c κs =
+    let s = c .before .before .before .before .before .before .before .before .before .before .before .before .before .before .before .before .before .before .before .before .before .before in
+    let rows = rows-uncounted _ (s .args .octets .now) (cardOf (s .args .numbers .now) (s .args .names .now)) _ _ _ _ _ _ (s .pre .4) (c .before .before .before .before .before .before .before .before .before .before .before .before .before .before .before .read-uses .ensures) (c .before .before .before .before .before .before .before .before .label-trees .ensures) (c .before .before .before .before .settle .ensures _) (s .pre .6) in
+    (search needs, search needs, rows .0, rows .1)
 
 same-length : tie.Need-same-length
 same-length c = search needs
