@@ -43,7 +43,14 @@ module _ (f : Form) (o : List ℕ) where
       let once = keeps-once (tableIn f o) (ruled-keeps f (tableIn f o) (taken-is-save f o e .0)) in
       (sym (all-once (fourAt o 3) us ts) ∙ once .1, sym (worked-once (allLabelled (fourAt o 3) us ts) (routesRead (getD o 11 0) (drop (headSize f) o))) ∙ once .2)
 
+  table-once : onceEach sameName (rowsRead f o .trees) ≡ true → onceEach sameRoot (rowsRead f o .routes) ≡ true → (onceEach sameName (tableIn f o .trees) ≡ true) × (onceEach sameRoot (tableIn f o .routes) ≡ true)
+  unfolding tableIn rowsRead withTrees withRoutes treesBegin
+  table-once names roots = (all-once _ _ _ ∙ names, worked-once _ _ ∙ roots)
+
   module _ (c : Card) (e : c ≡ rowsRead f o) where
+    pub read-once : onceEach sameName (c .trees) ≡ true → onceEach sameRoot (c .routes) ≡ true → (onceEach sameName (tableIn f o .trees) ≡ true) × (onceEach sameRoot (tableIn f o .routes) ≡ true)
+    read-once names roots = table-once (rw (← e) names) (rw (← e) roots)
+
     pub names-not : onceEach sameName (c .trees) ≡ false → isSave f o ≡ false
     names-not n = by-test (isSave f o) (λ k. absurd (never (sym n ∙ ap (λ (x : Card). onceEach sameName (x .trees)) e ∙ save-once k .0))) (λ k. k)
 

@@ -4,7 +4,7 @@ ghost use mathlib.Core.Bool.{true, false};
 ghost use Prim.Native.Nat.{_≤_};
 ghost use lib.ListN.{getD};
 ghost use Rattle.meaning.specs.Octets.{fourAt};
-ghost use Rattle.meaning.specs.Save.{Form, formOf, lastPlace, tableIn, isSave};
+ghost use Rattle.meaning.specs.Save.{Form, formOf, lastPlace, onceEach, sameName, sameRoot, tableIn, isSave};
 ghost use Rattle.meaning.specs.Card.{routeLimit, treeLimit};
 ghost use Rattle.memory.specs.Sizes.{Numbers, Names};
 ghost use Rattle.memory.specs.Memory.{cardOf};
@@ -54,10 +54,13 @@ fn is_last(octets: &[u8], second: bool) -> bool
     last < base + LABELS
 }
 
-// The table in the octets, into memory that held anything. False where the octets can be no save.
+// The table in the octets, into memory that held anything. False where the octets can be no save: then a name or a root stands twice, or the
+// head says what it cannot.
 pub fn decode(octets: &[u8], second: bool, numbers: &mut [u64], names: &mut [u8]) -> bool
     requires { ⌜ Numbers (now numbers) × Names (now names) ⌝ }
-    ensures { λ r. ⌜ (r ≡ true → cardOf (now (numbers .exit)) (now (names .exit)) ≡ tableIn (formOf second) (now (octets .entry))) × (r ≡ false → isSave (formOf second) (now (octets .entry)) ≡ false) ⌝ }
+    ensures { λ r. ⌜ (r ≡ true → (let t = tableIn (formOf second) (now (octets .entry)) in
+        (cardOf (now (numbers .exit)) (now (names .exit)) ≡ t) × (onceEach sameName (t .trees) ≡ true) × (onceEach sameRoot (t .routes) ≡ true)))
+        × (r ≡ false → isSave (formOf second) (now (octets .entry)) ≡ false) ⌝ }
 {
     if !is_head(octets) {
         return false;

@@ -5,7 +5,7 @@ ghost use mathlib.Core.List.{List};
 ghost use Prim.Native.Nat.{ℕ, _≤_};
 ghost use lib.ListN.{length};
 ghost use Rattle.meaning.specs.Octets.{same};
-ghost use Rattle.meaning.specs.Save.{new, formOf, saved, saveLimit, tableIn, lastRight, rowsRuled, isSave, restore};
+ghost use Rattle.meaning.specs.Save.{new, formOf, saved, saveLimit, onceEach, sameName, sameRoot, tableIn, lastRight, rowsRuled, isSave, restore};
 ghost use Rattle.memory.specs.Sizes.{Numbers, Names};
 ghost use Rattle.memory.specs.Memory.{cardOf};
 use meaning::LABEL_COUNT;
@@ -24,9 +24,10 @@ fn is_last_right(numbers: &[u64]) -> bool
     memory_labels::free_labels(numbers) == LABEL_COUNT
 }
 
-// Whether the table in the memory keeps the rules that the form asks for, that of the counts aside: what is read keeps it.
+// Whether the table in the memory, where names and roots stand once, keeps the rules that the form asks for, that of the counts aside: what
+// is read keeps it.
 fn is_ruled(numbers: &[u64], names: &[u8], second: bool) -> bool
-    requires { ⌜ Numbers (now numbers) × Names (now names) ⌝ }
+    requires { ⌜ (let c = cardOf (now numbers) (now names) in Numbers (now numbers) × Names (now names) × (onceEach sameName (c .trees) ≡ true) × (onceEach sameRoot (c .routes) ≡ true)) ⌝ }
     ensures { λ r. ⌜ r ≡ rowsRuled (formOf second) (cardOf (now (numbers .entry)) (now (names .entry))) ⌝ }
 {
     if !save_rules::keeps_rules(numbers, names) {

@@ -1,21 +1,23 @@
 -- What the tests of one label and of one tree say, and all rules together. Assumes nothing.
-use Prim.Native.Nat.{ℕ, _+_, _-_, _%_, _≤_, _<_}
+use Prim.Native.Nat.{ℕ, zero, suc, _+_, _-_, _%_, _≤_, _<_}
+use native.Mathlib.Nat.{not-suc-le-zero, le-of-suc-le-suc}
 use native.Mathlib.Omega.{arith}
-use mathlib.Core.Path.{_≡_, refl, ap}
-use mathlib.Core.Bool.{Bool, true, false, not, _&&_}
-use mathlib.Core.List.{List, []}
+use mathlib.Core.Path.{_≡_, refl, sym, ap, _∙_}
+use mathlib.Core.Bool.{Bool, true, false, not, _&&_, and-true, and-false}
+use mathlib.Core.List.{List, [], _∷_}
 use lib.ListN.{length, getD}
 use lib.Dec.{eqb, leb, ltb}
-use borrow.Author.Tests.{lt-ltb, le-leb, eq-eqb, ne-eqb}
-use Rattle.meaning.specs.Octets.{same, all}
-use Rattle.meaning.specs.Lists.{by-test, getD-out, getD-same}
-use Rattle.meaning.specs.Card.{Tree, mapped, awaiting, Card, treeAt, treeOf, treePlace, bare, isFree, mappedTo, useOf, labelCount, routeLimit, treeLimit}
+use borrow.Author.Tests.{lt-ltb, le-leb, eq-eqb, ne-eqb, eqb-true, ltb-true, ltb-false}
+use Rattle.meaning.specs.Octets.{place, any, same, all}
+use Rattle.meaning.specs.Lists.{by-test, place-finds, place-skips, getD-out, getD-same, same-eq, same-refl, any-count, count-some}
+use Rattle.meaning.specs.Card.{Tree, mapped, awaiting, Card, treeOf, treePlace, bare, named, carries, isFree, mappedTo, useOf, labelCount, routeLimit, treeLimit}
 use Rattle.meaning.specs.Events.{baseOutside}
 use Rattle.meaning.specs.Save.{isName, onceEach, isRoute, sameRoot, isTree, sameName, isUse, isCarried, allCarried, isMappedFor, carriesOwn, holdsRight, keepsRows}
 use Rattle.memory.specs.Memory.{baseIn, nextIn, treeCount, isFreeAt, isMappedAt, labelName, labelIn, cardOf, InBlock}
 use Rattle.memory.proofs.Memory.{routeCount-le, treeCount-le, base-range, routes-length, trees-length, labels-length}
-use Rattle.memory.proofs.Marks.{by-use, mapped-use, label-free, label-mapped}
-use Rattle.memory.proofs.Labels.{use-at, awaited-is}
+use Rattle.memory.proofs.Marks.{never, by-use, mapped-use, label-free, label-mapped}
+use Rattle.memory.proofs.Labels.{use-in, use-at, awaited-is}
+use Rattle.meaning_laws.specs.SaveRules.{all-at}
 
 -- ---- one label
 
@@ -74,26 +76,77 @@ module _ (ns os : List ℕ) (p : ℕ) where
     unfolding isMappedFor
     mapped-named m = let u = mapped-use ns p m in rw (label-mapped ns p os (u .0) (u .1)) refl
 
--- the tree of a label's name, which stands at place i or does not stand
-module _ (ns os : List ℕ) (a : List ℕ) (i n : ℕ) (e : i ≡ treePlace a (cardOf ns os)) (k : n ≡ treeCount ns) where
-  pub tree-of : i < n → treeOf a (cardOf ns os) ≡ treeAt i (cardOf ns os)
-  unfolding treeOf treeAt
-  tree-of h = rw (← e) (getD-same (cardOf ns os .trees) i (bare a) (bare []) (rw trees-length (omega arith)))
+module _ (c : Card) (t : Tree) (l : ℕ) (e : l ≡ t .label) where
+  pub own-none : l ≡ 0 → carriesOwn c t ≡ true
+  unfolding carriesOwn
+  own-none z = rw (← e, eq-eqb l 0 z) refl
 
-  pub tree-none : n ≤ i → treeOf a (cardOf ns os) .label ≡ 0
-  unfolding treeOf bare
-  tree-none h = rw (← e, getD-out (cardOf ns os .trees) i (bare a) (rw trees-length (omega arith))) refl
+  pub own-for : (a : List ℕ) → a ≡ t .name → (l ≡ 0 → ⊥) → carriesOwn c t ≡ isMappedFor a (useOf l c)
+  unfolding carriesOwn
+  own-for a n ne = rw (← e, ne-eqb l 0 ne, ← n) refl
 
--- whether a mapped label is its tree's
-module _ (ns os : List ℕ) (p m : ℕ) (e : m ≡ mappedTo (labelIn ns os p)) (ne : m ≡ 17 → ⊥) (a : List ℕ) (ea : a ≡ labelName os p) (i n : ℕ) (ei : i ≡ treePlace a (cardOf ns os)) (en : n ≡ treeCount ns) where
-  named-tree : isCarried (cardOf ns os) (baseIn ns + p) (labelIn ns os p) ≡ eqb (treeOf a (cardOf ns os) .label) (baseIn ns + p)
-  named-tree = rw ea (carried-some ns os p m e (cardOf ns os) (baseIn ns + p) ne)
+alike : (a : List ℕ) (t s : Tree) → named a t ≡ true → named a s ≡ true → sameName t s ≡ true
+unfolding sameName named
+alike a t s e k = rw (same-eq (t .name) a e) k
 
-  pub carried-by : (l b : ℕ) → i < n → l ≡ treeAt i (cardOf ns os) .label → b ≡ baseIn ns → eqb l (b + p) ≡ isCarried (cardOf ns os) (baseIn ns + p) (labelIn ns os p)
-  carried-by l b h el eb = rw (named-tree, tree-of ns os a i n ei en h, el, eb) refl
+label-is : (l : ℕ) (t : Tree) → carries l t ≡ true → t .label ≡ l
+unfolding carries
+label-is l t e = eqb-true (t .label) l e
 
-  pub carried-absent : n ≤ i → isCarried (cardOf ns os) (baseIn ns + p) (labelIn ns os p) ≡ false
-  carried-absent h = rw (named-tree, tree-none ns os a i n ei en h) (ne-eqb 0 (baseIn ns + p) (λ q. omega (arith, base-range ns)))
+is-named : (a : List ℕ) (t : Tree) → a ≡ t .name → named a t ≡ true
+unfolding named
+is-named a t e = rw (← e) (same-refl a)
+
+-- the place of a name, where no two trees have it
+place-once : (a : List ℕ) (ts : List Tree) (k : ℕ) (d : Tree) → onceEach sameName ts ≡ true → k < length ts → named a (getD ts k d) ≡ true → place (named a) ts ≡ k
+unfolding place onceEach
+place-once a [] k d once h e = absurd (not-suc-le-zero h)
+place-once a (t ∷ ts) zero d once h e = rw e refl
+place-once a (t ∷ ts) (suc k) d once h e =
+    by-test (any (sameName t) ts)
+    (λ x. absurd (never (rw x at once)))
+    (λ x. by-test (named a t)
+    (λ y.
+    absurd (omega (arith, any-count (sameName t) ts x, count-some (sameName t) ts k d (le-of-suc-le-suc h) (alike a t (getD ts k d) y e))))
+    (λ y. rw y (ap suc (place-once a ts k d (rw x at once) (le-of-suc-le-suc h) e))))
+
+-- whether a mapped label is its tree's: that is whether any tree carries it
+module _ (ns os : List ℕ) (p m : ℕ) (h : p < labelCount) (e : m ≡ mappedTo (labelIn ns os p)) (ne : m ≡ 17 → ⊥) (is : isMappedAt ns p ≡ true)
+    (once : onceEach sameName (cardOf ns os .trees) ≡ true) (own : all (carriesOwn (cardOf ns os)) (cardOf ns os .trees) ≡ true) where
+  named-tree : isCarried (cardOf ns os) (baseIn ns + p) (labelIn ns os p) ≡ eqb (treeOf (labelName os p) (cardOf ns os) .label) (baseIn ns + p)
+  named-tree = carried-some ns os p m e (cardOf ns os) (baseIn ns + p) ne
+
+  -- the tree at place k, which carries it, is of that name
+  own-name : (k : ℕ) → k < length (cardOf ns os .trees) → getD (cardOf ns os .trees) k (bare []) .label ≡ baseIn ns + p → same (labelName os p) (getD (cardOf ns os .trees) k (bare []) .name) ≡ true
+  own-name k kl el =
+      let t : Tree = getD (cardOf ns os .trees) k (bare []) in
+      let for-it = own-for (cardOf ns os) t (baseIn ns + p) (sym el) (t .name) refl (λ z. omega (arith, base-range ns)) in
+      sym (mapped-named ns os p (t .name) is) ∙ ap (isMappedFor (t .name)) (sym (use-in ns os (baseIn ns + p) p refl h)) ∙ sym for-it ∙ all-at (carriesOwn (cardOf ns os)) (cardOf ns os .trees) (bare []) own k kl
+
+  some-carries : (k : ℕ) → k < length (cardOf ns os .trees) → getD (cardOf ns os .trees) k (bare []) .label ≡ baseIn ns + p → treeOf (labelName os p) (cardOf ns os) .label ≡ baseIn ns + p
+  unfolding treeOf treePlace
+  some-carries k kl el =
+      let its : labelName os p ≡ getD (cardOf ns os .trees) k (bare []) .name = same-eq _ _ (own-name k kl el) in
+      let at : place (named (labelName os p)) (cardOf ns os .trees) ≡ k = place-once (labelName os p) (cardOf ns os .trees) k (bare []) once kl (is-named (labelName os p) _ its) in
+      rw at (ap (λ (t : Tree). t .label) (getD-same (cardOf ns os .trees) k (bare (labelName os p)) (bare []) kl) ∙ el)
+
+  none-carries : length (cardOf ns os .trees) ≤ place (carries (baseIn ns + p)) (cardOf ns os .trees) → eqb (treeOf (labelName os p) (cardOf ns os) .label) (baseIn ns + p) ≡ false
+  unfolding treeOf treePlace carries bare
+  none-carries out =
+      by-test (ltb (place (named (labelName os p)) (cardOf ns os .trees)) (length (cardOf ns os .trees)))
+      (λ x.
+      let inside : place (named (labelName os p)) (cardOf ns os .trees) < length (cardOf ns os .trees) = ltb-true _ _ x in
+      place-skips (carries (baseIn ns + p)) (cardOf ns os .trees) (bare (labelName os p)) (place (named (labelName os p)) (cardOf ns os .trees)) (omega arith))
+      (λ x. rw (getD-out (cardOf ns os .trees) (place (named (labelName os p)) (cardOf ns os .trees)) (bare (labelName os p)) (ltb-false _ _ x)) (ne-eqb 0 (baseIn ns + p) (λ q. omega (arith, base-range ns))))
+
+  pub carried-by : (r n : ℕ) → r ≡ place (carries (baseIn ns + p)) (cardOf ns os .trees) → n ≡ treeCount ns → ltb r n ≡ isCarried (cardOf ns os) (baseIn ns + p) (labelIn ns os p)
+  carried-by r n er en =
+      by-test (ltb r n)
+      (λ x.
+      let inside : r < length (cardOf ns os .trees) = rw trees-length (omega (arith, ltb-true r n x)) in
+      let found : getD (cardOf ns os .trees) r (bare []) .label ≡ baseIn ns + p = label-is (baseIn ns + p) (getD (cardOf ns os .trees) r (bare [])) (rw er (place-finds (carries (baseIn ns + p)) (cardOf ns os .trees) (bare []) (rw (← er) inside))) in
+      x ∙ sym (named-tree ∙ eq-eqb _ _ (some-carries r inside found)))
+      (λ x. x ∙ sym (named-tree ∙ none-carries (rw trees-length (omega (arith, ltb-false r n x)))))
 
 -- a label of any number, by its place in the block
 module _ (ns os a : List ℕ) (label p : ℕ) (r : InBlock ns label p) where
@@ -103,15 +156,6 @@ module _ (ns os a : List ℕ) (label p : ℕ) (r : InBlock ns label p) where
 
   pub for-at : p < labelCount → isMappedFor a (useOf label (cardOf ns os)) ≡ isMappedFor a (labelIn ns os p)
   for-at h = ap (isMappedFor a) (use-at ns os label p r h)
-
-module _ (c : Card) (t : Tree) (l : ℕ) (e : l ≡ t .label) where
-  pub own-none : l ≡ 0 → carriesOwn c t ≡ true
-  unfolding carriesOwn
-  own-none z = rw (← e, eq-eqb l 0 z) refl
-
-  pub own-for : (a : List ℕ) → a ≡ t .name → (l ≡ 0 → ⊥) → carriesOwn c t ≡ isMappedFor a (useOf l c)
-  unfolding carriesOwn
-  own-for a n ne = rw (← e, ne-eqb l 0 ne, ← n) refl
 
 -- ---- all rules
 
@@ -135,11 +179,15 @@ module _ (ns os : List ℕ) where
   labels-kept = eq-eqb _ 256 (labels-length ns os)
 
   -- what is left to test, with what the code says of each
-  pub kept : (a b d e f g h k : Bool)
-      → a ≡ all isRoute (cardOf ns os .routes) → b ≡ onceEach sameRoot (cardOf ns os .routes)
-      → d ≡ all isTree (cardOf ns os .trees) → e ≡ onceEach sameName (cardOf ns os .trees)
-      → f ≡ all isUse (cardOf ns os .labels)
-      → g ≡ allCarried (cardOf ns os) (cardOf ns os .base) (cardOf ns os .labels) → h ≡ all (carriesOwn (cardOf ns os)) (cardOf ns os .trees) → k ≡ all (holdsRight (cardOf ns os)) (cardOf ns os .trees)
-      → (a && b && d && e && f && g && h && k) ≡ keepsRows (cardOf ns os)
+  pub kept : (a d f g h k : Bool)
+      → onceEach sameName (cardOf ns os .trees) ≡ true → onceEach sameRoot (cardOf ns os .routes) ≡ true
+      → a ≡ all isRoute (cardOf ns os .routes) → d ≡ all isTree (cardOf ns os .trees) → f ≡ all isUse (cardOf ns os .labels)
+      → (all (carriesOwn (cardOf ns os)) (cardOf ns os .trees) ≡ true → g ≡ allCarried (cardOf ns os) (cardOf ns os .base) (cardOf ns os .labels))
+      → h ≡ all (carriesOwn (cardOf ns os)) (cardOf ns os .trees) → k ≡ all (holdsRight (cardOf ns os)) (cardOf ns os .trees)
+      → (a && d && f && g && h && k) ≡ keepsRows (cardOf ns os)
   unfolding keepsRows
-  kept a b d e f g h k ea eb ed ee ef eg eh ek = rw (base-kept, next-kept, routes-kept, trees-kept, labels-kept, ea, eb, ed, ee, ef, eg, eh, ek) refl
+  kept a d f g h k names roots ea ed ef eg eh ek =
+      rw (base-kept, next-kept, routes-kept, trees-kept, labels-kept, names, roots, ea, ed, ef, eh, ek, and-true (all isRoute (cardOf ns os .routes)), and-true (all isRoute (cardOf ns os .routes) && all isTree (cardOf ns os .trees)))
+      (by-test (all (carriesOwn (cardOf ns os)) (cardOf ns os .trees))
+      (λ t. rw (eg t) refl)
+      (λ t. rw (t, and-false _, and-false _) refl))

@@ -7,7 +7,7 @@ ghost use mathlib.Core.List.{List};
 ghost use Prim.Native.Nat.{ℕ, _+_, _<_};
 ghost use Rattle.meaning.specs.Octets.{all};
 ghost use Rattle.meaning.specs.Card.{treeAt, labelCount, treeLimit};
-ghost use Rattle.meaning.specs.Save.{isName, isUse, isCarried, allCarried, isMappedFor, carriesOwn, holdsRight, keepsRows};
+ghost use Rattle.meaning.specs.Save.{isName, isUse, isCarried, allCarried, isMappedFor, carriesOwn, holdsRight, onceEach, sameName, sameRoot, keepsRows};
 ghost use Rattle.memory.specs.Sizes.{Numbers, Names};
 ghost use Rattle.memory.specs.Memory.{cardOf, baseIn, isFreeAt, isMappedAt, labelIn, labelName, treeCount};
 use meaning::LABEL_COUNT;
@@ -53,28 +53,28 @@ fn uses_good(numbers: &[u64], names: &[u8]) -> bool
     true
 }
 
-// Whether the label at place p, if it is mapped, is that of the tree of its name.
-fn is_carried(numbers: &[u64], names: &[u8], p: usize) -> bool
-    requires { ⌜ Numbers (now numbers) × Names (now names) × (p < labelCount) ⌝ }
-    ensures { λ r. ⌜ r ≡ isCarried (cardOf (now (numbers .entry)) (now (names .entry))) (baseIn (now (numbers .entry)) + p) (labelIn (now (numbers .entry)) (now (names .entry)) p) ⌝ }
+// Whether the label at place p, if it is mapped, is that of the tree of its name. Where no two trees have one name, and each one's label is
+// mapped for it, that is whether any tree carries it: its mark says so.
+fn is_carried(numbers: &[u64], p: usize) -> bool
+    requires { ⌜ Numbers (now numbers) × (p < labelCount) ⌝ }
+    ensures { λ r. ⌜ ((os : List ℕ) → (let c = cardOf (now (numbers .entry)) os in
+        onceEach sameName (c .trees) ≡ true → all (carriesOwn c) (c .trees) ≡ true → r ≡ isCarried c (baseIn (now (numbers .entry)) + p) (labelIn (now (numbers .entry)) os p))) ⌝ }
 {
     if memory_labels::mapped_at(numbers, p) == 17 {
         return true;
     }
-    let i = memory_trees::tree_place(numbers, names, memory_labels::label_name(names, p));
-    if i < memory::tree_count(numbers) {
-        return memory_trees::tree_label(numbers, i) == memory::base(numbers) + p as u64;
-    }
-    false
+    let label = memory::base(numbers) + p as u64;
+    memory_trees::carrier_place(numbers, label) < memory::tree_count(numbers)
 }
 
-fn all_carried(numbers: &[u64], names: &[u8]) -> bool
-    requires { ⌜ Numbers (now numbers) × Names (now names) ⌝ }
-    ensures { λ r. ⌜ (let c = cardOf (now (numbers .entry)) (now (names .entry)) in r ≡ allCarried c (c .base) (c .labels)) ⌝ }
+fn all_carried(numbers: &[u64]) -> bool
+    requires { ⌜ Numbers (now numbers) ⌝ }
+    ensures { λ r. ⌜ ((os : List ℕ) → (let c = cardOf (now (numbers .entry)) os in
+        onceEach sameName (c .trees) ≡ true → all (carriesOwn c) (c .trees) ≡ true → r ≡ allCarried c (c .base) (c .labels))) ⌝ }
 {
     let mut p = 0;
     while p < LABEL_COUNT {
-        if !is_carried(numbers, names, p) {
+        if !is_carried(numbers, p) {
             return false;
         }
         p += 1;
@@ -149,17 +149,15 @@ fn held_right(numbers: &[u64], names: &[u8]) -> bool
 
 // ---- all of them
 
-// Each is asked: a table that keeps the rules passes them all.
+// Each is asked: a table that keeps the rules passes them all. That names and roots stand once is known.
 pub fn keeps_rules(numbers: &[u64], names: &[u8]) -> bool
-    requires { ⌜ Numbers (now numbers) × Names (now names) ⌝ }
+    requires { ⌜ (let c = cardOf (now numbers) (now names) in Numbers (now numbers) × Names (now names) × (onceEach sameName (c .trees) ≡ true) × (onceEach sameRoot (c .routes) ≡ true)) ⌝ }
     ensures { λ r. ⌜ r ≡ keepsRows (cardOf (now (numbers .entry)) (now (names .entry))) ⌝ }
 {
     save_rules_rows::routes_good(numbers, names)
-        & save_rules_rows::roots_once(numbers, names)
         & save_rules_rows::trees_good(numbers, names)
-        & save_rules_rows::names_once(numbers, names)
         & uses_good(numbers, names)
-        & all_carried(numbers, names)
+        & all_carried(numbers)
         & own_labels(numbers, names)
         & held_right(numbers, names)
 }

@@ -1,33 +1,38 @@
 -- The laws by which the writer of texts and names follows the definitions. Assumes nothing.
-use Prim.Native.Nat.{ℕ, suc, _+_, _-_, _≤_, _<_}
+use Prim.Native.Nat.{ℕ, zero, suc, _+_, _-_, _≤_, _<_}
 use native.Mathlib.Omega.{arith}
 use mathlib.Core.Path.{_≡_, refl, sym, ap, _∙_}
 use mathlib.Core.Bool.{Bool, true, false}
 use mathlib.Core.List.{List, [], _∷_}
-use lib.ListN.{length, take, drop, getD, set, length-drop, drop-of-length-le}
-use lib.Seq.{take-all, take-take}
+use lib.ListN.{length, take, drop, replicate, length-drop, drop-of-length-le}
+use lib.Seq.{take-all, take-take, drop-nil}
 use lib.Dec.{leb}
 use Rattle.meaning.specs.Wire.{rootLength, rootIn, opaqueIn, rootLimit, nameLimit}
 use Rattle.meaning.specs.Save.{padded, spaced, Form, old, new, formOf, nameSaved, nameMost, isShort, savedOpaque, spacedName}
 use Rattle.meaning_laws.specs.SaveFields.{nameSize}
 use Rattle.meaning.specs.Lists.{append-nil}
 use Rattle.octets.specs.Part.{mid}
-use Rattle.octets.proofs.Parts.{front, front-more, copy-done}
 use Rattle.save_texts.proofs.Parts.{two-parts}
-use Rattle.save_texts.proofs.Sizes.{taken-le, padded-at, padded-length, space-length}
+use Rattle.save_texts.proofs.Sizes.{taken-le, padded-length, space-length}
 
 -- ---- a text in its space: the octets written from the front, and their number before them
 
-module _ (xs o : List ℕ) (n : ℕ) (l : length xs ≡ n) where
-  abbrev pub Filled : ℕ → List ℕ → Type 0
-  Filled j ys = ys ≡ front j (padded n (take n o)) xs
+zeros-behind : (n m : ℕ) → drop {A = ℕ} m (replicate n 0) ≡ replicate (n - m) 0
+zeros-behind zero m = let z : 0 - m ≡ 0 = omega arith in rw (z, drop-nil m) refl
+zeros-behind (suc n) zero = let z : suc n - 0 ≡ suc n = omega arith in rw z refl
+zeros-behind (suc n) (suc m) = let z : suc n - suc m ≡ n - m = omega arith in rw z (zeros-behind n m)
 
-  pub filled-next : (j v : ℕ) (ys : List ℕ) → j < n → Filled j ys → v ≡ getD o j 0 → Filled (j + 1) (set ys j v)
-  filled-next j v ys h p e =
-      front-more (padded n (take n o)) xs ys 0 v j (omega (arith, padded-length n o)) (omega arith) p (e ∙ sym (padded-at n o j h))
+-- as much of a text as finds room
+take-fitting : (room n : ℕ) (o : List ℕ) → n ≡ length (take room o) → take n o ≡ take room o
+take-fitting room n o e =
+    let t : List ℕ = take room o in
+    rw e (sym (take-take (length t) room o (taken-le room o)) ∙ take-all (length t) t (omega arith))
 
-  pub filled-done : (j : ℕ) (ys : List ℕ) → n ≤ j → Filled j ys → ys ≡ padded n (take n o)
-  filled-done j ys h p = copy-done (padded n (take n o)) xs ys j (omega (arith, padded-length n o)) (padded-length n o ∙ sym l) p
+pub padded-put : (xs zs ys o : List ℕ) (room n : ℕ) → length xs ≡ room → zs ≡ replicate (length xs) 0 → n ≡ length (take room o) → ys ≡ take (n - 0) o → mid 0 (n - 0) zs ys ≡ padded room (take room o)
+unfolding padded
+padded-put xs zs ys o room n l ez en ey =
+    let z : n - 0 ≡ n = omega arith in
+    rw (ey, z, take-fitting room n o en, ez, l, zeros-behind room n, en) refl
 
 pub space-put : (xs us vs o : List ℕ) (n v : ℕ) → length xs ≡ 1 + n → v ≡ length (take n o) → us ≡ v ∷ [] → vs ≡ padded n (take n o) → mid 1 (1 + n - 1) (mid 0 1 xs us) vs ≡ spaced n o
 unfolding spaced
@@ -80,7 +85,7 @@ pub name-new : (b : Bool) (a xs : List ℕ) (n : ℕ) → b ≡ true → n ≡ l
 unfolding formOf nameSaved spaced
 name-new b a xs n e h k =
     let t : List ℕ = take nameLimit a in
-    let s : take n a ≡ t = rw h (sym (take-take (length t) nameLimit a (taken-le nameLimit a)) ∙ take-all (length t) t (omega arith)) in
+    let s : take n a ≡ t = take-fitting nameLimit n a h in
     rw e (k ∙ rw (s, h) (space-new t))
 
 pub name-old : (b : Bool) (a xs : List ℕ) → b ≡ false → xs ≡ nameSaved old a → xs ≡ nameSaved (formOf b) a

@@ -2,7 +2,7 @@
 // without zeros in the new one.
 ghost use mathlib.Core.Path.{_≡_};
 ghost use Prim.Native.Nat.{_+_, _≤_};
-ghost use lib.ListN.{length, take};
+ghost use lib.ListN.{length, take, replicate};
 ghost use Rattle.meaning.specs.Wire.{opaqueIn};
 ghost use Rattle.meaning.specs.Save.{old, formOf, padded, spaced, nameSaved, nameMost, isShort, spacedName};
 ghost use Rattle.meaning_laws.specs.SaveFields.{nameSize};
@@ -14,21 +14,30 @@ use meaning::SPACED_NAME;
 
 // How many octets of a text find room.
 fn fitting(text: &[u8], room: usize) -> usize
-    ensures { λ r. ⌜ (r ≡ length (take room (now (text .entry)))) × (r ≤ room) ⌝ }
+    ensures { λ r. ⌜ (r ≡ length (take room (now (text .entry)))) × (r ≤ room) × (r ≤ length (now (text .entry))) ⌝ }
 {
     if text.len() < room { text.len() } else { room }
 }
 
-// A text and zeros behind it. What goes beyond the room is left out.
+fn clear(out: &mut [u8])
+    ensures { λ _. ⌜ now (out .exit) ≡ replicate (length (now (out .entry))) 0 ⌝ }
+{
+    let mut i = 0;
+    while i < out.len() {
+        out[i] = 0;
+        i += 1;
+    }
+}
+
+// A text and zeros behind it, all of which are written first: the room is known when compiled, the text is not. What goes beyond the room
+// is left out.
 fn put_padded(out: &mut [u8], room: usize, text: &[u8])
     requires { ⌜ length (now out) ≡ room ⌝ }
     ensures { λ _. ⌜ now (out .exit) ≡ padded room (take room (now (text .entry))) ⌝ }
 {
-    let mut j = 0;
-    while j < room {
-        out[j] = octets::at(text, j) as u8;
-        j += 1;
-    }
+    clear(out);
+    let n = fitting(text, room);
+    octets::copy(&mut out[0..n], &text[0..n]);
 }
 
 // A text in its space: how many octets of it find room, and these.

@@ -1,5 +1,5 @@
 -- `save_decoder::decode` meets its contract: what the head cannot say, and a name or a root that stands twice, are no save. Assumes nothing.
-use Rattle.save_decoder.proofs.Head.{names-not, roots-not}
+use Rattle.save_decoder.proofs.Head.{names-not, roots-not, read-once}
 use Rattle.memory.proofs.Marks.{never}
 use borrow.Author.Tests.{not-true, not-false}
 use mathlib.Core.Path.{sym, _∙_}
@@ -69,7 +69,9 @@ same-length-6 : tie.Need-same-length-6
 same-length-6 c = search needs
 
 returns-5 : tie.Need-returns-5
-returns-5 c = ((λ _. c .before .before .before .before .read-labels .ensures), (λ t. absurd (never (sym t))))
+returns-5 c =
+    let once = read-once _ _ _ (c .before .before .before .before .before .before .before .before .before .before .before .before .before .before .before .before .before .before .before .read-rows .ensures .0) (sym (c .before .before .before .before .before .before .before .before .before .before .before .before .names-once .ensures) ∙ not-false _ (c .before .before .before .before .before .before .before .before .before .before .before .if3 .left)) (sym (c .before .before .before .before .before .before .before .before .roots-once .ensures) ∙ not-false _ (c .before .before .before .before .before .before .before .if4 .left)) in
+    ((λ _. (c .before .before .before .before .read-labels .ensures, once .0, once .1)), (λ t. absurd (never (sym t))))
 
 pub decode-spec : {M : Type 1} → statement M
 decode-spec =

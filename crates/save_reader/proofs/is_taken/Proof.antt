@@ -19,7 +19,9 @@ returns : tie.Need-returns
 returns c = (sym (c .before .before .before .before .before .decode .ensures .1 (not-true _ (c .if1 .taken))), (λ t. absurd (never t)))
 
 is-ruled-requires : tie.Need-is-ruled-requires
-is-ruled-requires c κs = search needs
+is-ruled-requires c κs =
+    let d = c .before .before .before .before .before .before .before .decode .ensures .0 (not-false _ (c .before .before .if1 .left)) in
+    (search needs, search needs, rw (d .0) (d .1), rw (d .0) (d .2))
 
 same-length-3 : tie.Need-same-length-3
 same-length-3 c = search needs
@@ -30,7 +32,7 @@ same-length-4 c = search needs
 returns-2 : tie.Need-returns-2
 returns-2 c =
     let at-decode = c .before .before .before .before .before .before .before .before .before in
-    let d = at-decode .decode .ensures .0 (not-false _ (c .before .before .before .before .if1 .left)) in
+    let d = at-decode .decode .ensures .0 (not-false _ (c .before .before .before .before .if1 .left)) .0 in
     (sym (not-taken _ _ _ d (sym (c .before .is-ruled .ensures) ∙ not-true _ (c .if2 .taken))), (λ t. absurd (never t)))
 
 is-saved-as-requires : tie.Need-is-saved-as-requires
@@ -47,7 +49,7 @@ same-length-7 c = search needs
 
 returns-3 : tie.Need-returns-3
 returns-3 c =
-    let d = c .before .before .before .before .before .before .before .before .before .before .before .before .before .before .before .decode .ensures .0 (not-false _ (c .before .before .before .before .before .before .before .before .before .before .if1 .left)) in
+    let d = c .before .before .before .before .before .before .before .before .before .before .before .before .before .before .before .decode .ensures .0 (not-false _ (c .before .before .before .before .before .before .before .before .before .before .if1 .left)) .0 in
     (taken _ _ _ _ d (sym (c .before .before .before .before .before .before .before .is-ruled .ensures) ∙ not-false _ (c .before .before .before .before .before .before .if2 .left)) (c .before .before .is-saved-as .ensures), (λ _. d))
 
 pub is-taken-spec : {M : Type 1} → statement M

@@ -1,3 +1,4 @@
+-- `save_rules::keeps_rules` meets its contract: what is asked, and what is known. Assumes nothing.
 use Rattle.save_rules.proofs.Rules.{kept}
 use borrow.Author.Needs.{needs}
 use Rattle.save_rules.proofs.keeps_rules.Statement.{statement}
@@ -6,14 +7,8 @@ use Rattle.save_rules.proofs.keeps_rules.Tie as tie
 routes-good-requires : tie.Need-routes-good-requires
 routes-good-requires c κs = search needs
 
-roots-once-requires : tie.Need-roots-once-requires
-roots-once-requires c κs = search needs
-
 trees-good-requires : tie.Need-trees-good-requires
 trees-good-requires c κs = search needs
-
-names-once-requires : tie.Need-names-once-requires
-names-once-requires c κs = search needs
 
 uses-good-requires : tie.Need-uses-good-requires
 uses-good-requires c κs = search needs
@@ -29,15 +24,15 @@ held-right-requires c κs = search needs
 
 returns : tie.Need-returns
 returns c =
-    let at-roots-once = c .before .before .before .before .before .before in
-    let at-routes-good = at-roots-once .before in
-    kept _ _ _ _ _ _ _ _ _ _
-    (at-routes-good .routes-good .ensures)
-    (at-roots-once .roots-once .ensures)
-    (c .before .before .before .before .before .trees-good .ensures)
-    (c .before .before .before .before .names-once .ensures)
+    let r = c .before .before .before .before .before in
+    let s = r .before .before .before in
+    kept _ (s .args .names .now) _ _ _ _ _ _
+    (s .pre .2)
+    (s .pre .3)
+    (r .routes-good .ensures)
+    (c .before .before .before .before .trees-good .ensures)
     (c .before .before .before .uses-good .ensures)
-    (c .before .before .all-carried .ensures)
+    (c .before .before .all-carried .ensures _ (s .pre .2))
     (c .before .own-labels .ensures)
     (c .held-right .ensures)
 
@@ -46,9 +41,7 @@ keeps-rules-spec =
     tie.close
     (tie.spec
     routes-good-requires
-    roots-once-requires
     trees-good-requires
-    names-once-requires
     uses-good-requires
     all-carried-requires
     own-labels-requires

@@ -9,10 +9,10 @@ use Rattle.save_texts.proofs.fitting.Tie as tie
 returns : tie.Need-returns
 returns c =
     let s = c .before in
-    (sym (ap length (take-all (s .args .room) (s .args .text .now) (omega arith))), omega arith)
+    (sym (ap length (take-all (s .args .room) (s .args .text .now) (omega arith))), omega arith, omega arith)
 
 returns-2 : tie.Need-returns-2
-returns-2 c = (sym (length-take-le _ _ (c .if1 .left)), omega arith)
+returns-2 c = (sym (length-take-le _ _ (c .if1 .left)), omega arith, omega arith)
 
 pub fitting-spec : {M : Type 1} → statement M
 fitting-spec = tie.close (tie.spec returns returns-2)
