@@ -69,7 +69,7 @@ pub fn decode(octets: &[u8], second: bool, numbers: &mut [u64], names: &mut [u8]
         return false;
     }
     let at = save_rows::read_rows(octets, second, numbers, names);
-    if !save_rules_rows::names_once(numbers, names) {
+    if !save_tags::names_once(numbers, names) {
         return false;
     }
     if !save_rules_rows::roots_once(numbers, names) {

@@ -92,6 +92,11 @@ module _ (f : Form) (c : Card) (o : List ℕ) (from : ℕ) where
 
 -- ---- one label, and the tree of its name
 
+-- sought from the front
+pub zero-on : (a : List ℕ) (c : Card) (i : ℕ) → i ≡ 0 + place (named a) (drop 0 (c .trees)) → i ≡ treePlace a c
+unfolding treePlace
+zero-on a c i e = omega arith
+
 map-still {ℓ} : {A : Type ℓ} (g : A → A) → ((x : A) → g x ≡ x) → (l : List A) → map g l ≡ l
 map-still g h [] = refl
 map-still g h (x ∷ l) = ap₂ (λ y ys. y ∷ ys) (h x) (map-still g h l)
@@ -279,6 +284,9 @@ module _ (ns₀ os : List ℕ) where
     kept-trees : cardOf ns os .trees ≡ allLabelled (cardOf ns₀ os .base) (take p (cardOf ns₀ os .labels)) (cardOf ns₀ os .trees)
     unfolding withTrees
     kept-trees = ap (λ (x : Card). x .trees) e
+
+    pub labelled-many : treeCount ns ≡ treeCount ns₀
+    labelled-many = sym (trees-length ns os) ∙ ap length kept-trees ∙ all-length _ _ (cardOf ns₀ os .trees) ∙ trees-length ns₀ os
 
     pub labelled-once : onceEach sameName (cardOf ns₀ os .trees) ≡ true → onceEach sameName (cardOf ns os .trees) ≡ true
     labelled-once once = ap (onceEach sameName) kept-trees ∙ all-once _ _ (cardOf ns₀ os .trees) ∙ once

@@ -5,17 +5,19 @@ ghost use mathlib.Core.Path.{_≡_};
 ghost use mathlib.Core.Bool.{true};
 ghost use mathlib.Core.List.{List, map};
 ghost use Prim.Native.Nat.{ℕ, _+_, _-_, _<_};
-ghost use lib.ListN.{drop, set};
+ghost use lib.ListN.{length, drop, set};
 ghost use Rattle.meaning.specs.Octets.{fourAt};
-ghost use Rattle.meaning.specs.Card.{withTrees, withLabels, withLast, treeAt, labelCount};
+ghost use Rattle.meaning.specs.Card.{withTrees, withLabels, withLast, treeAt, labelCount, treeLimit};
 ghost use Rattle.meaning.specs.Save.{formOf, lastPlace, useRead, usesRead, allLabelled, sameName, sameRoot, onceEach, tableIn, highestUsed, lastIn};
 ghost use Rattle.memory.specs.Sizes.{Numbers, Names};
 ghost use Rattle.memory.specs.Memory.{cardOf, baseIn, treeCount, labelIn, labelBefore};
+ghost use Rattle.save_tags.specs.Tags.{Tagged};
 ghost use Rattle.save_rows.specs.Stages.{rowsRead, labelsBegin};
 ghost use Rattle.save_labels.specs.Labels.{Unlabelled, given, OfBlock};
 use meaning::LABEL_COUNT;
 use meaning::LAST_PLACE;
 use meaning::NAME_LIMIT;
+use meaning::TREE_LIMIT;
 use meaning::USE_BESIDE;
 use memory::LABELS;
 
@@ -69,8 +71,8 @@ fn read_uses(
 // ---- the label that each tree carries
 
 // The tree of the name that the label at place p is mapped for carries it from now on, unless it carries one already.
-fn give_label(numbers: &mut [u64], names: &[u8], p: usize)
-    requires { ⌜ Numbers (now numbers) × Names (now names) × (p < labelCount) × (onceEach sameName (cardOf (now numbers) (now names) .trees) ≡ true)
+fn give_label(numbers: &mut [u64], names: &[u8], tags: &[u64], p: usize)
+    requires { ⌜ Numbers (now numbers) × Names (now names) × (length (now tags) ≡ treeLimit) × Tagged (now tags) (treeCount (now numbers)) (now names) × (p < labelCount) × (onceEach sameName (cardOf (now numbers) (now names) .trees) ≡ true)
         × ((j : ℕ) → j < treeCount (now numbers) → treeAt j (cardOf (now numbers) (now names)) .label ≡ baseIn (now numbers) + p → ⊥) ⌝ }
     ensures { λ _. ⌜ (let c = cardOf (now (numbers .entry)) (now (names .entry)) in
         cardOf (now (numbers .exit)) (now (names .entry)) ≡ withTrees (map (given (baseIn (now (numbers .entry)) + p) (labelIn (now (numbers .entry)) (now (names .entry)) p)) (c .trees)) c) ⌝ }
@@ -78,7 +80,7 @@ fn give_label(numbers: &mut [u64], names: &[u8], p: usize)
     if memory_labels::mapped_at(numbers, p) == 17 {
         return;
     }
-    let i = memory_trees::tree_place(numbers, names, memory_labels::label_name(names, p));
+    let i = save_tags::tagged_from(numbers, names, tags, 0, memory_labels::label_name(names, p));
     if memory::tree_count(numbers) <= i {
         return;
     }
@@ -93,9 +95,11 @@ fn label_trees(numbers: &mut [u64], names: &[u8])
     ensures { λ _. ⌜ (let c = cardOf (now (numbers .entry)) (now (names .entry)) in
         cardOf (now (numbers .exit)) (now (names .entry)) ≡ withTrees (allLabelled (c .base) (c .labels) (c .trees)) c) ⌝ }
 {
+    let mut tags = [0u64; TREE_LIMIT];
+    save_tags::tree_tags(numbers, names, &mut tags);
     let mut p = 0;
     while p < LABEL_COUNT {
-        give_label(numbers, names, p);
+        give_label(numbers, names, &tags, p);
         p += 1;
     }
 }

@@ -5,8 +5,8 @@ ghost use mathlib.Core.List.{List};
 ghost use Prim.Native.Nat.{ℕ, _+_, _<_};
 ghost use lib.ListN.{drop};
 ghost use Rattle.meaning.specs.Octets.{any, all};
-ghost use Rattle.meaning.specs.Card.{treeAt, isEmpty, isFor, named, routeLimit, treeLimit};
-ghost use Rattle.meaning.specs.Save.{isName, onceEach, isRoute, sameRoot, isBranchLabel, isTree, sameName};
+ghost use Rattle.meaning.specs.Card.{treeAt, isEmpty, isFor, routeLimit, treeLimit};
+ghost use Rattle.meaning.specs.Save.{isName, onceEach, isRoute, sameRoot, isBranchLabel, isTree};
 ghost use Rattle.memory.specs.Sizes.{Numbers, Names};
 ghost use Rattle.memory.specs.Memory.{cardOf, routeIn, treeCount};
 
@@ -138,38 +138,6 @@ pub fn trees_good(numbers: &[u64], names: &[u8]) -> bool
     let mut i = 0;
     while i < n {
         if !is_tree(numbers, names, i) {
-            return false;
-        }
-        i += 1;
-    }
-    true
-}
-
-// Whether a tree of that name stands at place `from` or further on.
-fn name_from(numbers: &[u64], names: &[u8], from: usize, name: &[u8]) -> bool
-    requires { ⌜ Numbers (now numbers) × Names (now names) ⌝ }
-    ensures { λ r. ⌜ r ≡ any (named (now (name .entry))) (drop from (cardOf (now (numbers .entry)) (now (names .entry)) .trees)) ⌝ }
-{
-    let n = memory::tree_count(numbers);
-    let mut i = from;
-    while i < n {
-        if octets::equal(memory_trees::tree_name(names, i), name) {
-            return true;
-        }
-        i += 1;
-    }
-    false
-}
-
-// No two trees have one name.
-pub fn names_once(numbers: &[u64], names: &[u8]) -> bool
-    requires { ⌜ Numbers (now numbers) × Names (now names) ⌝ }
-    ensures { λ r. ⌜ r ≡ onceEach sameName (cardOf (now (numbers .entry)) (now (names .entry)) .trees) ⌝ }
-{
-    let n = memory::tree_count(numbers);
-    let mut i = 0;
-    while i < n {
-        if name_from(numbers, names, i + 1, memory_trees::tree_name(names, i)) {
             return false;
         }
         i += 1;

@@ -2,7 +2,7 @@
 use mathlib.Core.Path.{sym, _∙_}
 use native.Mathlib.Omega.{arith}
 use borrow.Author.Needs.{needs}
-use Rattle.save_labels.proofs.Labels.{given-none, given-out, given-before, given-now, none-has}
+use Rattle.save_labels.proofs.Labels.{given-none, given-out, given-before, given-now, none-has, zero-on}
 use Rattle.save_labels.proofs.give_label.Statement.{statement}
 use Rattle.save_labels.proofs.give_label.Tie as tie
 
@@ -14,14 +14,14 @@ same-length c = search needs
 
 returns : tie.Need-returns
 returns c =
-    let s = c .before .before .before .before .before in
+    let s = c .before .before .before .before .before .before in
     given-none (s .args .numbers .now) (s .args .names .now) (s .args .p) (c .before .mapped-at .ensures .2 (c .if1 .taken))
 
 label-name-requires : tie.Need-label-name-requires
 label-name-requires c κs = search needs
 
-tree-place-requires : tie.Need-tree-place-requires
-tree-place-requires c κs = search needs
+tagged-from-requires : tie.Need-tagged-from-requires
+tagged-from-requires c κs = search needs
 
 tree-count-requires : tie.Need-tree-count-requires
 tree-count-requires c κs = search needs
@@ -33,8 +33,8 @@ returns-2 : tie.Need-returns-2
 returns-2 c =
     let k = c .before .before .before in
     let m = k .before .before .before .before in
-    let s = m .before .before .before .before in
-    given-out (s .args .numbers .now) (s .args .names .now) (s .args .p) _ _ (m .mapped-at .ensures .3 (k .before .before .before .if1 .left)) (k .before .label-name .ensures) (k .tree-place .ensures .0) (s .pre .3) _ (c .before .tree-count .ensures .0) (c .if2 .taken)
+    let s = m .before .before .before .before .before in
+    given-out (s .args .numbers .now) (s .args .names .now) (s .args .p) _ _ (m .mapped-at .ensures .3 (k .before .before .before .if1 .left)) (k .before .label-name .ensures) (zero-on _ _ _ (k .tagged-from .ensures .0)) (s .pre .5) _ (c .before .tree-count .ensures .0) (c .if2 .taken)
 
 tree-label-requires : tie.Need-tree-label-requires
 tree-label-requires c κs = search needs
@@ -46,16 +46,16 @@ returns-3 : tie.Need-returns-3
 returns-3 c =
     let k = c .before .before .before .before .before .before in
     let m = k .before .before .before .before in
-    let s = m .before .before .before .before in
-    given-before (s .args .numbers .now) (s .args .names .now) (s .args .p) _ _ (m .mapped-at .ensures .3 (k .before .before .before .if1 .left)) (k .before .label-name .ensures) (k .tree-place .ensures .0) (s .pre .3) (λ z. c .if3 .taken (c .before .tree-label .ensures _ ∙ z))
+    let s = m .before .before .before .before .before in
+    given-before (s .args .numbers .now) (s .args .names .now) (s .args .p) _ _ (m .mapped-at .ensures .3 (k .before .before .before .if1 .left)) (k .before .label-name .ensures) (zero-on _ _ _ (k .tagged-from .ensures .0)) (s .pre .5) (λ z. c .if3 .taken (c .before .tree-label .ensures _ ∙ z))
 
 attach-requires : tie.Need-attach-requires
 attach-requires c κs =
     let k = c .before .before .before .before .before .before .before in
     let m = k .before .before .before .before in
-    let s = m .before .before .before .before in
+    let s = m .before .before .before .before .before in
     let n = c .before .before .before .before .before .tree-count .ensures in
-    (s .pre .0, s .pre .2, omega (arith, n .0, c .before .before .before .before .if2 .left), omega (arith, n, c .before .before .before .before .if2 .left), m .mapped-at .ensures .3 (k .before .before .before .if1 .left), none-has (s .args .numbers .now) (s .args .names .now) (s .args .p) (s .pre .4))
+    (s .pre .0, s .pre .4, omega (arith, n .0, c .before .before .before .before .if2 .left), omega (arith, n, c .before .before .before .before .if2 .left), m .mapped-at .ensures .3 (k .before .before .before .if1 .left), none-has (s .args .numbers .now) (s .args .names .now) (s .args .p) (s .pre .6))
 
 same-length-4 : tie.Need-same-length-4
 same-length-4 c = search needs
@@ -65,8 +65,8 @@ returns-4 c =
     let l = c .before .before .before .before .before in
     let k = l .before .before .before .before .before in
     let m = k .before .before .before .before in
-    let s = m .before .before .before .before in
-    given-now (s .args .numbers .now) (s .args .names .now) (s .args .p) _ _ (m .mapped-at .ensures .3 (k .before .before .before .if1 .left)) (k .before .label-name .ensures) (k .tree-place .ensures .0) (s .pre .3) _ (omega (arith, l .before .before .before .tree-count .ensures .0, l .before .before .if2 .left)) (sym (l .tree-label .ensures _) ∙ c .before .before .before .before .if3 .left) (c .before .before .attach .ensures _)
+    let s = m .before .before .before .before .before in
+    given-now (s .args .numbers .now) (s .args .names .now) (s .args .p) _ _ (m .mapped-at .ensures .3 (k .before .before .before .if1 .left)) (k .before .label-name .ensures) (zero-on _ _ _ (k .tagged-from .ensures .0)) (s .pre .5) _ (omega (arith, l .before .before .before .tree-count .ensures .0, l .before .before .if2 .left)) (sym (l .tree-label .ensures _) ∙ c .before .before .before .before .if3 .left) (c .before .before .attach .ensures _)
 
 pub give-label-spec : {M : Type 1} → statement M
 give-label-spec =
@@ -76,7 +76,7 @@ give-label-spec =
     same-length
     returns
     label-name-requires
-    tree-place-requires
+    tagged-from-requires
     tree-count-requires
     same-length-2
     returns-2

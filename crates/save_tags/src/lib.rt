@@ -1,0 +1,90 @@
+// Trees sought by their names while a save is read. The last four octets of each tree's name, as a number, are read once: names that differ
+// there, as most do, are told apart without a look at their octets.
+ghost use mathlib.Core.Path.{_≡_};
+ghost use Prim.Native.Nat.{_+_, _≤_, _<_};
+ghost use lib.ListN.{length, drop, getD};
+ghost use Rattle.meaning.specs.Octets.{place, same};
+ghost use Rattle.meaning.specs.Card.{named, treeLimit};
+ghost use Rattle.meaning.specs.Save.{onceEach, sameName};
+ghost use Rattle.memory.specs.Sizes.{Numbers, Names};
+ghost use Rattle.memory.specs.Memory.{cardOf, treeCount, treeName};
+ghost use Rattle.save_tags.specs.Tags.{tagOf, Tagged};
+use meaning::TREE_LIMIT;
+
+fn tag(name: &[u8]) -> u64
+    ensures { λ r. ⌜ r ≡ tagOf (now (name .entry)) ⌝ }
+{
+    let n = name.len();
+    if n < 4 {
+        return octets::four_at(name, 0);
+    }
+    octets::four_at(name, n - 4)
+}
+
+// The tags of all trees' names.
+pub fn tree_tags(numbers: &[u64], names: &[u8], tags: &mut [u64])
+    requires { ⌜ Numbers (now numbers) × Names (now names) × (length (now tags) ≡ treeLimit) ⌝ }
+    ensures { λ _. ⌜ Tagged (now (tags .exit)) (treeCount (now (numbers .entry))) (now (names .entry)) ⌝ }
+{
+    let n = memory::tree_count(numbers);
+    let mut i = 0;
+    while i < n {
+        tags[i] = tag(memory_trees::tree_name(names, i));
+        i += 1;
+    }
+}
+
+// Whether the tree at place i has that name, whose tag is t.
+fn is_named(names: &[u8], tags: &[u64], i: usize, t: u64, name: &[u8]) -> bool
+    requires { ⌜ Names (now names) × (length (now tags) ≡ treeLimit) × (i < treeLimit) × (getD (now tags) i 0 ≡ tagOf (treeName (now names) i)) × (t ≡ tagOf (now name)) ⌝ }
+    ensures { λ r. ⌜ r ≡ same (treeName (now (names .entry)) i) (now (name .entry)) ⌝ }
+{
+    if tags[i] != t {
+        return false;
+    }
+    octets::equal(memory_trees::tree_name(names, i), name)
+}
+
+// The place of the tree of that name, from place `from` on; the number of trees where it does not stand there.
+pub fn tagged_from(numbers: &[u64], names: &[u8], tags: &[u64], from: usize, name: &[u8]) -> usize
+    requires { ⌜ Numbers (now numbers) × Names (now names) × (length (now tags) ≡ treeLimit) × Tagged (now tags) (treeCount (now numbers)) (now names) × (from ≤ treeCount (now numbers)) ⌝ }
+    ensures { λ r. ⌜ (r ≡ from + place (named (now (name .entry))) (drop from (cardOf (now (numbers .entry)) (now (names .entry)) .trees)))
+        × (r ≤ treeCount (now (numbers .entry))) × (r ≤ treeLimit) ⌝ }
+{
+    let n = memory::tree_count(numbers);
+    let t = tag(name);
+    let mut i = from;
+    while i < n {
+        if is_named(names, tags, i, t, name) {
+            return i;
+        }
+        i += 1;
+    }
+    n
+}
+
+// No two trees have one name.
+pub fn names_once(numbers: &[u64], names: &[u8]) -> bool
+    requires { ⌜ Numbers (now numbers) × Names (now names) ⌝ }
+    ensures { λ r. ⌜ r ≡ onceEach sameName (cardOf (now (numbers .entry)) (now (names .entry)) .trees) ⌝ }
+{
+    let mut tags = [0u64; TREE_LIMIT];
+    tree_tags(numbers, names, &mut tags);
+    let n = memory::tree_count(numbers);
+    let mut i = 0;
+    while i < n {
+        if tagged_from(
+            numbers,
+            names,
+            &tags,
+            i + 1,
+            memory_trees::tree_name(names, i),
+        )
+            < n
+        {
+            return false;
+        }
+        i += 1;
+    }
+    true
+}
