@@ -6,7 +6,7 @@ use mathlib.Core.Path.{_≡_, refl, sym, ap, ap₂, _∙_}
 use mathlib.Core.Bool.{Bool, true, false}
 use mathlib.Core.List.{List, [], _∷_, _++_, append-assoc}
 use lib.ListN.{length, take, drop, getD, length-append, length-take, length-drop, drop-of-length-le}
-use lib.Seq.{take-take, take-all, take-length, take-at, drop-drop, getD-drop, length-take-le}
+use lib.Seq.{getD-take, take-take, take-all, take-length, take-at, drop-drop, getD-drop, length-take-le}
 use lib.Dec.{eqb, ltb}
 use borrow.Author.Tests.{ltb-true, ltb-false}
 use Rattle.meaning.specs.Octets.{pick, two, twoAt, fourAt}
@@ -32,6 +32,15 @@ module _ (o : List ℕ) (at : ℕ) where
   four-drop i =
       let e : at + (i + 2) ≡ at + i + 2 = omega arith in
       ap₂ (λ (x y : ℕ). x * 65536 + y) (two-drop i) (two-drop (i + 2) ∙ ap (twoAt o) e)
+
+-- four octets by themselves
+pub four-part : (o : List ℕ) (at : ℕ) → fourAt (take (at + 4 - at) (drop at o)) 0 ≡ fourAt o at
+unfolding fourAt twoAt
+four-part o at =
+    let n : at + 4 - at ≡ 4 = omega arith in
+    let here : at + 0 ≡ at = omega arith in
+    rw (n, getD-take 4 (drop at o) 0 0 (omega arith), getD-take 4 (drop at o) 1 0 (omega arith), getD-take 4 (drop at o) 2 0 (omega arith), getD-take 4 (drop at o) 3 0 (omega arith))
+    (four-drop o at 0 ∙ ap (fourAt o) here)
 
 -- ---- octets in a space
 

@@ -1,7 +1,7 @@
 -- What is taken for a save, and what is put in its place. Assumes nothing.
 use Prim.Native.Nat.{ℕ, _+_, _-_, _≤_, _<_}
 use native.Mathlib.Omega.{arith}
-use mathlib.Core.Path.{_≡_, refl, sym}
+use mathlib.Core.Path.{_≡_, refl, sym, _∙_}
 use mathlib.Core.Bool.{Bool, true, false}
 use mathlib.Core.List.{List}
 use lib.ListN.{length, take, drop}
@@ -16,8 +16,9 @@ use Rattle.meaning.specs.Calls.{over}
 use Rattle.memory.specs.Memory.{cardOf, baseIn}
 use Rattle.memory.proofs.Memory.{base-range}
 use Rattle.save_records.proofs.Records.{last-none, last-some}
-use Rattle.meaning.specs.Save.{Form, formOf, keepsRows, lastRight, rowsRuled, saved, tableIn, isSave, restore}
+use Rattle.meaning.specs.Save.{Form, new, formOf, saveLimit, keepsRows, keepsRules, lastRight, rowsRuled, saved, tableIn, isSave, restore}
 use Rattle.meaning_laws.specs.SaveCounts.{read-ruled}
+use Rattle.meaning_laws.specs.SaveLaws.{ruled-keeps, saved-short}
 
 -- A table that is read has true counts, so that its other rules alone are tested.
 
@@ -39,6 +40,18 @@ module _ (f : Form) (o : List ℕ) where
   pub restored : (c d : Card) → isSave f o ≡ true → d ≡ tableIn f o → (0 ≡ restore f o c .answer) × (d ≡ restore f o c .card)
   unfolding restore
   restored c d e h = rw e (refl, h)
+
+  pub read-keeps : (c : Card) → c ≡ tableIn f o → rowsRuled f c ≡ true → keepsRules c ≡ true
+  read-keeps c e k = ruled-keeps f c (rw e (read-ruled f o ∙ rw (← e) k))
+
+-- the longest save of either form is one of the new form
+limit-new : (b : Bool) → saveLimit (formOf b) ≤ saveLimit new
+unfolding formOf
+limit-new true = omega arith
+limit-new false = omega arith
+
+pub fits-spare : (b : Bool) (c : Card) (n : ℕ) → keepsRules c ≡ true → saveLimit new ≤ n → length (saved (formOf b) c) ≤ n
+fits-spare b c n k h = omega (arith, saved-short (formOf b) c k, limit-new b)
 
 -- what was written over the front
 pub over-front : (s t l : List ℕ) (n : ℕ) → l ≡ over s t → n ≡ length s → take (n - 0) l ≡ s

@@ -5,7 +5,7 @@ ghost use mathlib.Core.List.{List};
 ghost use Prim.Native.Nat.{ℕ, _≤_};
 ghost use lib.ListN.{length};
 ghost use Rattle.meaning.specs.Octets.{same};
-ghost use Rattle.meaning.specs.Save.{new, formOf, saved, saveLimit, onceEach, sameName, sameRoot, tableIn, lastRight, rowsRuled, isSave, restore};
+ghost use Rattle.meaning.specs.Save.{new, formOf, saved, saveLimit, onceEach, sameName, sameRoot, keepsRules, tableIn, lastRight, rowsRuled, isSave, restore};
 ghost use Rattle.memory.specs.Sizes.{Numbers, Names};
 ghost use Rattle.memory.specs.Memory.{cardOf};
 use meaning::LABEL_COUNT;
@@ -39,14 +39,12 @@ fn is_ruled(numbers: &[u64], names: &[u8], second: bool) -> bool
     true
 }
 
-// Whether the save of the table in the memory is these octets. That save is written into a spare part, which held anything.
+// Whether the save of the table in the memory, which keeps the rules, is these octets. That save is written into a spare part, which held
+// anything.
 fn is_saved_as(numbers: &[u64], names: &[u8], second: bool, octets: &[u8], spare: &mut [u8]) -> bool
-    requires { ⌜ Numbers (now numbers) × Names (now names) × (saveLimit new ≤ length (now spare)) ⌝ }
+    requires { ⌜ Numbers (now numbers) × Names (now names) × (saveLimit new ≤ length (now spare)) × (keepsRules (cardOf (now numbers) (now names)) ≡ true) ⌝ }
     ensures { λ r. ⌜ r ≡ same (saved (formOf second) (cardOf (now (numbers .entry)) (now (names .entry)))) (now (octets .entry)) ⌝ }
 {
-    if octets.len() != save_writer::saved_size(numbers, names, second) {
-        return false;
-    }
     let n = save_writer::write_save(numbers, names, second, spare);
     octets::equal(&spare[0..n], octets)
 }

@@ -45,7 +45,7 @@ fn read_branches(octets: &[u8], at: usize, numbers: &mut [u64], i: usize)
 {
     let mut n = 0;
     while n < 16 {
-        let label = octets::four_at(octets, at + n * 4);
+        let label = save_fields::four_at(octets, at + n * 4);
         memory_trees::set_branch(numbers, i, n, label);
         n += 1;
     }

@@ -1,24 +1,16 @@
+-- `save_reader::is_saved_as` meets its contract: the save of a table that keeps the rules fits the spare part. Assumes nothing.
 use native.Mathlib.Omega.{arith}
-use mathlib.Core.Path.{sym, ap, _∙_}
+use mathlib.Core.Path.{ap, _∙_}
+use lib.ListN.{length}
 use borrow.Author.Needs.{needs}
+use Rattle.memory.specs.Memory.{cardOf}
 use Rattle.meaning.specs.Octets.{same}
-use Rattle.octets.proofs.Same.{same-length}
-use Rattle.save_reader.proofs.Whole.{over-front}
+use Rattle.save_reader.proofs.Whole.{over-front, fits-spare}
 use Rattle.save_reader.proofs.is_saved_as.Statement.{statement}
 use Rattle.save_reader.proofs.is_saved_as.Tie as tie
 
-saved-size-requires : tie.Need-saved-size-requires
-saved-size-requires c κs = search needs
-
-returns : tie.Need-returns
-returns c =
-    let s = c .before .before .before .before .before .before in
-    sym (same-length _ _ (λ e. c .if1 .taken (sym e ∙ sym (c .before .saved-size .ensures .0))))
-
 write-save-requires : tie.Need-write-save-requires
-write-save-requires c κs =
-    let s = c .before .before .before .before .before .before .before in
-    (s .pre .0, s .pre .1, omega (arith, s .pre .2, c .before .before .saved-size .ensures .0, c .before .before .saved-size .ensures .1))
+write-save-requires c κs = let s = c .before .before .before .before .before in (s .pre .0, s .pre .1, fits-spare _ _ _ (s .pre .3) (s .pre .2))
 
 sub-equal : tie.Need-sub-equal
 sub-equal c = search needs
@@ -28,9 +20,9 @@ part-equal-start c = search needs
 
 part-equal-end : tie.Need-part-equal-end
 part-equal-end c =
-    let s = c .before .before .before .before .before .before .before .before .before .before .before in
-    let z = c .before .before .before .before .before .before .saved-size .ensures in
-    omega (arith, s .pre .2, c .before .before .before .write-save .ensures .1, z .0, z .1)
+    let s = c .before .before .before .before .before .before .before .before .before in
+    let fits = fits-spare (s .args .second) (cardOf (s .args .numbers .now) (s .args .names .now)) (length (s .args .spare .now)) (s .pre .3) (s .pre .2) in
+    omega (arith, c .before .before .before .write-save .ensures .1, fits)
 
 equal-requires : tie.Need-equal-requires
 equal-requires c κs = search needs
@@ -38,9 +30,9 @@ equal-requires c κs = search needs
 same-length-1 : tie.Need-same-length
 same-length-1 c = search needs
 
-returns-2 : tie.Need-returns-2
-returns-2 c =
-    let s = c .before .before .before .before .before .before .before .before .before .before .before .before .before in
+returns : tie.Need-returns
+returns c =
+    let s = c .before .before .before .before .before .before .before .before .before .before .before in
     let w = c .before .before .before .before .before .write-save .ensures in
     c .equal .ensures ∙ ap (λ x. same x (s .args .octets .now)) (over-front _ _ _ _ (w .0) (w .1))
 
@@ -48,12 +40,10 @@ pub is-saved-as-spec : {M : Type 1} → statement M
 is-saved-as-spec =
     tie.close
     (tie.spec
-    saved-size-requires
-    returns
     write-save-requires
     sub-equal
     part-equal-start
     part-equal-end
     equal-requires
     same-length-1
-    returns-2)
+    returns)

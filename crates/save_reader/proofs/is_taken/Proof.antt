@@ -2,7 +2,7 @@ use mathlib.Core.Path.{sym, _∙_}
 use borrow.Author.Tests.{not-true, not-false}
 use borrow.Author.Needs.{needs}
 use Rattle.memory.proofs.Marks.{never}
-use Rattle.save_reader.proofs.Whole.{taken, not-taken}
+use Rattle.save_reader.proofs.Whole.{taken, not-taken, read-keeps}
 use Rattle.save_reader.proofs.is_taken.Statement.{statement}
 use Rattle.save_reader.proofs.is_taken.Tie as tie
 
@@ -36,7 +36,9 @@ returns-2 c =
     (sym (not-taken _ _ _ d (sym (c .before .is-ruled .ensures) ∙ not-true _ (c .if2 .taken))), (λ t. absurd (never t)))
 
 is-saved-as-requires : tie.Need-is-saved-as-requires
-is-saved-as-requires c κs = search needs
+is-saved-as-requires c κs =
+    let d = c .before .before .before .before .before .before .before .before .before .before .before .before .decode .ensures .0 (not-false _ (c .before .before .before .before .before .before .before .if1 .left)) .0 in
+    (search needs, search needs, search needs, read-keeps _ _ _ d (sym (c .before .before .before .before .is-ruled .ensures) ∙ not-false _ (c .before .before .before .if2 .left)))
 
 same-length-5 : tie.Need-same-length-5
 same-length-5 c = search needs
