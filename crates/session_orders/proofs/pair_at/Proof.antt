@@ -1,0 +1,63 @@
+use Rattle.session_orders.proofs.Asked.{gives-none, no-number, no-hex, gives-pair}
+use borrow.Author.Needs.{needs}
+use Rattle.session_orders.proofs.pair_at.Statement.{statement}
+use Rattle.session_orders.proofs.pair_at.Tie as tie
+
+sub-read-number : tie.Need-sub-read-number
+sub-read-number c = search needs
+
+part-read-number-start : tie.Need-part-read-number-start
+part-read-number-start c = search needs
+
+part-read-number-end : tie.Need-part-read-number-end
+part-read-number-end c = search needs
+
+read-number-requires : tie.Need-read-number-requires
+read-number-requires c κs = search needs
+
+enum-known-number : tie.Need-enum-known-number
+enum-known-number c = search needs
+
+enum-told : tie.Need-enum-told
+enum-told c = search needs
+
+returns : tie.Need-returns
+returns c = gives-none _ _ _ (no-number _ _ _ _ (c .before .before .read-number .ensures) (c .enum-told .given .1))
+
+sub-is-hex-to : tie.Need-sub-is-hex-to
+sub-is-hex-to c = search needs
+
+part-is-hex-to-start : tie.Need-part-is-hex-to-start
+part-is-hex-to-start c = search needs
+
+part-is-hex-to-end : tie.Need-part-is-hex-to-end
+part-is-hex-to-end c = search needs
+
+is-hex-to-requires : tie.Need-is-hex-to-requires
+is-hex-to-requires c κs = search needs
+
+returns-2 : tie.Need-returns-2
+returns-2 c =
+    let start = c .before .before .before .before .before .before .before .before .before in
+    gives-pair _ _ _ _ _ _ _ _ (start .pre .4) (start .pre .2) (start .pre .3) (c .before .before .before .before .before .before .read-number .ensures) (c .before .before .before .before .number .given .1) (c .before .is-hex-to .ensures) (c .if1 .taken)
+
+returns-3 : tie.Need-returns-3
+returns-3 c = gives-none _ _ _ (no-hex _ _ _ _ _ _ (c .before .before .before .before .before .before .read-number .ensures) (c .before .before .before .before .number .given .1) (c .before .is-hex-to .ensures) (c .if1 .left))
+
+pub pair-at-spec : {M : Type 1} → statement M
+pair-at-spec =
+    tie.close
+    (tie.spec
+    sub-read-number
+    part-read-number-start
+    part-read-number-end
+    read-number-requires
+    enum-known-number
+    enum-told
+    returns
+    sub-is-hex-to
+    part-is-hex-to-start
+    part-is-hex-to-end
+    is-hex-to-requires
+    returns-2
+    returns-3)

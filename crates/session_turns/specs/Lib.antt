@@ -1,0 +1,4 @@
+pub mod Turns
+pub mod Less
+pub mod Enough
+pub mod Did
