@@ -6,6 +6,7 @@ use mathlib.Core.Bool.{true, false, not, _&&_, _||_}
 use mathlib.Core.List.{List, [], _∷_, _++_}
 use lib.ListN.{drop, length, length-append, length-take, length-drop}
 use lib.Dec.{eqb}
+use borrow.Author.Tests.{ne-eqb}
 use Rattle.meaning.specs.Octets.{_when_else_}
 use Rattle.meaning.specs.Lists.{by-test, append-nil}
 use Rattle.meaning.specs.Card.{Card}
@@ -54,23 +55,23 @@ settled-four (message k) left e h′ h o p q = omega (arith, length-drop e o)
 
 taken-four : (id : List ℕ) (s : Stream) (o m : List ℕ) (ms : List (List ℕ)) → taken id s o .messages ≡ m ∷ ms
     → pending (taken id s o .stream) (drop (taken id s o .eaten) o) + 4 ≤ pending s o
-unfolding taken
+unfolding taken worked workedBy settled pending Tells
 taken-four id stopped o m ms e = let z : _≡_ {A = ℕ} 0 1 = cc in absurd (omega arith)
-taken-four id (reading left h) o m ms e = unfold worked pending in by (look id (f .left) (f .held)) refl (unfold worked in e)
+taken-four id (reading left h) o m ms e = by (look id (f .left) (f .held)) refl e
   where
     f : Filled
     f = filled id left h o
 
     by : (l : Look) → look id (f .left) (f .held) ≡ l → workedBy id l (f .left) (f .held) .messages ≡ m ∷ ms
         → pending (workedBy id l (f .left) (f .held) .stream) (drop (eatenOf (workedBy id l (f .left) (f .held) .stream) (length o) (f .eaten)) o) + 4 ≤ 2 * length o + length h + 1
-    by wait g e = unfold workedBy in (let z : _≡_ {A = ℕ} 0 1 = cc in absurd (omega arith))
-    by bad g e = unfold workedBy in (let z : _≡_ {A = ℕ} 0 1 = cc in absurd (omega arith))
-    by (head n) g e = unfold workedBy in (let z : _≡_ {A = ℕ} 0 1 = cc in absurd (omega arith))
+    by wait g e = let z : _≡_ {A = ℕ} 0 1 = cc in absurd (omega arith)
+    by bad g e = let z : _≡_ {A = ℕ} 0 1 = cc in absurd (omega arith)
+    by (head n) g e = let z : _≡_ {A = ℕ} 0 1 = cc in absurd (omega arith)
     by (message k) g e =
-        let t : (4 ≤ k) × (k ≤ f .left) × (k ≤ length (f .held)) = unfold Tells in rw g at (look-tells id (f .left) (f .held)) in
+        let t : (4 ≤ k) × (k ≤ f .left) × (k ≤ length (f .held)) = rw g at (look-tells id (f .left) (f .held)) in
         let d = length-drop k (f .held) in
         let n = filled-count id left h o in
-        unfold workedBy settled in settled-four (look id (f .left - k) (drop k (f .held))) (f .left - k) (f .eaten) (drop k (f .held)) h o (filled-eaten id left h o) (omega arith)
+        settled-four (look id (f .left - k) (drop k (f .held))) (f .left - k) (f .eaten) (drop k (f .held)) h o (filled-eaten id left h o) (omega arith)
 
 -- ---- a call that is not the last
 
@@ -98,47 +99,56 @@ module _ (id : List ℕ) (n : ℕ) (c : Card) (s : Stream) (o : List ℕ) where
       by [] e = rw (quiet-taken id s q) (rw (quiet-none id s q) refl)
       by (x ∷ o) e = absurd (omega arith)
 
+  -- the records of one message are no more than the label part is lent
+  records-few : (m : List ℕ) (ms : List (List ℕ)) → taken id s o .messages ≡ m ∷ ms → length (accepted label id n c s o .octets) ≤ messageRoom
+  unfolding accepted heeded
+  records-few m [] e = rw e (rw (append-nil (label c n m .octets)) (label-fits c n m))
+  records-few m (x ∷ ms) e = let l = taken-one id s o in let k : length (taken id s o .messages) ≡ suc (suc (length ms)) = rw e refl in absurd (omega arith)
+
+  records-none : taken id s o .messages ≡ [] → length (accepted label id n c s o .octets) ≡ 0
+  unfolding accepted heeded
+  records-none e = rw e refl
+
+  leaves-none : taken id s o .messages ≡ [] → Leaves (accepted label id n c s o) s o
+  unfolding accepted
+  leaves-none e =
+      let w = records-none e in
+      record {
+        within = taken-eaten id s o;
+        records = omega arith;
+        after = λ last.
+            let less = taken-less id s o [] (λ z q. let y : true ≡ false = sym (rests-last z q) ∙ last in let x : _≡_ {A = ℕ} 0 1 = cc in omega arith) in
+            let l : pending (taken id s o .stream) (drop (taken id s o .eaten) o) < pending s o = rw (append-nil (drop (taken id s o .eaten) o), append-nil o) at less in
+            omega arith;
+      }
+
+  leaves-message : (m : List ℕ) (ms : List (List ℕ)) → taken id s o .messages ≡ m ∷ ms → Leaves (accepted label id n c s o) s o
+  unfolding accepted
+  leaves-message m ms e =
+      let four = taken-four id s o m ms e in
+      let w = records-few m ms e in
+      record { within = taken-eaten id s o; records = omega arith; after = λ last. omega arith }
+
   accepted-leaves : Leaves (accepted label id n c s o) s o
   accepted-leaves = by (taken id s o .messages) refl
     where
       by : (ms : List (List ℕ)) → taken id s o .messages ≡ ms → Leaves (accepted label id n c s o) s o
-      by [] e =
-          let w : length (accepted label id n c s o .octets) ≡ 0 = unfold accepted heeded in rw e refl in
-          record {
-            within = unfold accepted in taken-eaten id s o;
-            records = omega arith;
-            after = λ last.
-                let less = taken-less id s o [] (λ z q. let y : true ≡ false = sym (rests-last z q) ∙ last in let x : _≡_ {A = ℕ} 0 1 = cc in omega arith) in
-                let l : pending (taken id s o .stream) (drop (taken id s o .eaten) o) < pending s o = rw (append-nil (drop (taken id s o .eaten) o), append-nil o) at less in
-                unfold accepted in omega arith;
-          }
-      by (m ∷ ms) e =
-          let four = taken-four id s o m ms e in
-          let w : length (accepted label id n c s o .octets) ≤ messageRoom = one ms e in
-          record {
-            within = unfold accepted in taken-eaten id s o;
-            records = omega arith;
-            after = λ last. unfold accepted in omega arith;
-          }
-        where
-          one : (ms : List (List ℕ)) → taken id s o .messages ≡ m ∷ ms → length (accepted label id n c s o .octets) ≤ messageRoom
-          unfolding accepted heeded
-          one [] e = rw e (rw (append-nil (label c n m .octets)) (label-fits c n m))
-          one (x ∷ ms) e = let l = taken-one id s o in let k : length (taken id s o .messages) ≡ suc (suc (length ms)) = rw e refl in absurd (omega arith)
+      by [] e = leaves-none e
+      by (m ∷ ms) e = leaves-message m ms e
+
+  refused-last : (k : ℕ) → (eqb (suc k) 0 || (eqb (suc k) 1 || eqb (suc k) 20)) ≡ true → isLast (suc k) (length (drop 0 o)) s ≡ false → ⊥
+  unfolding isLast
+  refused-last k h last =
+      by-test (eqb (suc k) 1)
+      (λ e. let z : true ≡ false = rw e at last in let x : _≡_ {A = ℕ} 0 1 = cc in omega arith)
+      (λ e. by-test (eqb (suc k) 20)
+      (λ g. let z : true ≡ false = rw (e, g) at last in let x : _≡_ {A = ℕ} 0 1 = cc in omega arith)
+      (λ g. let z : false ≡ true = rw (ne-eqb (suc k) 0 (λ q. omega arith), e, g) at h in let x : _≡_ {A = ℕ} 0 1 = cc in omega arith))
 
   leaves-by : (f : ℕ) → (eqb f 0 || (eqb f 1 || eqb f 20)) ≡ true → Leaves (calledBy f label id n c s o) s o
   unfolding calledBy
   leaves-by zero h = accepted-leaves
-  leaves-by (suc k) h = record { within = omega arith; records = omega arith; after = λ last. absurd (no last) }
-    where
-      no : isLast (suc k) (length (drop 0 o)) s ≡ false → ⊥
-      unfolding isLast
-      no last =
-          by-test (eqb (suc k) 1)
-          (λ e. let z : true ≡ false = rw e at last in let x : _≡_ {A = ℕ} 0 1 = cc in omega arith)
-          (λ e. by-test (eqb (suc k) 20)
-          (λ g. let z : true ≡ false = rw (e, g) at last in let x : _≡_ {A = ℕ} 0 1 = cc in omega arith)
-          (λ g. let z : false ≡ true = rw (e, g) at h in let x : _≡_ {A = ℕ} 0 1 = cc in omega arith))
+  leaves-by (suc k) h = record { within = omega arith; records = omega arith; after = λ last. absurd (refused-last k h last) }
 
 call-refused : (n room lent : ℕ) → (eqb (callRefusal n room lent) 0 || (eqb (callRefusal n room lent) 1 || eqb (callRefusal n room lent) 20)) ≡ true
 unfolding callRefusal _when_else_

@@ -51,19 +51,19 @@ isLast answer left s = eqb answer 1 || (eqb answer 20 || (eqb left 0 && not (hol
 abbrev pub calledBox : ℕ → ℕ → Card → Stream → List ℕ → Called
 calledBox n room c s o = called label (identifier n) n (callRoom room) streamRoom c s o
 
--- the first call, and the others where there are some
-unfoldable pub andThen : Called → Turns → Turns
-andThen k later = record { text = callText (k .answer) (k .eaten) (k .octets) ++ later .text; card = later .card; stream = later .stream }
+-- a call on the octets o, and then `more` on what it leaves, unless it was the last
+unfoldable pub andThen : Called → (Card → Stream → List ℕ → Turns) → List ℕ → Turns
+andThen k more o =
+    let rest = drop (k .eaten) o in
+    let others = more (k .card) (k .stream) rest in
+    let over = none (k .card) (k .stream) in
+    let later = pick (isLast (k .answer) (length rest) (k .stream)) over others in
+    record { text = callText (k .answer) (k .eaten) (k .octets) ++ later .text; card = later .card; stream = later .stream }
 
 -- at most so many calls
 unfoldable pub turnsF : ℕ → ℕ → ℕ → Card → Stream → List ℕ → Turns
 turnsF zero n room c s o = none c s
-turnsF (suc f) n room c s o =
-    let k = calledBox n room c s o in
-    let rest = drop (k .eaten) o in
-    let later = turnsF f n room (k .card) (k .stream) rest in
-    let over = none (k .card) (k .stream) in
-    andThen k (pick (isLast (k .answer) (length rest) (k .stream)) over later)
+turnsF (suc f) n room c s o = andThen (calledBox n room c s o) (turnsF f n room) o
 
 -- More than enough: each call eats an octet or is done with some that are held (`turns-enough`).
 abbrev pub mostTurns : List ℕ → ℕ
