@@ -78,3 +78,52 @@ fn is_last(answer: u32, left: usize, stream: &[u64; STREAM_NUMBERS], buffer: &[u
     false
 }
 
+// How far the text goes, how many octets are eaten, and whether that was the last call.
+struct Reached {
+    at: usize,
+    from: usize,
+    last: bool,
+}
+
+// One call on the octets from a place on.
+fn turn(
+    numbers: &mut [u64; NUMBER_COUNT],
+    names: &mut [u8; OCTET_COUNT],
+    stream: &mut [u64; STREAM_NUMBERS],
+    buffer: &mut [u8],
+    neighbour: u32,
+    octets: &[u8],
+    from: usize,
+    room: u32,
+    text: &mut [u8],
+    at: usize,
+) -> Reached
+    requires { ⌜ (length (now buffer) ≡ streamRoom) × (from ≤ length (now octets)) × (at + spaceFor (streamOf (now stream) (now buffer)) (drop from (now octets)) ≤ length (now text)) ⌝ }
+    ensures { λ r. ⌜ Did (calledBox neighbour room (cardOf (now (numbers .entry)) (now (names .entry))) (streamOf (now (stream .entry)) (now (buffer .entry))) (drop from (now (octets .entry))))
+        (now (octets .entry)) from (now (text .entry)) (now (text .exit)) at (r .at) (r .from) (r .last) (cardOf (now (numbers .exit)) (now (names .exit))) (streamOf (now (stream .exit)) (now (buffer .exit))) ⌝ }
+{
+    let expected = identifier(neighbour);
+    let mut out = output();
+    let mut answer: u32 = 0;
+    let mut eaten: usize = 0;
+    let records = session_serve::serve(
+        numbers,
+        names,
+        stream,
+        buffer,
+        neighbour,
+        &expected,
+        &octets[from..],
+        bench_replies::lent(&mut out, room),
+        &mut answer,
+        &mut eaten,
+    );
+    let end = add_call(text, at, answer, eaten, records);
+    let next = from + eaten;
+    Reached {
+        at: end,
+        from: next,
+        last: is_last(answer, octets.len() - next, stream, buffer),
+    }
+}
+
