@@ -1,20 +1,24 @@
 -- The text of a call, and the calls one after the other. Assumes nothing.
-use Prim.Native.Nat.{ℕ, _+_, _-_, _*_, _≤_, min}
+use Prim.Native.Nat.{ℕ, zero, suc, _+_, _-_, _*_, _≤_, _<_, min}
+use native.Mathlib.Nat.{not-suc-le-zero}
 use native.Mathlib.Omega.{arith}
 use mathlib.Core.Path.{_≡_, refl, sym, ap, _∙_}
 use mathlib.Core.Bool.{Bool, true, false, not}
-use mathlib.Core.List.{List, [], _∷_}
+use mathlib.Core.List.{List, [], _∷_, _++_, append-assoc}
 use lib.ListN.{length, take, drop, length-drop}
 use lib.Seq.{take-all, drop-drop}
-use Rattle.bench_words.specs.Words.{hexOf}
+use Rattle.bench_words.specs.Words.{ascii, hexOf}
+use Rattle.meaning.specs.Lists.{append-nil}
+use Rattle.session.specs.Kept.{Fits}
 use borrow.Author.Tests.{eq-eqb, ne-eqb}
 use Rattle.session.specs.Stream.{Stream, holdsMessage}
 use Rattle.session.specs.Session.{messageRoom, streamRoom, label, Called, called}
 use Rattle.session.specs.Calls.{HandsOver}
 use Rattle.meaning.specs.Card.{Card}
 use Rattle.bench_lines.specs.Text.{Adds}
-use Rattle.session_turns.specs.Turns.{identifier, callRoom, calledBox, behindColon, callText, isLast, callSpace, spaceFor}
+use Rattle.session_turns.specs.Turns.{identifier, callRoom, calledBox, behindColon, callText, Turns, none, isLast, andThen, turnsF, mostTurns, turns, octetsLine, callSpace, turnsSpace, spaceFor, TurnsSay}
 use Rattle.session_turns.specs.Less.{Leaves}
+use Rattle.session_turns.specs.Enough.{pending-most}
 use Rattle.session_turns.specs.Did.{Did}
 
 pub colon-none : (l : List ℕ) → length l ≡ 0 → behindColon l ≡ []
@@ -63,14 +67,13 @@ module _ (k : Called) (s : Stream) (o : List ℕ) (from at : ℕ) (l : Leaves k 
   pub turn-within : from ≤ length o → from + e ≤ length o
   turn-within g = let m = l .within in let d = length-drop from o in rw (h .eats) (omega arith)
 
-  pub turn-did : {before after : List ℕ} {to : ℕ} {last : Bool} → from ≤ length o → at + spaceFor s (drop from o) ≤ length before
+  pub turn-did : {before after : List ℕ} {to : ℕ} {last : Bool} → from ≤ length o
       → Adds (callText a e p) before after at to → to ≤ at + callSpace + 2 * length p → last ≡ isLast a (length o - (from + e)) s′
-      → Did k o from before after at to (from + e) last c′ s′
-  turn-did {before} {to = to} {last} g room adds short is =
-      let q : p ≡ k .octets = h .hands in
-      let n : length p ≡ length (k .octets) = ap length q in
+      → Did k o from s before after at to (from + e) last c′ s′
+  turn-did {to = to} {last} g adds short is =
+      let n : length p ≡ length (k .octets) = ap length (h .hands) in
       let m : drop (from + e) o ≡ drop (k .eaten) (drop from o) = rw (h .eats) (sym (drop-drop (k .eaten) from o)) in
-      let i : last ≡ isLast (k .answer) (length (drop (from + e) o)) (k .stream) = rw (length-drop (from + e) o, ← h .answers, ← h .streams) is in
+      let i : last ≡ isLast (k .answer) (length (drop (k .eaten) (drop from o))) (k .stream) = rw (← m, length-drop (from + e) o, ← h .answers, ← h .streams) is in
       record {
         tells = rw (← h .answers, ← h .eats, ← h .hands) adds;
         moves = m;
@@ -79,8 +82,83 @@ module _ (k : Called) (s : Stream) (o : List ℕ) (from at : ℕ) (l : Leaves k 
         leaves = h .leaves;
         streams = h .streams;
         ends = omega (arith, l .records);
-        goes = λ f.
-            let j : isLast (k .answer) (length (drop (k .eaten) (drop from o))) (k .stream) ≡ false = rw m at (sym i ∙ f) in
-            let z = l .after j in
-            rw (h .streams, m) (omega arith);
+        goes = λ f. let z = l .after (sym i ∙ f) in rw (h .streams, m) (omega arith);
       }
+
+-- ---- the calls one after the other
+
+then-last : (k : Called) (f : Card → Stream → List ℕ → Turns) (o : List ℕ) → isLast (k .answer) (length (drop (k .eaten) o)) (k .stream) ≡ true
+    → andThen k f o ≡ record { text = callText (k .answer) (k .eaten) (k .octets); card = k .card; stream = k .stream }
+unfolding andThen none
+then-last k f o e = rw e (rw (append-nil (callText (k .answer) (k .eaten) (k .octets))) refl)
+
+then-more : (k : Called) (f : Card → Stream → List ℕ → Turns) (o : List ℕ) (t : Turns) → isLast (k .answer) (length (drop (k .eaten) o)) (k .stream) ≡ false → t ≡ f (k .card) (k .stream) (drop (k .eaten) o)
+    → andThen k f o ≡ record { text = callText (k .answer) (k .eaten) (k .octets) ++ t .text; card = t .card; stream = t .stream }
+unfolding andThen
+then-more k f o t e g = rw e (rw (sym g) refl)
+
+turns-next : (left n room : ℕ) (c : Card) (s : Stream) (o : List ℕ) → 0 < left → turnsF left n room c s o ≡ andThen (calledBox n room c s o) (turnsF (left - 1) n room) o
+unfolding turnsF
+turns-next zero n room c s o h = absurd (not-suc-le-zero h)
+turns-next (suc f) n room c s o h = let e : suc f - 1 ≡ f = omega arith in rw e refl
+
+-- So many calls are left, from this place of the octets on: with the text that stands, and what those calls do, it is the whole.
+pub record Goes (n room : ℕ) (o : List ℕ) (t : Turns) (left from at : ℕ) (text : List ℕ) (card : Card) (stream : Stream) : Type 0 where
+  pub within : from ≤ length o
+  pub space : at + spaceFor stream (drop from o) ≤ turnsSpace
+  pub line : take at text ++ turnsF left n room card stream (drop from o) .text ≡ ascii "octets" ++ t .text
+  pub leaves : turnsF left n room card stream (drop from o) .card ≡ t .card
+  pub streams : turnsF left n room card stream (drop from o) .stream ≡ t .stream
+
+pub goes-start : (n room : ℕ) (o : List ℕ) (c : Card) (s : Stream) {before text : List ℕ} {at : ℕ} → length o ≤ 4096 → Fits s → Adds (ascii "octets") before text 0 at
+    → Goes n room o (turns n room c s o) (mostTurns o) 0 at text c s
+unfolding turns ascii
+goes-start n room o c s short fits adds =
+    let m = pending-most s o fits in
+    record {
+      within = omega arith;
+      space = omega (arith, adds .count);
+      line = rw (adds .text) refl;
+      leaves = refl;
+      streams = refl;
+    }
+
+module _ (n room : ℕ) (o : List ℕ) (t : Turns) {left from at : ℕ} {text : List ℕ} {c : Card} {s : Stream} (g : Goes n room o t left from at text c s) where
+  line-end : {after : List ℕ} {r : ℕ} (ys : List ℕ) (card : Card) (stream : Stream) (to : ℕ) → to + 1 ≤ turnsSpace → take to after ≡ ys → ys ≡ ascii "octets" ++ t .text
+      → {last : List ℕ} → Adds (10 ∷ []) after last to r → card ≡ t .card → stream ≡ t .stream → TurnsSay t r last card stream
+  unfolding octetsLine
+  line-end ys card stream to h e f adds p q = record {
+    short = omega (arith, adds .count);
+    line = adds .text ∙ rw (e, f) (append-assoc (ascii "octets") (t .text) (10 ∷ []));
+    leaves = p;
+    streams = q;
+  }
+
+  -- no call is left
+  pub goes-out : left ≤ 0 → {after : List ℕ} {r : ℕ} → Adds (10 ∷ []) text after at r → TurnsSay t r after c s
+  unfolding turnsF none
+  goes-out h adds =
+      let z : left ≡ 0 = omega arith in
+      let e : take at text ++ [] ≡ ascii "octets" ++ t .text = rw z at (g .line) in
+      line-end (take at text) c s at (omega (arith, g .space)) refl (sym (append-nil (take at text)) ∙ e) adds (rw z at (g .leaves)) (rw z at (g .streams))
+
+  module _ (some : 0 < left) {after : List ℕ} {to next : ℕ} {last : Bool} {c′ : Card} {s′ : Stream} (d : Did (calledBox n room c s (drop from o)) o from s text after at to next last c′ s′) where
+    pub goes-last : last ≡ true → {whole : List ℕ} {r : ℕ} → Adds (10 ∷ []) after whole to r → TurnsSay t r whole c′ s′
+    goes-last l adds =
+        let k = calledBox n room c s (drop from o) in
+        let e = turns-next left n room c s (drop from o) some ∙ then-last k (turnsF (left - 1) n room) (drop from o) (sym (d .lasts) ∙ l) in
+        line-end (take at text ++ callText (k .answer) (k .eaten) (k .octets)) c′ s′ to (omega (arith, d .ends, g .space)) (d .tells .text) (rw e at (g .line)) adds (d .leaves ∙ rw e at (g .leaves)) (d .streams ∙ rw e at (g .streams))
+
+    pub goes-on : last ≡ false → Goes n room o t (left - 1) next to after c′ s′
+    goes-on l =
+        let k = calledBox n room c s (drop from o) in
+        let later = turnsF (left - 1) n room c′ s′ (drop next o) in
+        let f : later ≡ turnsF (left - 1) n room (k .card) (k .stream) (drop (k .eaten) (drop from o)) = rw (d .leaves, d .streams, d .moves) refl in
+        let e = turns-next left n room c s (drop from o) some ∙ then-more k (turnsF (left - 1) n room) (drop from o) later (sym (d .lasts) ∙ l) f in
+        record {
+          within = d .within;
+          space = omega (arith, d .goes l, g .space);
+          line = rw (d .tells .text) (append-assoc (take at text) (callText (k .answer) (k .eaten) (k .octets)) (later .text) ∙ rw e at (g .line));
+          leaves = rw e at (g .leaves);
+          streams = rw e at (g .streams);
+        }

@@ -10,13 +10,13 @@ use Rattle.session.specs.Session.{Called}
 use Rattle.bench_lines.specs.Text.{Adds}
 use Rattle.session_turns.specs.Turns.{callText, isLast, spaceFor}
 
--- The call k on the octets from a place on: its text goes on the text that was there, the place has moved by what was eaten, and there is text enough for a further call.
-pub record Did (k : Called) (octets : List ℕ) (from : ℕ) (before after : List ℕ) (at to next : ℕ) (last : Bool) (card : Card) (stream : Stream) : Type 0 where
+-- The call k on the octets from a place on, where the stream was this one: its text goes on the text that was there, the place has moved by what was eaten, and a further call finds its text too.
+pub record Did (k : Called) (octets : List ℕ) (from : ℕ) (was : Stream) (before after : List ℕ) (at to next : ℕ) (last : Bool) (card : Card) (stream : Stream) : Type 0 where
   pub tells : Adds (callText (k .answer) (k .eaten) (k .octets)) before after at to
   pub moves : drop next octets ≡ drop (k .eaten) (drop from octets)
   pub within : next ≤ length octets
-  pub lasts : last ≡ isLast (k .answer) (length (drop next octets)) (k .stream)
+  pub lasts : last ≡ isLast (k .answer) (length (drop (k .eaten) (drop from octets))) (k .stream)
   pub leaves : card ≡ k .card
   pub streams : stream ≡ k .stream
-  pub ends : to + 1 ≤ length before
-  pub goes : last ≡ false → to + spaceFor stream (drop next octets) ≤ length before
+  pub ends : to + 1 ≤ at + spaceFor was (drop from octets)
+  pub goes : last ≡ false → to + spaceFor stream (drop next octets) ≤ at + spaceFor was (drop from octets)

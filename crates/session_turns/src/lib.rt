@@ -100,7 +100,7 @@ fn turn(
 ) -> Reached
     requires { ⌜ (length (now buffer) ≡ streamRoom) × (from ≤ length (now octets)) × (at + spaceFor (streamOf (now stream) (now buffer)) (drop from (now octets)) ≤ length (now text)) ⌝ }
     ensures { λ r. ⌜ Did (calledBox neighbour room (cardOf (now (numbers .entry)) (now (names .entry))) (streamOf (now (stream .entry)) (now (buffer .entry))) (drop from (now (octets .entry))))
-        (now (octets .entry)) from (now (text .entry)) (now (text .exit)) at (r .at) (r .from) (r .last) (cardOf (now (numbers .exit)) (now (names .exit))) (streamOf (now (stream .exit)) (now (buffer .exit))) ⌝ }
+        (now (octets .entry)) from (streamOf (now (stream .entry)) (now (buffer .entry))) (now (text .entry)) (now (text .exit)) at (r .at) (r .from) (r .last) (cardOf (now (numbers .exit)) (now (names .exit))) (streamOf (now (stream .exit)) (now (buffer .exit))) ⌝ }
 {
     let expected = identifier(neighbour);
     let mut out = output();
@@ -127,3 +127,42 @@ fn turn(
     }
 }
 
+pub fn put_turns(
+    numbers: &mut [u64; NUMBER_COUNT],
+    names: &mut [u8; OCTET_COUNT],
+    stream: &mut [u64; STREAM_NUMBERS],
+    buffer: &mut [u8],
+    neighbour: u32,
+    octets: &[u8],
+    room: u32,
+    text: &mut [u8],
+) -> usize
+    requires { ⌜ (length (now buffer) ≡ streamRoom) × (length (now octets) ≤ 4096) × (turnsSpace ≤ length (now text)) ⌝ }
+    ensures { λ r. ⌜ TurnsSay (turns neighbour room (cardOf (now (numbers .entry)) (now (names .entry))) (streamOf (now (stream .entry)) (now (buffer .entry))) (now (octets .entry)))
+        r (now (text .exit)) (cardOf (now (numbers .exit)) (now (names .exit))) (streamOf (now (stream .exit)) (now (buffer .exit))) ⌝ }
+{
+    let mut at = bench_lines::add(text, 0, b"octets");
+    let mut from = 0;
+    let mut left = 2 * octets.len() + STREAM_ROOM + 2;
+    while 0 < left {
+        let done = turn(
+            numbers,
+            names,
+            stream,
+            buffer,
+            neighbour,
+            octets,
+            from,
+            room,
+            text,
+            at,
+        );
+        if done.last {
+            return bench_lines::add(text, done.at, b"\n");
+        }
+        at = done.at;
+        from = done.from;
+        left -= 1;
+    }
+    bench_lines::add(text, at, b"\n")
+}

@@ -78,7 +78,7 @@ returns c =
     let card = cardOf (start .args .numbers .now) (start .args .names .now) in
     let stream = streamOf (start .args .stream .now) (start .args .buffer .now) in
     let h = turn-hands (start .args .neighbour) (start .args .room) card stream o (start .args .from) (c .before .before .before .before .before .before .before .before .before .before .before .before .before .before .before .before .before .before .before .before .before .before .before .identifier .ensures) (c .before .before .before .before .before .before .before .before .before .before .before .before .before .before .lent .ensures .1) (c .before .before .before .before .before .before .before .before .before .before .before .before .before .before .before .before .before .before .before .before .before .before .output .ensures) (start .pre .0) (c .before .before .before .before .before .before .before .before .before .before .before .serve .ensures .0) in
-    turn-did _ stream o (start .args .from) (start .args .at) (called-leaves _ _ _ _ _) h (start .pre .1) (start .pre .2) (c .before .before .before .before .before .before .add-call .ensures .0) (c .before .before .before .before .before .before .add-call .ensures .1) (c .is-last .ensures)
+    turn-did _ stream o (start .args .from) (start .args .at) (called-leaves _ _ _ _ _) h (start .pre .1) (c .before .before .before .before .before .before .add-call .ensures .0) (c .before .before .before .before .before .before .add-call .ensures .1) (c .is-last .ensures)
 
 pub turn-spec : {M : Type 1} → statement M
 turn-spec =
