@@ -1,0 +1,46 @@
+-- `session_replies::on_octets` meets its contract. Assumes nothing.
+use Rattle.session_replies.proofs.Obeying.{turns-decoded}
+use borrow.Author.Needs.{needs}
+use Rattle.session_replies.proofs.on_octets.Statement.{statement}
+use Rattle.session_replies.proofs.on_octets.Tie as tie
+
+input-requires : tie.Need-input-requires
+input-requires c κs = search needs
+
+slice-aggregate-decode-hex : tie.Need-slice-aggregate-decode-hex
+slice-aggregate-decode-hex c = search needs
+
+decode-hex-requires : tie.Need-decode-hex-requires
+decode-hex-requires c κs = search needs
+
+array-share-prefix-octets : tie.Need-array-share-prefix-octets
+array-share-prefix-octets c = search needs
+
+slice-aggregate-put-turns : tie.Need-slice-aggregate-put-turns
+slice-aggregate-put-turns c = search needs
+
+put-turns-requires : tie.Need-put-turns-requires
+put-turns-requires c κs = search needs
+
+same-length : tie.Need-same-length
+same-length c = search needs
+
+same-length-2 : tie.Need-same-length-2
+same-length-2 c = search needs
+
+returns : tie.Need-returns
+returns c = turns-decoded _ _ _ _ (c .before .before .before .before .before .before .before .before .before .before .before .before .decode-hex .ensures .0) (c .before .before .before .before .put-turns .ensures)
+
+pub on-octets-spec : {M : Type 1} → statement M
+on-octets-spec =
+    tie.close
+    (tie.spec
+    input-requires
+    slice-aggregate-decode-hex
+    decode-hex-requires
+    array-share-prefix-octets
+    slice-aggregate-put-turns
+    put-turns-requires
+    same-length
+    same-length-2
+    returns)
