@@ -63,11 +63,8 @@ loss-left f s s′ e h p = p ∙ rw (h .answers, e) refl
 
 -- ---- an order, by its variant
 
-pub lies-octets : (l : List ℕ) (a : Ask) (n s e : ℕ) → InLine l a → a ≡ Ask.Octets n s e → Lies l 8192 s e
-lies-octets l a n s e h q = rw q at h
-
-pub lies-pack : (l : List ℕ) (a : Ask) (n s e : ℕ) → InLine l a → a ≡ Ask.Pack n s e → Lies l (2 * sentLimit) s e
-lies-pack l a n s e h q = rw q at h
+pub lies : (l : List ℕ) (r a : Ask) → InLine l r → r ≡ a → InLine l a
+lies l r a h e = rw e at h
 
 pub short : (l : List ℕ) (most s e : ℕ) → Lies l most s e → length (part s e l) ≤ most
 short l most s e h = let n = length-take-le (e - s) (drop s l) (simp length-drop (omega arith)) in omega arith

@@ -120,3 +120,52 @@ fn on_loss(
     bench_lines::put_event(text, b"lost", answer, written)
 }
 
+// Any order, on the stream that it is about.
+pub fn answer(
+    numbers: &mut [u64; NUMBER_COUNT],
+    names: &mut [u8; OCTET_COUNT],
+    stream: &mut [u64; STREAM_NUMBERS],
+    buffer: &mut [u8],
+    line: &[u8],
+    ask: Ask,
+    number: u64,
+    room: u32,
+    text: &mut [u8],
+) -> Answered
+    requires { ⌜ InLine (now line) ask × (length (now buffer) ≡ streamRoom) × (turnsSpace ≤ length (now text)) ⌝ }
+    ensures { λ r. ⌜ Obeys (doneBy number room (cardOf (now (numbers .entry)) (now (names .entry))) (streamOf (now (stream .entry)) (now (buffer .entry))) (meant (now (line .entry)) ask))
+        (r .length) (now (text .exit)) (cardOf (now (numbers .exit)) (now (names .exit))) (r .room) (streamOf (now (stream .exit)) (now (buffer .exit))) ⌝ }
+{
+    match ask {
+        Ask::Bench => bench_answers::answer(numbers, names, line, number, room, text),
+        Ask::Octets {
+            neighbour,
+            start,
+            end,
+        } => Answered {
+            length: on_octets(
+                numbers,
+                names,
+                stream,
+                buffer,
+                neighbour,
+                &line[start..end],
+                room,
+                text,
+            ),
+            room,
+        },
+        Ask::Pack {
+            neighbour,
+            start,
+            end,
+        } => Answered {
+            length: on_pack(neighbour, &line[start..end], room, text),
+            room,
+        },
+        Ask::Lost(neighbour) => Answered {
+            length: on_loss(numbers, names, stream, neighbour, room, text),
+            room,
+        },
+    }
+}
