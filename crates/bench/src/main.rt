@@ -1,13 +1,14 @@
 // Reads orders from standard input, a line each, and writes one line for each order.
 ghost use mathlib.Core.Path.{_≡_};
-ghost use mathlib.Core.List.{List, [], _∷_, _++_};
+ghost use mathlib.Core.List.{List};
 ghost use Prim.Native.Nat.{ℕ, _≤_};
 ghost use lib.ListN.{length};
 ghost use Rattle.memory.specs.Memory.{cardOf};
 ghost use Rattle.bench_verbs.specs.Line.{lineLimit, orderOf};
 ghost use Rattle.bench_replies.specs.Reply.{replyTo, Answers};
-ghost use Rattle.bench.specs.Kept.{Keeps};
-ghost use Rattle.bench.specs.Input.{Stand, ended, after, afterAll, Stands};
+ghost use Rattle.bench_input.specs.Kept.{Keeps};
+ghost use Rattle.bench_input.specs.Input.{Stand, ended, after, afterAll};
+ghost use Rattle.bench.specs.Input.{Seat, seatAfter, Stands};
 ghost use Rattle.bench_lines.specs.Text.{textSpace};
 use bench_answers::Answered;
 use bench_lines::TEXT_SPACE;
@@ -25,17 +26,6 @@ struct State {
     kept: usize,
     room: u32,
     more: bool,
-}
-
-// Keeps an octet of a line. Of a line that is too long, what came later is passed over.
-fn keep(line: &mut [u8], kept: usize, c: u8) -> usize
-    ensures { λ r. ⌜ ((o : List ℕ) → Keeps (now (line .entry)) kept o → Keeps (now (line .exit)) r (o ++ (c ∷ []))) ⌝ }
-{
-    if kept < line.len() {
-        line[kept] = c;
-        return kept + 1;
-    }
-    line.len() + 1
 }
 
 // What the line that is kept is answered with. One too long to keep is a bad line.
@@ -71,8 +61,8 @@ fn end_line(
     state: State,
 ) -> State
     requires { ⌜ textSpace ≤ length (now text) ⌝ }
-    ensures { λ r. ⌜ ((s : Stand) → Stands s (state .number) (state .room) (cardOf (now (numbers .entry)) (now (names .entry))) (now (line .entry)) (state .kept)
-        → Stands (ended s) (r .number) (r .room) (cardOf (now (numbers .exit)) (now (names .exit))) (now (line .entry)) (r .kept)) ⌝ }
+    ensures { λ r. ⌜ ((s : Stand Seat) → Stands s (state .number) (state .room) (cardOf (now (numbers .entry)) (now (names .entry))) (now (line .entry)) (state .kept)
+        → Stands (ended seatAfter s) (r .number) (r .room) (cardOf (now (numbers .exit)) (now (names .exit))) (now (line .entry)) (r .kept)) ⌝ }
 {
     let number = std::num::wrapping_add_u64(state.number, 1);
     let done = reply(numbers, names, line, text, number, state);
@@ -95,15 +85,15 @@ fn take_octet(
     state: State,
 ) -> State
     requires { ⌜ textSpace ≤ length (now text) ⌝ }
-    ensures { λ r. ⌜ ((s : Stand) → Stands s (state .number) (state .room) (cardOf (now (numbers .entry)) (now (names .entry))) (now (line .entry)) (state .kept)
-        → Stands (after s c) (r .number) (r .room) (cardOf (now (numbers .exit)) (now (names .exit))) (now (line .exit)) (r .kept)) ⌝ }
+    ensures { λ r. ⌜ ((s : Stand Seat) → Stands s (state .number) (state .room) (cardOf (now (numbers .entry)) (now (names .entry))) (now (line .entry)) (state .kept)
+        → Stands (after seatAfter s c) (r .number) (r .room) (cardOf (now (numbers .exit)) (now (names .exit))) (now (line .exit)) (r .kept)) ⌝ }
 {
     if c == b'\n' {
         return end_line(numbers, names, line, text, state);
     }
     State {
         number: state.number,
-        kept: keep(line, state.kept, c),
+        kept: bench_input::keep(line, state.kept, c),
         room: state.room,
         more: true,
     }
@@ -118,8 +108,8 @@ fn take_chunk(
     from: State,
 ) -> State
     requires { ⌜ textSpace ≤ length (now text) ⌝ }
-    ensures { λ r. ⌜ ((s : Stand) → Stands s (from .number) (from .room) (cardOf (now (numbers .entry)) (now (names .entry))) (now (line .entry)) (from .kept)
-        → Stands (afterAll s (now (chunk .entry))) (r .number) (r .room) (cardOf (now (numbers .exit)) (now (names .exit))) (now (line .exit)) (r .kept)) ⌝ }
+    ensures { λ r. ⌜ ((s : Stand Seat) → Stands s (from .number) (from .room) (cardOf (now (numbers .entry)) (now (names .entry))) (now (line .entry)) (from .kept)
+        → Stands (afterAll seatAfter s (now (chunk .entry))) (r .number) (r .room) (cardOf (now (numbers .exit)) (now (names .exit))) (now (line .exit)) (r .kept)) ⌝ }
 {
     let mut state = from;
     let mut i = 0;

@@ -10,12 +10,12 @@ use borrow.Author.Tests.{lt-ltb, le-ltb, lt-leb, le-leb}
 use denote.Enum.Declared.{tagOf}
 use types.Run.{OneOf, miss}
 use Rattle.meaning.specs.Octets.{same}
-use Rattle.bench_words.specs.Words.{ascii, words, part, isHexTo, octetsOf}
+use Rattle.bench_words.specs.Words.{ascii, words, part, isHex, octetsOf}
 use Rattle.bench_words.specs.Scan.{numberIn}
 use Rattle.bench_words.specs.declared.Number.{Number}
 use Rattle.bench_words.proofs.Words.{number-value, number-none, hex-short}
 use Rattle.bench_verbs.specs.Line.{lineLimit, orderOf}
-use Rattle.session_orders.specs.Told.{Told, bench, streamCount, octetsDigits, recordsDigits, Given, none, given, numberHex, loneNumber, mayOffer, octetsBy, packBy, lostBy, toldBy, toldOf, streamFor}
+use Rattle.session_orders.specs.Told.{Told, bench, streamCount, Given, none, given, numberHex, loneNumber, mayOffer, octetsBy, packBy, lostBy, toldBy, toldOf, streamFor}
 use Rattle.session_orders.specs.Asks.{Lies, pairIn, Gives, meant, InLine, Tells}
 use Rattle.session_orders.specs.declared.Ask.{Ask}
 use Rattle.session_orders.specs.declared.Pair.{Pair}
@@ -23,25 +23,25 @@ use Rattle.session_orders.proofs.Ask.{the-type}
 
 -- ---- a number and HEX
 
-pub gives-none : (l : List ℕ) (most : ℕ) (g : Given) → g ≡ none → Gives l most g Pair.None
+pub gives-none : (l : List ℕ) (g : Given) → g ≡ none → Gives l g Pair.None
 unfolding pairIn
-gives-none l most g e = record { means = sym e; lies = tt }
+gives-none l g e = record { means = sym e; lies = tt }
 
-pub no-number : (most : ℕ) (w h : List ℕ) (k : Number) → k ≡ numberIn w → k ≡ Number.None → numberHex most (w ∷ h ∷ []) ≡ none
+pub no-number : (w h : List ℕ) (k : Number) → k ≡ numberIn w → k ≡ Number.None → numberHex (w ∷ h ∷ []) ≡ none
 unfolding numberHex
-no-number most w h k e g = rw (number-none w (sym e ∙ g)) refl
+no-number w h k e g = rw (number-none w (sym e ∙ g)) refl
 
-pub no-hex : (most n : ℕ) (w h : List ℕ) (k : Number) (b : Bool) → k ≡ numberIn w → k ≡ Number.Is n → b ≡ isHexTo most h → b ≡ false → numberHex most (w ∷ h ∷ []) ≡ none
+pub no-hex : (n : ℕ) (w h : List ℕ) (k : Number) (b : Bool) → k ≡ numberIn w → k ≡ Number.Is n → b ≡ isHex h → b ≡ false → numberHex (w ∷ h ∷ []) ≡ none
 unfolding numberHex
-no-hex most n w h k b e g f i = let v = number-value w n (sym e ∙ g) in rw (v .0, sym f ∙ i) refl
+no-hex n w h k b e g f i = let v = number-value w n (sym e ∙ g) in rw (v .0, sym f ∙ i) refl
 
-pub gives-pair : (l : List ℕ) (most n s e : ℕ) (w : List ℕ) (k : Number) (b : Bool) → 1 ≤ most → s ≤ e → e ≤ length l
-    → k ≡ numberIn w → k ≡ Number.Is n → b ≡ isHexTo most (part s e l) → b ≡ true → Gives l most (numberHex most (w ∷ part s e l ∷ [])) (Pair.Is n s e)
-unfolding pairIn numberHex
-gives-pair l most n s e w k b one h i f g p q =
+pub gives-pair : (l : List ℕ) (n s e : ℕ) (w : List ℕ) (k : Number) (b : Bool) → s ≤ e → e ≤ length l
+    → k ≡ numberIn w → k ≡ Number.Is n → b ≡ isHex (part s e l) → b ≡ true → Gives l (numberHex (w ∷ part s e l ∷ [])) (Pair.Is n s e)
+unfolding pairIn numberHex isHex
+gives-pair l n s e w k b h i f g p q =
     let v = number-value w n (sym f ∙ g) in
     let m = length-take-le (e - s) (drop s l) (simp length-drop (omega arith)) in
-    let short = hex-short most (part s e l) one (sym p ∙ q) in
+    let short = hex-short 8192 (part s e l) (omega arith) (sym p ∙ q) in
     record { means = rw (v .0, sym p ∙ q) (rw (v .1) refl); lies = (h, i, omega arith) }
 
 -- ---- the orders
@@ -50,12 +50,12 @@ pub tells-bench : (l : List ℕ) (t : Told) → t ≡ bench (orderOf l) → Tell
 unfolding meant
 tells-bench l t e = record { means = sym e; lies = tt }
 
-module _ (l : List ℕ) (most : ℕ) (g : Given) (r : Pair) (gives : Gives l most g r) where
+module _ (l : List ℕ) (g : Given) (r : Pair) (gives : Gives l g r) where
   pub given-none : r ≡ Pair.None → g ≡ none
   unfolding pairIn
   given-none e = let z : none ≡ g = rw e at (gives .means) in sym z
 
-  pub given-is : (n s e : ℕ) → r ≡ Pair.Is n s e → (g ≡ given n (octetsOf (part s e l))) × Lies l most s e
+  pub given-is : (n s e : ℕ) → r ≡ Pair.Is n s e → (g ≡ given n (octetsOf (part s e l))) × Lies l s e
   unfolding pairIn
   given-is n s e q = let z : given n (octetsOf (part s e l)) ≡ g = rw q at (gives .means) in (sym z, rw q at (gives .lies))
 
@@ -63,9 +63,9 @@ module _ (l : List ℕ) (most : ℕ) (g : Given) (r : Pair) (gives : Gives l mos
   unfolding octetsBy
   octets-none e = tells-bench l _ (rw (given-none e))
 
-  pub octets-taken : (n s e : ℕ) (b : Bool) → r ≡ Pair.Is n s e → b ≡ mayOffer n → b ≡ true → most ≡ octetsDigits → Tells l (octetsBy (bench (orderOf l)) g) (Ask.Octets n s e)
+  pub octets-taken : (n s e : ℕ) (b : Bool) → r ≡ Pair.Is n s e → b ≡ mayOffer n → b ≡ true → Tells l (octetsBy (bench (orderOf l)) g) (Ask.Octets n s e)
   unfolding octetsBy meant
-  octets-taken n s e b q f t w = let p = given-is n s e q in record { means = rw (p .0, sym f ∙ t) refl; lies = rw w at (p .1) }
+  octets-taken n s e b q f t = let p = given-is n s e q in record { means = rw (p .0, sym f ∙ t) refl; lies = p .1 }
 
   pub octets-passed : (n s e : ℕ) (b : Bool) → r ≡ Pair.Is n s e → b ≡ mayOffer n → b ≡ false → Tells l (octetsBy (bench (orderOf l)) g) Ask.Bench
   unfolding octetsBy
@@ -75,9 +75,9 @@ module _ (l : List ℕ) (most : ℕ) (g : Given) (r : Pair) (gives : Gives l mos
   unfolding packBy
   pack-none e = tells-bench l _ (rw (given-none e))
 
-  pub pack-taken : (n s e : ℕ) → r ≡ Pair.Is n s e → most ≡ recordsDigits → Tells l (packBy (bench (orderOf l)) g) (Ask.Pack n s e)
+  pub pack-taken : (n s e : ℕ) → r ≡ Pair.Is n s e → Tells l (packBy (bench (orderOf l)) g) (Ask.Pack n s e)
   unfolding packBy meant
-  pack-taken n s e q w = let p = given-is n s e q in record { means = rw (p .0) refl; lies = rw w at (p .1) }
+  pack-taken n s e q = let p = given-is n s e q in record { means = rw (p .0) refl; lies = p .1 }
 
 -- ---- a loss
 
@@ -125,11 +125,11 @@ unfolding toldOf toldBy
 blank-told l h e = rw (le-leb (length l) lineLimit h, e)
 
 module _ (l w : List ℕ) (ws : List (List ℕ)) (short : length l ≤ lineLimit) (first : words l ≡ w ∷ ws) where
-  pub octets-told : (b : Bool) → b ≡ same w (ascii "octets") → b ≡ true → toldOf l ≡ octetsBy (bench (orderOf l)) (numberHex octetsDigits ws)
+  pub octets-told : (b : Bool) → b ≡ same w (ascii "octets") → b ≡ true → toldOf l ≡ octetsBy (bench (orderOf l)) (numberHex ws)
   unfolding toldOf toldBy
   octets-told b e t = rw (le-leb (length l) lineLimit short, first) (rw (sym e ∙ t))
 
-  pub pack-told : (b d : Bool) → b ≡ same w (ascii "octets") → b ≡ false → d ≡ same w (ascii "pack") → d ≡ true → toldOf l ≡ packBy (bench (orderOf l)) (numberHex recordsDigits ws)
+  pub pack-told : (b d : Bool) → b ≡ same w (ascii "octets") → b ≡ false → d ≡ same w (ascii "pack") → d ≡ true → toldOf l ≡ packBy (bench (orderOf l)) (numberHex ws)
   unfolding toldOf toldBy
   pack-told b d e t f u = rw (le-leb (length l) lineLimit short, first) (rw (sym e ∙ t, sym f ∙ u))
 

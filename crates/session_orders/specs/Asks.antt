@@ -5,13 +5,13 @@ use mathlib.Core.List.{List}
 use lib.ListN.{length}
 use Rattle.bench_words.specs.Words.{part, octetsOf}
 use Rattle.bench_verbs.specs.Line.{orderOf}
-use Rattle.session_orders.specs.Told.{Told, bench, octets, pack, lost, streamCount, octetsDigits, recordsDigits, Given, none, given}
+use Rattle.session_orders.specs.Told.{Told, bench, octets, pack, lost, streamCount, Given, none, given}
 use Rattle.session_orders.specs.declared.Ask.{Ask}
 use Rattle.session_orders.specs.declared.Pair.{Pair}
 
 -- a word of HEX lies in the line
-abbrev pub Lies : List ℕ → ℕ → ℕ → ℕ → Type 0
-Lies l most s e = (s ≤ e) × (e ≤ length l) × (e ≤ s + most)
+abbrev pub Lies : List ℕ → ℕ → ℕ → Type 0
+Lies l s e = (s ≤ e) × (e ≤ length l) × (e ≤ s + 8192)
 
 -- ---- a number and HEX
 
@@ -19,13 +19,13 @@ unfoldable pub pairIn : List ℕ → Pair → Given
 pairIn l Pair.None = none
 pairIn l (Pair.Is n s e) = given n (octetsOf (part s e l))
 
-abbrev pub PairLies : List ℕ → ℕ → Pair → Type 0
-PairLies l most Pair.None = Unit
-PairLies l most (Pair.Is n s e) = Lies l most s e
+abbrev pub PairLies : List ℕ → Pair → Type 0
+PairLies l Pair.None = Unit
+PairLies l (Pair.Is n s e) = Lies l s e
 
-pub record Gives (l : List ℕ) (most : ℕ) (g : Given) (r : Pair) : Type 0 where
+pub record Gives (l : List ℕ) (g : Given) (r : Pair) : Type 0 where
   pub means : pairIn l r ≡ g
-  pub lies : PairLies l most r
+  pub lies : PairLies l r
 
 -- ---- the order
 
@@ -37,8 +37,8 @@ meant l (Ask.Lost n) = lost n
 
 abbrev pub InLine : List ℕ → Ask → Type 0
 InLine l Ask.Bench = Unit
-InLine l (Ask.Octets n s e) = Lies l octetsDigits s e
-InLine l (Ask.Pack n s e) = Lies l recordsDigits s e
+InLine l (Ask.Octets n s e) = Lies l s e
+InLine l (Ask.Pack n s e) = Lies l s e
 InLine l (Ask.Lost n) = n < streamCount
 
 pub record Tells (l : List ℕ) (told : Told) (r : Ask) : Type 0 where

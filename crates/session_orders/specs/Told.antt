@@ -1,12 +1,11 @@
 -- What a line says to the session box: one of its own orders, or one of the bench. Assumes nothing.
-use Prim.Native.Nat.{ℕ, _*_}
-use mathlib.Core.Bool.{Bool, _&&_, _||_}
+use Prim.Native.Nat.{ℕ}
+use mathlib.Core.Bool.{Bool, _||_}
 use mathlib.Core.List.{List, [], _∷_}
 use lib.ListN.{length}
 use lib.Dec.{leb, ltb}
 use Rattle.meaning.specs.Octets.{pick, same}
-use Rattle.meaning.specs.Card.{sentLimit}
-use Rattle.bench_words.specs.Words.{ascii, words, value, isNumber, isHexTo, octetsOf}
+use Rattle.bench_words.specs.Words.{ascii, words, value, isNumber, isHex, octetsOf}
 use Rattle.bench_words.specs.Scan.{numberIn}
 use Rattle.bench_words.specs.declared.Number.{Number}
 use Rattle.bench_verbs.specs.Line.{Said, lineLimit, orderOf}
@@ -21,13 +20,6 @@ pub data Told : Type 0 where
 abbrev pub streamCount : ℕ
 streamCount = 4
 
--- The octets of one order, 4096 at most; and the records, no more than one event writes.
-abbrev pub octetsDigits : ℕ
-octetsDigits = 8192
-
-abbrev pub recordsDigits : ℕ
-recordsDigits = 2 * sentLimit
-
 -- ---- the words behind the first
 
 -- a number and octets, alone
@@ -35,11 +27,11 @@ pub data Given : Type 0 where
   none : Given
   given : ℕ → List ℕ → Given
 
-unfoldable pub numberHex : ℕ → List (List ℕ) → Given
-numberHex most [] = none
-numberHex most (n ∷ []) = none
-numberHex most (n ∷ h ∷ []) = pick (isNumber n) (pick (isHexTo most h) (given (value n) (octetsOf h)) none) none
-numberHex most (n ∷ h ∷ w ∷ ws) = none
+unfoldable pub numberHex : List (List ℕ) → Given
+numberHex [] = none
+numberHex (n ∷ []) = none
+numberHex (n ∷ h ∷ []) = pick (isNumber n) (pick (isHex h) (given (value n) (octetsOf h)) none) none
+numberHex (n ∷ h ∷ w ∷ ws) = none
 
 -- a number alone
 unfoldable pub loneNumber : List (List ℕ) → Number
@@ -70,8 +62,8 @@ lostBy other (Number.Is n) = pick (ltb n streamCount) (lost n) other
 unfoldable pub toldBy : Told → List (List ℕ) → Told
 toldBy other [] = other
 toldBy other (w ∷ ws) =
-    pick (same w (ascii "octets")) (octetsBy other (numberHex octetsDigits ws))
-    (pick (same w (ascii "pack")) (packBy other (numberHex recordsDigits ws))
+    pick (same w (ascii "octets")) (octetsBy other (numberHex ws))
+    (pick (same w (ascii "pack")) (packBy other (numberHex ws))
     (pick (same w (ascii "lost")) (lostBy other (loneNumber ws))
     other))
 

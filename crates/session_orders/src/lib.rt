@@ -5,19 +5,11 @@ ghost use Prim.Native.Nat.{ℕ, _≤_, _<_};
 ghost use lib.ListN.{length, drop};
 ghost use Rattle.bench_words.specs.Words.{part, words};
 ghost use Rattle.bench_verbs.specs.Line.{orderOf};
-ghost use Rattle.session_orders.specs.Told.{bench, numberHex, octetsDigits, recordsDigits, loneNumber, octetsBy, packBy, lostBy, toldOf, streamCount, streamFor};
+ghost use Rattle.session_orders.specs.Told.{bench, numberHex, loneNumber, octetsBy, packBy, lostBy, toldOf, streamCount, streamFor};
 ghost use Rattle.session_orders.specs.Asks.{Gives, meant, InLine, Tells};
 use bench_orders::LINE_LIMIT;
 use bench_words::Number;
 use bench_words::Word;
-use meaning::SENT_LIMIT;
-
-// The digits of the octets and of the records that an order brings, as in specs/Told.antt.
-pub const OCTETS_LIMIT: usize = 4096;
-
-const OCTETS_DIGITS: usize = 2 * OCTETS_LIMIT;
-
-const RECORDS_DIGITS: usize = 2 * SENT_LIMIT;
 
 // Neighbours 0 to 3 have a stream.
 pub const STREAM_COUNT: u32 = 4;
@@ -50,10 +42,10 @@ pub enum Pair {
 
 // ---- the words behind the first
 
-// Two words, as a number and HEX of at most so many digits.
-fn pair_at(line: &[u8], first: Word, second: Word, most: usize) -> Pair
-    requires { ⌜ (first .start ≤ first .end) × (first .end ≤ length (now line)) × (second .start ≤ second .end) × (second .end ≤ length (now line)) × (1 ≤ most) ⌝ }
-    ensures { λ r. ⌜ Gives (now (line .entry)) most (numberHex most (part (first .start) (first .end) (now (line .entry)) ∷ part (second .start) (second .end) (now (line .entry)) ∷ [])) r ⌝ }
+// Two words, as a number and HEX.
+fn pair_at(line: &[u8], first: Word, second: Word) -> Pair
+    requires { ⌜ (first .start ≤ first .end) × (first .end ≤ length (now line)) × (second .start ≤ second .end) × (second .end ≤ length (now line)) ⌝ }
+    ensures { λ r. ⌜ Gives (now (line .entry)) (numberHex (part (first .start) (first .end) (now (line .entry)) ∷ part (second .start) (second .end) (now (line .entry)) ∷ [])) r ⌝ }
 {
     let from = first.start;
     let to = first.end;
@@ -62,16 +54,16 @@ fn pair_at(line: &[u8], first: Word, second: Word, most: usize) -> Pair
     };
     let start = second.start;
     let end = second.end;
-    if bench_words::is_hex_to(&line[start..end], most) {
+    if bench_words::is_hex(&line[start..end]) {
         return Pair::Is { number, start, end };
     }
     Pair::None
 }
 
 // A number and HEX from a place on.
-fn number_hex(line: &[u8], at: usize, most: usize) -> Pair
-    requires { ⌜ (at ≤ length (now line)) × (1 ≤ most) ⌝ }
-    ensures { λ r. ⌜ Gives (now (line .entry)) most (numberHex most (words (drop at (now (line .entry))))) r ⌝ }
+fn number_hex(line: &[u8], at: usize) -> Pair
+    requires { ⌜ at ≤ length (now line) ⌝ }
+    ensures { λ r. ⌜ Gives (now (line .entry)) (numberHex (words (drop at (now (line .entry))))) r ⌝ }
 {
     let first = bench_words::next_word(line, at);
     if first.start == first.end {
@@ -83,7 +75,7 @@ fn number_hex(line: &[u8], at: usize, most: usize) -> Pair
     }
     let third = bench_words::next_word(line, second.end);
     if third.start == third.end {
-        return pair_at(line, first, second, most);
+        return pair_at(line, first, second);
     }
     Pair::None
 }
@@ -110,13 +102,13 @@ fn lone_number(line: &[u8], at: usize) -> Number
 
 fn with_octets(line: &[u8], at: usize) -> Ask
     requires { ⌜ at ≤ length (now line) ⌝ }
-    ensures { λ r. ⌜ Tells (now (line .entry)) (octetsBy (bench (orderOf (now (line .entry)))) (numberHex octetsDigits (words (drop at (now (line .entry)))))) r ⌝ }
+    ensures { λ r. ⌜ Tells (now (line .entry)) (octetsBy (bench (orderOf (now (line .entry)))) (numberHex (words (drop at (now (line .entry)))))) r ⌝ }
 {
     let Pair::Is {
         number: neighbour,
         start,
         end,
-    } = number_hex(line, at, OCTETS_DIGITS) else {
+    } = number_hex(line, at) else {
         return Ask::Bench;
     };
     if (neighbour < STREAM_COUNT) | (15 < neighbour) {
@@ -131,13 +123,13 @@ fn with_octets(line: &[u8], at: usize) -> Ask
 
 fn with_pack(line: &[u8], at: usize) -> Ask
     requires { ⌜ at ≤ length (now line) ⌝ }
-    ensures { λ r. ⌜ Tells (now (line .entry)) (packBy (bench (orderOf (now (line .entry)))) (numberHex recordsDigits (words (drop at (now (line .entry)))))) r ⌝ }
+    ensures { λ r. ⌜ Tells (now (line .entry)) (packBy (bench (orderOf (now (line .entry)))) (numberHex (words (drop at (now (line .entry)))))) r ⌝ }
 {
     let Pair::Is {
         number: neighbour,
         start,
         end,
-    } = number_hex(line, at, RECORDS_DIGITS) else {
+    } = number_hex(line, at) else {
         return Ask::Bench;
     };
     Ask::Pack {

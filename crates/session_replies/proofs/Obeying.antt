@@ -8,7 +8,7 @@ use lib.Seq.{length-take-le}
 use borrow.Author.Tests.{ltb-false}
 use Rattle.meaning.specs.Octets.{_when_else_}
 use Rattle.meaning.specs.Lists.{by-test}
-use Rattle.meaning.specs.Card.{Card, sentLimit}
+use Rattle.meaning.specs.Card.{Card}
 use Rattle.meaning.specs.Events.{Out, event, lost, noNeighbour}
 use Rattle.meaning.specs.Save.{new, saveLimit}
 use Rattle.meaning.specs.Calls.{Hands}
@@ -45,7 +45,7 @@ pack-fits id n room records =
     (λ f. rw (e, f) (ltb-false room (length (packed id (messagesTo n records))) f)))
 
 -- what the writer was lent, and given, and what it handed back
-module _ (n room : ℕ) {id os before after part : List ℕ} {l whole k a : ℕ} (all : 2 * sentLimit ≡ whole) (lent : l ≡ min room whole) (given : Puts os before after k) (i : id ≡ own)
+module _ (n room : ℕ) {id os before after part : List ℕ} {l whole k a : ℕ} (all : 2 * 4096 ≡ whole) (lent : l ≡ min room whole) (given : Puts os before after k) (i : id ≡ own)
     (answers : a ≡ pack id n l (take k after) .answer) (hands : part ≡ pack id n l (take k after) .octets) where
   pub pack-short : length part ≤ saveLimit new
   pack-short = let f = pack-fits id n l (take k after) in rw hands (omega arith)
@@ -66,8 +66,8 @@ loss-left f s s′ e h p = p ∙ rw (h .answers, e) refl
 pub lies : (l : List ℕ) (r a : Ask) → InLine l r → r ≡ a → InLine l a
 lies l r a h e = rw e at h
 
-pub short : (l : List ℕ) (most s e : ℕ) → Lies l most s e → length (part s e l) ≤ most
-short l most s e h = let n = length-take-le (e - s) (drop s l) (simp length-drop (omega arith)) in omega arith
+pub short : (l : List ℕ) (s e : ℕ) → Lies l s e → length (part s e l) ≤ 8192
+short l s e h = let n = length-take-le (e - s) (drop s l) (simp length-drop (omega arith)) in omega arith
 
 module _ (number room : ℕ) (c : Card) (s : Stream) (l : List ℕ) (a : Ask) where
   pub obeys-bench : {r next : ℕ} {text : List ℕ} {c′ : Card} → a ≡ Ask.Bench → Answers (replyTo number room c (orderOf l)) r text c′ next → Obeys (doneBy number room c s (meant l a)) r text c′ next s

@@ -3,7 +3,7 @@ use Prim.Native.Nat.{ℕ, _≤_, _*_, min}
 use mathlib.Core.Path.{_≡_}
 use mathlib.Core.List.{List}
 use lib.ListN.{getD, set, take}
-use Rattle.meaning.specs.Card.{Card, sentLimit}
+use Rattle.meaning.specs.Card.{Card}
 use Rattle.meaning.specs.Events.{event, lost}
 use Rattle.session.specs.Stream.{Stream, empty}
 use Rattle.session.specs.Session.{afterLoss}
@@ -23,9 +23,9 @@ pub record Done : Type 0 where
   pub room : ℕ
   pub stream : Stream
 
--- The writer is lent the room, or twice the octets of the most records: a record has twelve octets at least, and its message at most ten more of a PDU's head.
+-- The writer is lent the room, or twice the octets of its records, of which there are 4096 at most: a message comes with four octets of a record and leaves with ten of a PDU's head at most, and has eight itself.
 abbrev pub packRoom : ℕ → ℕ
-packRoom room = min room (2 * sentLimit)
+packRoom room = min room (2 * 4096)
 
 -- the card's own, 192.0.2.254:0
 abbrev pub own : List ℕ

@@ -14,7 +14,6 @@ ghost use Rattle.bench_words.specs.Words.{ascii, octetsOf};
 ghost use Rattle.bench_verbs.specs.Line.{Said};
 ghost use Rattle.bench_lines.specs.Text.{eventLine, textSpace};
 ghost use Rattle.bench_replies.specs.Reply.{eventRoom, replyTo, Says};
-ghost use Rattle.session_orders.specs.Told.{octetsDigits, recordsDigits};
 ghost use Rattle.session_orders.specs.Asks.{meant, InLine};
 ghost use Rattle.session_turns.specs.Turns.{turns, turnsSpace, TurnsSay};
 ghost use Rattle.session_replies.specs.Done.{own, packRoom, doneBy, Obeys};
@@ -26,7 +25,7 @@ use session::STREAM_NUMBERS;
 use session_orders::Ask;
 
 // The room of the writer, as `packRoom` in specs/Done.antt.
-const PACK_ROOM: usize = 2 * SENT_LIMIT;
+const PACK_ROOM: usize = 2 * 4096;
 
 // ---- what the calls are lent
 
@@ -37,7 +36,7 @@ fn records() -> [u8; SENT_LIMIT]
 }
 
 fn pdus() -> [u8; PACK_ROOM]
-    ensures { λ r. ⌜ 2 * sentLimit ≡ length r ⌝ }
+    ensures { λ r. ⌜ 2 * 4096 ≡ length r ⌝ }
 {
     [0; PACK_ROOM]
 }
@@ -54,7 +53,7 @@ fn on_octets(
     room: u32,
     text: &mut [u8],
 ) -> usize
-    requires { ⌜ (length (now buffer) ≡ streamRoom) × (length (now hex) ≤ octetsDigits) × (turnsSpace ≤ length (now text)) ⌝ }
+    requires { ⌜ (length (now buffer) ≡ streamRoom) × (length (now hex) ≤ 8192) × (turnsSpace ≤ length (now text)) ⌝ }
     ensures { λ r. ⌜ TurnsSay (turns neighbour room (cardOf (now (numbers .entry)) (now (names .entry))) (streamOf (now (stream .entry)) (now (buffer .entry))) (octetsOf (now (hex .entry))))
         r (now (text .exit)) (cardOf (now (numbers .exit)) (now (names .exit))) (streamOf (now (stream .exit)) (now (buffer .exit))) ⌝ }
 {
@@ -74,11 +73,11 @@ fn on_octets(
 
 // The PDUs to a neighbour, of the records in HEX.
 fn on_pack(neighbour: u32, hex: &[u8], room: u32, text: &mut [u8]) -> usize
-    requires { ⌜ (length (now hex) ≤ recordsDigits) × (textSpace ≤ length (now text)) ⌝ }
+    requires { ⌜ (length (now hex) ≤ 8192) × (textSpace ≤ length (now text)) ⌝ }
     ensures { λ r. ⌜ r ≤ textSpace ⌝ }
     ensures { λ r. ⌜ take r (now (text .exit)) ≡ eventLine (ascii "pack") (pack own neighbour (packRoom room) (octetsOf (now (hex .entry))) .answer) (pack own neighbour (packRoom room) (octetsOf (now (hex .entry))) .octets) ⌝ }
 {
-    let mut given = records();
+    let mut given = bench_replies::input();
     let n = bench_words::decode_hex(hex, &mut given);
     let mut out = pdus();
     let mut answer: u32 = 0;

@@ -15,10 +15,9 @@ use session::IDENTIFIER_SIZE;
 use session::MESSAGE_ROOM;
 use session::STREAM_NUMBERS;
 use session::STREAM_ROOM;
-use session_orders::OCTETS_LIMIT;
 
 // The space of the line, as `turnsSpace` in specs/Turns.antt.
-pub const TURNS_SPACE: usize = 185 * (2 * OCTETS_LIMIT + BODY_LIMIT + 2);
+pub const TURNS_SPACE: usize = 185 * (2 * 4096 + BODY_LIMIT + 2);
 
 // 192.0.2.N:0
 pub fn identifier(n: u32) -> [u8; IDENTIFIER_SIZE]

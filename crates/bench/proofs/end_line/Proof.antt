@@ -2,7 +2,7 @@ use native.Mathlib.Omega.{arith}
 use mathlib.Core.Path.{sym}
 use lib.Seq.{length-take-le}
 use Rattle.bench.proofs.Input.{ended-stands}
-use Rattle.bench.specs.Input.{nextNumber}
+use Rattle.bench_input.specs.Input.{nextNumber}
 use borrow.Author.Needs.{needs}
 use Rattle.bench.proofs.end_line.Statement.{statement}
 use Rattle.bench.proofs.end_line.Tie as tie

@@ -1,7 +1,8 @@
 use native.Mathlib.Omega.{arith}
 use mathlib.Core.Path.{refl, sym}
 use lib.Seq.{length-take-le}
-use Rattle.bench.proofs.Input.{keeps-line, keeps-long}
+use Rattle.bench_input.proofs.Input.{keeps-line}
+use Rattle.bench.proofs.Input.{keeps-long}
 use Rattle.bench_replies.proofs.Reply.{says-only}
 use Rattle.bench_replies.specs.Reply.{only, replyTo}
 use Rattle.bench_words.specs.Words.{ascii}

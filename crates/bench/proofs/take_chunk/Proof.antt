@@ -5,20 +5,21 @@ use borrow.Author.Needs.{needs}
 use lib.ListN.{length, take}
 use lib.Seq.{take-all}
 use Rattle.memory.specs.Memory.{cardOf}
-use Rattle.bench.specs.Input.{Stand, afterAll, Stands}
-use Rattle.bench.proofs.Input.{after-none, after-next}
+use Rattle.bench_input.specs.Input.{Stand, afterAll}
+use Rattle.bench_input.proofs.Input.{after-none, after-next}
+use Rattle.bench.specs.Input.{Seat, seatAfter, Stands}
 use Rattle.bench.proofs.take_chunk.Statement.{statement}
 use Rattle.bench.proofs.take_chunk.Tie as tie
 
 abbrev Inv-loop : tie.InvT-loop
 Inv-loop numbers₀ names₀ line₀ text₀ chunk state₀ i₀ numbers names line text state i = (i ≤ length chunk) × (length line ≡ length line₀) × (length text ≡ length text₀)
-    × ((s : Stand) → Stands s (state₀ .number) (state₀ .room) (cardOf numbers₀ names₀) line₀ (state₀ .kept) → Stands (afterAll s (take i chunk)) (state .number) (state .room) (cardOf numbers names) line (state .kept))
+    × ((s : Stand Seat) → Stands s (state₀ .number) (state₀ .room) (cardOf numbers₀ names₀) line₀ (state₀ .kept) → Stands (afterAll seatAfter s (take i chunk)) (state .number) (state .room) (cardOf numbers names) line (state .kept))
 
 abbrev μ-loop : tie.MeasureT-loop
 μ-loop numbers₀ names₀ line₀ text₀ chunk state₀ i₀ numbers names line text state i = length chunk - i
 
 loop-holds : tie.Need-loop-holds Inv-loop μ-loop
-loop-holds c = (omega arith, refl, refl, λ s h. rw (after-none s) h)
+loop-holds c = (omega arith, refl, refl, λ s h. rw (after-none seatAfter s) h)
 
 shared-slice-read-take-octet : tie.Need-shared-slice-read-take-octet Inv-loop μ-loop
 shared-slice-read-take-octet c = search needs
@@ -42,7 +43,7 @@ loop-again c =
       omega arith,
       omega arith,
       omega arith,
-      λ s k. rw (sym (after-next s chunk i h)) (c .before .before .before .before .take-octet .ensures _ (at-loop .loop .inv .3 s k)),
+      λ s k. rw (sym (after-next seatAfter s chunk i h)) (c .before .before .before .before .take-octet .ensures _ (at-loop .loop .inv .3 s k)),
     )
 
 same-length : tie.Need-same-length Inv-loop μ-loop

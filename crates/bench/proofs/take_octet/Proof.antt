@@ -1,5 +1,7 @@
 use native.Mathlib.Omega.{arith}
-use Rattle.bench.proofs.Input.{after-end, after-more, longer-stands}
+use Rattle.bench_input.proofs.Input.{after-end, after-more}
+use Rattle.bench.specs.Input.{seatAfter}
+use Rattle.bench.proofs.Input.{longer-stands}
 use borrow.Author.Needs.{needs}
 use Rattle.bench.proofs.take_octet.Statement.{statement}
 use Rattle.bench.proofs.take_octet.Tie as tie
@@ -14,7 +16,7 @@ same-length-2 : tie.Need-same-length-2
 same-length-2 c = search needs
 
 returns : tie.Need-returns
-returns c = λ s h. rw (after-end s _ (c .before .before .before .before .before .before .before .if1 .taken)) (c .before .before .end-line .ensures s h)
+returns c = λ s h. rw (after-end seatAfter s _ (c .before .before .before .before .before .before .before .if1 .taken)) (c .before .before .end-line .ensures s h)
 
 keep-requires : tie.Need-keep-requires
 keep-requires c κs = search needs
@@ -23,7 +25,7 @@ same-length-3 : tie.Need-same-length-3
 same-length-3 c = search needs
 
 returns-2 : tie.Need-returns-2
-returns-2 c = λ s h. rw (after-more s _ (c .before .before .before .before .if1 .left)) (longer-stands s _ h (omega arith) (c .before .before .keep .ensures (s .octets) (h .keeps)))
+returns-2 c = λ s h. rw (after-more seatAfter s _ (c .before .before .before .before .if1 .left)) (longer-stands s _ h (omega arith) (c .before .before .keep .ensures (s .octets) (h .keeps)))
 
 pub take-octet-spec : {M : Type 1} → statement M
 take-octet-spec =

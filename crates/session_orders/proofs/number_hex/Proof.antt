@@ -11,14 +11,14 @@ next-word-requires c κs = search needs
 
 returns : tie.Need-returns
 unfolding numberHex
-returns c = gives-none _ _ _ (rw (word-none (c .before .before .next-word .ensures) (c .if1 .taken)))
+returns c = gives-none _ _ (rw (word-none (c .before .before .next-word .ensures) (c .if1 .taken)))
 
 next-word-requires-2 : tie.Need-next-word-requires-2
 next-word-requires-2 c κs = search needs
 
 returns-2 : tie.Need-returns-2
 unfolding numberHex
-returns-2 c = gives-none _ _ _ (rw (word-some (c .before .before .before .before .before .next-word .ensures) (c .before .before .before .if1 .left), word-none (c .before .before .next-word2 .ensures) (c .if2 .taken)))
+returns-2 c = gives-none _ _ (rw (word-some (c .before .before .before .before .before .next-word .ensures) (c .before .before .before .if1 .left), word-none (c .before .before .next-word2 .ensures) (c .if2 .taken)))
 
 next-word-requires-3 : tie.Need-next-word-requires-3
 next-word-requires-3 c κs = search needs
@@ -31,7 +31,7 @@ returns-3 c = rw (word-some (c .before .before .before .before .before .before .
 
 returns-4 : tie.Need-returns-4
 unfolding numberHex
-returns-4 c = gives-none _ _ _ (rw (word-some (c .before .before .before .before .before .before .before .before .next-word .ensures) (c .before .before .before .before .before .before .if1 .left), word-some (c .before .before .before .before .before .next-word2 .ensures) (c .before .before .before .if2 .left), word-some (c .before .before .next-word3 .ensures) (c .if3 .left)))
+returns-4 c = gives-none _ _ (rw (word-some (c .before .before .before .before .before .before .before .before .next-word .ensures) (c .before .before .before .before .before .before .if1 .left), word-some (c .before .before .before .before .before .next-word2 .ensures) (c .before .before .before .if2 .left), word-some (c .before .before .next-word3 .ensures) (c .if3 .left)))
 
 pub number-hex-spec : {M : Type 1} → statement M
 number-hex-spec =

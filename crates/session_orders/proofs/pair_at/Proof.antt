@@ -22,27 +22,27 @@ enum-told : tie.Need-enum-told
 enum-told c = search needs
 
 returns : tie.Need-returns
-returns c = gives-none _ _ _ (no-number _ _ _ _ (c .before .before .read-number .ensures) (c .enum-told .given .1))
+returns c = gives-none _ _ (no-number _ _ _ (c .before .before .read-number .ensures) (c .enum-told .given .1))
 
-sub-is-hex-to : tie.Need-sub-is-hex-to
-sub-is-hex-to c = search needs
+sub-is-hex : tie.Need-sub-is-hex
+sub-is-hex c = search needs
 
-part-is-hex-to-start : tie.Need-part-is-hex-to-start
-part-is-hex-to-start c = search needs
+part-is-hex-start : tie.Need-part-is-hex-start
+part-is-hex-start c = search needs
 
-part-is-hex-to-end : tie.Need-part-is-hex-to-end
-part-is-hex-to-end c = search needs
+part-is-hex-end : tie.Need-part-is-hex-end
+part-is-hex-end c = search needs
 
-is-hex-to-requires : tie.Need-is-hex-to-requires
-is-hex-to-requires c κs = search needs
+is-hex-requires : tie.Need-is-hex-requires
+is-hex-requires c κs = search needs
 
 returns-2 : tie.Need-returns-2
 returns-2 c =
     let start = c .before .before .before .before .before .before .before .before .before in
-    gives-pair _ _ _ _ _ _ _ _ (start .pre .4) (start .pre .2) (start .pre .3) (c .before .before .before .before .before .before .read-number .ensures) (c .before .before .before .before .number .given .1) (c .before .is-hex-to .ensures) (c .if1 .taken)
+    gives-pair _ _ _ _ _ _ _ (start .pre .2) (start .pre .3) (c .before .before .before .before .before .before .read-number .ensures) (c .before .before .before .before .number .given .1) (c .before .is-hex .ensures) (c .if1 .taken)
 
 returns-3 : tie.Need-returns-3
-returns-3 c = gives-none _ _ _ (no-hex _ _ _ _ _ _ (c .before .before .before .before .before .before .read-number .ensures) (c .before .before .before .before .number .given .1) (c .before .is-hex-to .ensures) (c .if1 .left))
+returns-3 c = gives-none _ _ (no-hex _ _ _ _ _ (c .before .before .before .before .before .before .read-number .ensures) (c .before .before .before .before .number .given .1) (c .before .is-hex .ensures) (c .if1 .left))
 
 pub pair-at-spec : {M : Type 1} → statement M
 pair-at-spec =
@@ -55,9 +55,9 @@ pair-at-spec =
     enum-known-number
     enum-told
     returns
-    sub-is-hex-to
-    part-is-hex-to-start
-    part-is-hex-to-end
-    is-hex-to-requires
+    sub-is-hex
+    part-is-hex-start
+    part-is-hex-end
+    is-hex-requires
     returns-2
     returns-3)

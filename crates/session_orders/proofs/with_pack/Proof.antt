@@ -1,4 +1,3 @@
-use mathlib.Core.Path.{refl}
 use Rattle.session_orders.proofs.Asked.{pack-none, pack-taken}
 use borrow.Author.Needs.{needs}
 use Rattle.session_orders.proofs.with_pack.Statement.{statement}
@@ -14,10 +13,10 @@ enum-told : tie.Need-enum-told
 enum-told c = search needs
 
 returns : tie.Need-returns
-returns c = pack-none _ _ _ _ (c .before .before .number-hex .ensures) (c .enum-told .given .1)
+returns c = pack-none _ _ _ (c .before .before .number-hex .ensures) (c .enum-told .given .1)
 
 returns-2 : tie.Need-returns-2
-returns-2 c = pack-taken _ _ _ _ (c .before .before .before .number-hex .ensures) _ _ _ (c .before .neighbour .given .1) refl
+returns-2 c = pack-taken _ _ _ (c .before .before .before .number-hex .ensures) _ _ _ (c .before .neighbour .given .1)
 
 pub with-pack-spec : {M : Type 1} → statement M
 with-pack-spec =

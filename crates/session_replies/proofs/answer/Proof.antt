@@ -26,7 +26,7 @@ part-on-octets-end c = lies _ _ _ (c .before .before .before .before .before .be
 on-octets-requires : tie.Need-on-octets-requires
 on-octets-requires c κs =
     let start = c .before .before .before .before .before .before .before .before .before .before .before .before in
-    (start .pre .1, short _ _ _ _ (lies _ _ _ (start .pre .0) (c .before .before .before .before .before .before .before .ask .given .1)), start .pre .2)
+    (start .pre .1, short _ _ _ (lies _ _ _ (start .pre .0) (c .before .before .before .before .before .before .before .ask .given .1)), start .pre .2)
 
 enum-known-ask-2 : tie.Need-enum-known-ask-2
 enum-known-ask-2 c = search needs
@@ -43,7 +43,7 @@ part-on-pack-end c = lies _ _ _ (c .before .before .before .before .before .befo
 on-pack-requires : tie.Need-on-pack-requires
 on-pack-requires c κs =
     let start = c .before .before .before .before .before .before .before .before in
-    (short _ _ _ _ (lies _ _ _ (start .pre .0) (c .before .before .before .ask2 .given .1)), omega (arith, start .pre .2))
+    (short _ _ _ (lies _ _ _ (start .pre .0) (c .before .before .before .ask2 .given .1)), omega (arith, start .pre .2))
 
 enum-known-ask-3 : tie.Need-enum-known-ask-3
 enum-known-ask-3 c = search needs

@@ -6,8 +6,8 @@ use borrow.Author.Needs.{needs}
 use Rattle.session_replies.proofs.on_pack.Statement.{statement}
 use Rattle.session_replies.proofs.on_pack.Tie as tie
 
-records-requires : tie.Need-records-requires
-records-requires c κs = search needs
+input-requires : tie.Need-input-requires
+input-requires c κs = search needs
 
 slice-aggregate-decode-hex : tie.Need-slice-aggregate-decode-hex
 slice-aggregate-decode-hex c = search needs
@@ -60,7 +60,7 @@ pub on-pack-spec : {M : Type 1} → statement M
 on-pack-spec =
     tie.close
     (tie.spec
-    records-requires
+    input-requires
     slice-aggregate-decode-hex
     decode-hex-requires
     pdus-requires

@@ -1,7 +1,7 @@
-use Rattle.bench.proofs.Input.{keeps-more, keeps-over}
+use Rattle.bench_input.proofs.Input.{keeps-more, keeps-over}
 use borrow.Author.Needs.{needs}
-use Rattle.bench.proofs.keep.Statement.{statement}
-use Rattle.bench.proofs.keep.Tie as tie
+use Rattle.bench_input.proofs.keep.Statement.{statement}
+use Rattle.bench_input.proofs.keep.Tie as tie
 
 slice-write-line : tie.Need-slice-write-line
 slice-write-line c = search needs
