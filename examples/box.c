@@ -8,12 +8,12 @@
  * It prints `port P`, and then what it does, a line each:
  *
  *     came N                              neighbour N is connected
- *     octets N ANSWER:EATEN[:RECORDS]..   recv gave octets of N; each call that was made on them, as `octets` of docs/BENCH.md
+ *     octets N ANSWER:EATEN[:RECORDS]..   recv gave octets of N; each call that was made on them, records in hex
  *     stopped N                           the stream of N has stopped: what still comes is dropped until N is lost
- *     save2 0 TABLE                       N's connection has ended: the table as it stood then,
+ *     save2 0 TABLE                       N's connection has ended: the table as it stood then, as card_save2 writes it,
  *     lost N ANSWER [RECORDS]             and the loss
  *
- * It ends by itself when the last connection has; with 1 where nothing comes for thirty seconds.
+ * It ends by itself, with the table, when the last connection has; with 1 where nothing comes for thirty seconds.
  */
 #include "card.h"
 
@@ -124,14 +124,21 @@ static void feed(uint32_t n, const uint8_t *octets, size_t count)
     }
 }
 
-static void lose(uint32_t n)
+static void print_table(void)
 {
     uint32_t answer = 0;
     size_t saved = card_save2(numbers, names, save, sizeof save, &answer);
     printf("save2 %u", answer);
     print_octets(" ", save, saved);
+    printf("\n");
+}
+
+static void lose(uint32_t n)
+{
+    uint32_t answer = 0;
+    print_table();
     gathered = card_lose(numbers, names, neighbours[n].stream, n, records, sizeof records, &answer);
-    printf("\nlost %u %u", n, answer);
+    printf("lost %u %u", n, answer);
     print_octets(" ", records, gathered);
     printf("\n");
     close(neighbours[n].socket);
@@ -234,5 +241,6 @@ int main(int count, char **words)
     do
         turn(listener);
     while (anyone_here());
+    print_table();
     return 0;
 }

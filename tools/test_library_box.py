@@ -344,6 +344,7 @@ class OverTcp(unittest.TestCase):
                 box.kill()
         self.compare(box.lines, talks)
         self.assertEqual([words[1] for words in box.lines if words[0] == "lost"], ["2", "0", "1", "2", "3"])
+        self.assertEqual(box.lines[-1][0], "save2")
         for neighbour in NEIGHBOURS:
             heard = [line.heard for line in talks[neighbour]]
             self.assertEqual(heard, sent_to(neighbour, box.lines))
