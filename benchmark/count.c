@@ -25,7 +25,7 @@ static void say(const char *row, const char *column, size_t done)
 
 static void count_work(struct bench *b, const struct work *w)
 {
-    w->prepare(b);
+    prepare(b, w);
     work_begins();
     size_t done = w->run(b, false);
     work_ends();
@@ -52,16 +52,6 @@ static struct bench image;
 static struct tree_name name_in(const struct growth *g, size_t tree)
 {
     return (struct tree_name){tree == g->trees - 1 ? LONE_ROOT : tree % LONE_ROOT, tree, g->value};
-}
-
-static struct order take(uint32_t from, const struct message *m)
-{
-    return (struct order){TAKE, 0, from, m->octets, m->length};
-}
-
-static struct order of_element(enum order_kind kind, const struct message *m)
-{
-    return (struct order){kind, 0, 0, m->octets + ELEMENT_AT, m->element_length};
 }
 
 static void count_order(struct bench *b, const struct growth *g, const char *what, struct order o)
@@ -92,7 +82,7 @@ static void open_card(struct bench *b, size_t roots)
 static void add_tree(struct bench *b, struct tree_name name)
 {
     struct message m = message_of(MAPPING, name, THEIR_LABEL);
-    give(b, take(branch_of(name.root), &m));
+    give(b, take_order(branch_of(name.root), &m));
 }
 
 /* Each tree but the last is of one of 31 roots: what touches one tree. */
@@ -105,15 +95,15 @@ static void count_one_tree(struct bench *b, const struct growth *g)
     open_card(b, CARD_ROOTS);
     for (size_t t = 0; t + 1 < g->trees; t++)
         add_tree(b, name_in(g, t));
-    count_order(b, g, "a Mapping that makes the last tree", take(branch_of(LONE_ROOT), &last));
+    count_order(b, g, "a Mapping that makes the last tree", take_order(branch_of(LONE_ROOT), &last));
     image = *b;
-    count_anew(b, g, "a Mapping that adds a branch to the last tree", take(branch_of(LONE_ROOT) + 1, &last));
-    count_anew(b, g, "a leaf joins the last tree", of_element(JOIN, &last));
-    count_order(b, g, "a leaf leaves the last tree", of_element(LEAVE, &last));
-    count_anew(b, g, "a Withdraw that ends the first tree", take(branch_of(first_name.root), &gone));
-    count_order(b, g, "the Release that answers it", take(upstream_of(first_name.root), &released));
+    count_anew(b, g, "a Mapping that adds a branch to the last tree", take_order(branch_of(LONE_ROOT) + 1, &last));
+    count_anew(b, g, "a leaf joins the last tree", element_order(JOIN, &last));
+    count_order(b, g, "a leaf leaves the last tree", element_order(LEAVE, &last));
+    count_anew(b, g, "a Withdraw that ends the first tree", take_order(branch_of(first_name.root), &gone));
+    count_order(b, g, "the Release that answers it", take_order(upstream_of(first_name.root), &released));
     count_anew(b, g, "a route order that moves the last tree alone", route_order(LONE_ROOT, NEW_ROUTE));
-    count_anew(b, g, "a lookup of the last tree by name", of_element(TREE, &last));
+    count_anew(b, g, "a lookup of the last tree by name", element_order(TREE, &last));
     count_anew(b, g, "a lookup of the last tree by label",
                (struct order){LABEL, 0, CARD_BASE_LEAST + (uint32_t)g->trees - 1, NULL, 0});
 }

@@ -1,6 +1,6 @@
 /*
- * measure DAY [REMARK]: a table of the times of both cards, taken in turns in one run. DAY is an ordinary day.
- * Each time is the best of REPETITIONS: what else the machine does only adds to a time.
+ * measure DAY [REMARK]: tables of the times of the cards, taken in turns in one run. DAY is an ordinary day.
+ * Each time is the best of PASSES x TURNS: what else the machine does only adds to a time.
  */
 #define _POSIX_C_SOURCE 199309L
 #include "work.h"
@@ -8,9 +8,32 @@
 #include <stdio.h>
 #include <time.h>
 
-enum { REPETITIONS = 300, WARM_UP = 20 };
+enum { PASSES = 6, TURNS = 60, MOST_SIDES = 5 };
 
-static struct bench benches[2];
+/* The plain card by each compiler that was there. */
+extern const struct side plain_gcc_O2 __attribute__((weak));
+extern const struct side plain_gcc_O3 __attribute__((weak));
+extern const struct side plain_clang_O3 __attribute__((weak));
+
+struct column {
+    const char *head;
+    const struct side *side;
+    struct bench *bench;
+};
+
+static struct column columns[MOST_SIDES];
+static size_t column_count;
+static double best[WORKS][2][MOST_SIDES];
+
+static void add_column(const char *head, const struct side *side)
+{
+    static struct bench benches[MOST_SIDES];
+    if (side == NULL)
+        return;
+    columns[column_count] = (struct column){head, side, &benches[column_count]};
+    open_bench(columns[column_count].bench, side);
+    column_count++;
+}
 
 static double now(void)
 {
@@ -21,33 +44,57 @@ static double now(void)
 
 static double time_once(const struct work *w, struct bench *b, bool cleared)
 {
-    w->prepare(b);
+    prepare(b, w);
     double start = now();
     size_t done = w->run(b, cleared);
     return (now() - start) / (double)done;
 }
 
-static void print_at_most(double at_most)
+/* All sides in turns. */
+static void measure(size_t work, bool cleared)
 {
-    if (at_most == 0)
-        printf(" %7s |\n", "");
-    else
-        printf(" %7.1f |\n", at_most);
+    double *least = best[work][cleared];
+    for (int turn = 0; turn < TURNS; turn++)
+        for (size_t c = 0; c < column_count; c++) {
+            double t = time_once(&works[work], columns[c].bench, cleared);
+            if (least[c] == 0 || t < least[c])
+                least[c] = t;
+        }
 }
 
-static void print_row(const struct work *w, bool cleared)
+static double best_plain(const double *times)
 {
-    double best[2];
-    for (int i = 0; i < WARM_UP + REPETITIONS; i++)
-        for (int side = 0; side < 2; side++) {
-            double t = time_once(w, &benches[side], cleared);
-            if (i <= WARM_UP || t < best[side])
-                best[side] = t;
-        }
-    printf("| %-37s | %-7s | %11.1f | %11.1f | %5.2f |", w->what, cleared ? "yes" : "no", best[0], best[1],
-           best[0] / best[1]);
-    print_at_most(w->at_most);
-    fflush(stdout);
+    double least = times[1];
+    for (size_t c = 2; c < column_count; c++)
+        least = times[c] < least ? times[c] : least;
+    return least;
+}
+
+static void print_row(size_t work)
+{
+    const struct work *w = &works[work];
+    const double *times = best[work][0], *cleared = best[work][1];
+    printf("| %s |", w->what);
+    for (size_t c = 0; c < column_count; c++)
+        printf(" %.1f |", times[c]);
+    printf(" %.2f | %.2f |", times[0] / best_plain(times), cleared[0] / best_plain(cleared));
+    if (w->at_most == 0)
+        printf(" |\n");
+    else
+        printf(" %.2f |\n", w->at_most);
+}
+
+static void print_table(void)
+{
+    printf("| measured |");
+    for (size_t c = 0; c < column_count; c++)
+        printf(" %s |", columns[c].head);
+    printf(" ratio | cleared | at most |\n|---|");
+    for (size_t c = 0; c < column_count + 3; c++)
+        printf("---|");
+    printf("\n");
+    for (size_t i = 0; i < WORKS; i++)
+        print_row(i);
 }
 
 int main(int count, char **words)
@@ -57,15 +104,18 @@ int main(int count, char **words)
         return 2;
     }
     open_work(words[1]);
-    open_bench(&benches[0], &proved);
-    open_bench(&benches[1], &plain);
-    printf("Nanoseconds, the best of %d repetitions, both cards in turns in one run%s%s.\n", REPETITIONS,
-           count > 2 ? "; " : "", count > 2 ? words[2] : "");
-    printf("Cleared: the buffers that a call is lent were cleared before it, within the time.\n\n");
-    printf("| %-37s | %-7s | %11s | %11s | %5s | %7s |\n", "measured", "cleared", "proved", "plain C", "ratio", "at most");
-    printf("|---|---|---|---|---|---|\n");
-    for (size_t i = 0; i < WORKS; i++)
-        for (int cleared = 0; cleared < 2; cleared++)
-            print_row(&works[i], cleared);
+    add_column("proved", &proved);
+    add_column("gcc -O2", &plain_gcc_O2);
+    add_column("gcc -O3", &plain_gcc_O3);
+    add_column("clang -O3", &plain_clang_O3);
+    for (int pass = 0; pass < PASSES; pass++)
+        for (size_t i = 0; i < WORKS; i++)
+            for (int cleared = 0; cleared < 2; cleared++)
+                measure(i, cleared);
+    printf("Nanoseconds, the best of %d, all in turns in one run%s%s.\n", PASSES * TURNS, count > 2 ? "; " : "",
+           count > 2 ? words[2] : "");
+    printf("Ratio: of the proved card to the best of the plain one. Cleared: that ratio where the buffers that a call is\n"
+           "lent were cleared before it, within the time.\n\n");
+    print_table();
     return work_sink == 0;
 }

@@ -4,7 +4,7 @@
  * the upstream is held: that one is left out of lookups, and alone it makes no label due. Which branches stand are bits
  * too. Names and roots have tags of one octet, compared eight at a time before any name is.
  */
-#include "plain.h"
+#include "side.h"
 
 #include <string.h>
 
@@ -1095,3 +1095,5 @@ uint32_t plain_restore(uint64_t *numbers, uint8_t *names, const uint8_t *octets,
     memcpy(names, spare_names, sizeof(struct texts));
     return CARD_ACCEPTED;
 }
+
+const struct side plain = SIDE("plain", plain);

@@ -2,14 +2,7 @@
 
 #include <string.h>
 
-#define SIDE(name, prefix)                                                                                             \
-    {                                                                                                                  \
-        name, prefix##_start, prefix##_receive, prefix##_join, prefix##_leave, prefix##_route, prefix##_lost,          \
-            prefix##_lookup_label, prefix##_lookup_name, prefix##_free_labels, prefix##_save, prefix##_restore          \
-    }
-
 const struct side proved = SIDE("proved", card);
-const struct side plain = SIDE("plain", plain);
 
 void open_bench(struct bench *b, const struct side *side)
 {

@@ -7,7 +7,7 @@
 enum { LOOKUPS = 4096 };
 
 static struct day day;
-static struct message messages[CARD_TREES];
+static struct message over_roots[CARD_TREES], of_one_root[CARD_TREES];
 static uint8_t roots[CARD_ROOTS][16];
 static uint32_t labels[LOOKUPS];
 uint64_t work_sink;
@@ -67,18 +67,33 @@ static void name_roots(void)
     }
 }
 
+struct order take_order(uint32_t from, const struct message *m)
+{
+    return (struct order){TAKE, 0, from, m->octets, m->length};
+}
+
+struct order element_order(enum order_kind kind, const struct message *m)
+{
+    return (struct order){kind, 0, 0, m->octets + ELEMENT_AT, m->element_length};
+}
+
 struct order route_order(size_t root, uint32_t to)
 {
     return (struct order){ROUTE, 0, to, roots[root], root_length(root)};
 }
 
-void give(struct bench *b, struct order o)
+void give_for(struct bench *b, struct order o, uint32_t answer)
 {
     obey(b, &o);
-    if (b->answer != CARD_ACCEPTED) {
-        printf("%s: an order of the benchmark was refused %u\n", b->side->name, b->answer);
+    if (b->answer != answer) {
+        printf("%s: an order of the benchmark was answered %u, not %u\n", b->side->name, b->answer, answer);
         exit(1);
     }
+}
+
+void give(struct bench *b, struct order o)
+{
+    give_for(b, o, CARD_ACCEPTED);
 }
 
 uint32_t upstream_of(size_t root)
@@ -92,90 +107,100 @@ uint32_t branch_of(size_t root)
 }
 
 /* A card with 64 trees, spread over so many roots. */
-static void fill(struct bench *b, size_t root_count)
+static void fill(struct bench *b, const struct message *messages, size_t root_count)
 {
     give(b, (struct order){START, 0, CARD_BASE_LEAST, NULL, 0});
     for (size_t r = 0; r < root_count; r++)
         give(b, route_order(r, upstream_of(r)));
     for (size_t t = 0; t < CARD_TREES; t++)
-        give(b, (struct order){TAKE, 0, branch_of(t % root_count), messages[t].octets, messages[t].length});
+        give(b, take_order(branch_of(t % root_count), &messages[t]));
 }
 
-static void make_messages(size_t root_count)
+static void make_messages(struct message *messages, size_t root_count)
 {
     for (size_t t = 0; t < CARD_TREES; t++)
         messages[t] = message_of(MAPPING, (struct tree_name){t % root_count, t, LSP_VALUE}, 1000 + (uint32_t)t);
 }
 
+/* ---- cards as they were made the first time */
+
+enum { IMAGES = 256 };
+
+struct image {
+    const struct side *side;
+    const struct work *work;
+    uint64_t numbers[CARD_NUMBERS];
+    uint8_t names[CARD_NAMES];
+    uint8_t save[CARD_SAVE_MOST]; /* of the card, where the work asks for it */
+    size_t save_length;
+};
+
+static struct image *images[IMAGES];
+
+static struct image *image_of(const struct bench *b, const struct work *w)
+{
+    size_t i = 0;
+    while (i < IMAGES && images[i] != NULL && (images[i]->side != b->side || images[i]->work != w))
+        i++;
+    if (i < IMAGES && images[i] == NULL)
+        images[i] = calloc(1, sizeof *images[i]);
+    if (i == IMAGES || images[i] == NULL) {
+        fprintf(stderr, "no memory for a card\n");
+        exit(2);
+    }
+    return images[i];
+}
+
+static void keep_image(struct image *i, const struct bench *b, const struct work *w)
+{
+    i->side = b->side;
+    i->work = w;
+    memcpy(i->numbers, b->numbers, sizeof i->numbers);
+    memcpy(i->names, b->names, sizeof i->names);
+}
+
+/* The one that was laid last. */
+static struct image *laid;
+
+void prepare(struct bench *b, const struct work *w)
+{
+    laid = image_of(b, w);
+    if (laid->side == NULL) {
+        open_bench(b, b->side);
+        w->make(b);
+        keep_image(laid, b, w);
+    }
+    memcpy(b->numbers, laid->numbers, sizeof b->numbers);
+    memcpy(b->names, laid->names, sizeof b->names);
+}
+
 /* ---- the work */
 
-struct clearing {
-    bool out, card;
-};
-
-static void clear(struct bench *b, struct clearing c)
+static void make_fresh(struct bench *b)
 {
-    if (c.out)
-        memset(b->out, 0, sizeof b->out);
-    if (c.card) {
-        memset(b->numbers, 0, sizeof b->numbers);
-        memset(b->names, 0, sizeof b->names);
-    }
-}
-
-/* A card as it was made the first time, one for each side. */
-struct image {
-    bool made;
-    struct bench bench;
-};
-
-static struct image full_images[2], move_images[2];
-
-static struct image *image_of(struct image *images, const struct bench *b)
-{
-    return &images[b->side == &plain];
-}
-
-static void keep_image(struct image *i, const struct bench *b)
-{
-    i->made = true;
-    i->bench = *b;
-}
-
-static void take_image(struct bench *b, const struct image *i)
-{
-    memcpy(b->numbers, i->bench.numbers, sizeof b->numbers);
-    memcpy(b->names, i->bench.names, sizeof b->names);
+    give(b, (struct order){START, 0, CARD_BASE_LEAST, NULL, 0});
 }
 
 /* 64 trees over 32 roots; each root has moved until no label is free, so the mapped labels are the last 64. */
 static void make_full(struct bench *b)
 {
-    make_messages(CARD_ROOTS);
-    fill(b, CARD_ROOTS);
+    fill(b, over_roots, CARD_ROOTS);
     for (uint32_t move = 1; move < CARD_LABELS / CARD_TREES; move++)
         for (size_t r = 0; r < CARD_ROOTS; r++)
             give(b, route_order(r, (uint32_t)((r + move) % CARD_NEIGHBOURS)));
 }
 
-static void prepare_full(struct bench *b)
+static void make_saved(struct bench *b)
 {
-    struct image *image = image_of(full_images, b);
-    if (!image->made) {
-        make_full(b);
-        keep_image(image, b);
-    }
-    take_image(b, image);
+    make_full(b);
+    give(b, (struct order){SAVE, 0, 0, NULL, 0});
+    memcpy(laid->save, b->out, b->written);
+    laid->save_length = b->written;
 }
 
-static void prepare_lookups(struct bench *b)
+static void make_one_root(struct bench *b)
 {
-    uint32_t state = 1;
-    prepare_full(b);
-    for (size_t i = 0; i < LOOKUPS; i++) {
-        state = state * 1664525 + 1013904223;
-        labels[i] = CARD_BASE_LEAST + CARD_LABELS - CARD_TREES + (state >> 16) % CARD_TREES;
-    }
+    fill(b, of_one_root, 1);
 }
 
 static size_t do_lookups(struct bench *b, bool cleared)
@@ -201,7 +226,8 @@ static size_t do_day(struct bench *b, bool cleared)
     for (size_t i = 0; i < day.count; i++) {
         if (!is_event(day.orders[i].kind))
             continue;
-        clear(b, (struct clearing){cleared, false});
+        if (cleared)
+            memset(b->out, 0, CARD_OUT_MOST);
         obey(b, &day.orders[i]);
         work_sink += b->written + b->answer;
         events++;
@@ -209,90 +235,76 @@ static size_t do_day(struct bench *b, bool cleared)
     return events;
 }
 
-static void prepare_day(struct bench *b)
-{
-    open_bench(b, b->side);
-}
-
-static void prepare_set_up(struct bench *b)
-{
-    (void)b;
-    make_messages(CARD_ROOTS);
-}
-
 static size_t do_set_up(struct bench *b, bool cleared)
 {
-    clear(b, (struct clearing){cleared, cleared});
-    fill(b, CARD_ROOTS);
+    if (cleared) {
+        memset(b->out, 0, CARD_OUT_MOST);
+        memset(b->numbers, 0, sizeof b->numbers);
+        memset(b->names, 0, sizeof b->names);
+    }
+    fill(b, over_roots, CARD_ROOTS);
     return 1;
 }
 
-static void prepare_move(struct bench *b)
+static size_t do_order(struct bench *b, bool cleared, struct order o)
 {
-    struct image *image = image_of(move_images, b);
-    if (!image->made) {
-        make_messages(1);
-        fill(b, 1);
-        keep_image(image, b);
-    }
-    take_image(b, image);
+    if (cleared)
+        memset(b->out, 0, o.kind == SAVE ? CARD_SAVE_MOST : CARD_OUT_MOST);
+    give(b, o);
+    work_sink += b->written;
+    return 1;
 }
 
 static size_t do_move(struct bench *b, bool cleared)
 {
-    clear(b, (struct clearing){cleared, false});
-    give(b, route_order(0, 5));
-    work_sink += b->written;
-    return 1;
+    return do_order(b, cleared, route_order(0, 5));
 }
 
-/* The card of the move: each tree has that neighbour's branch alone, so each goes, and its label is withdrawn. */
+/* Each tree of the move's card has that neighbour's branch alone, so each goes, and its label is withdrawn. */
 static size_t do_loss(struct bench *b, bool cleared)
 {
-    clear(b, (struct clearing){cleared, false});
-    give(b, (struct order){LOST, 0, branch_of(0), NULL, 0});
-    work_sink += b->written;
-    return 1;
+    return do_order(b, cleared, (struct order){LOST, 0, branch_of(0), NULL, 0});
 }
 
 static size_t do_save(struct bench *b, bool cleared)
 {
-    clear(b, (struct clearing){cleared, false});
-    give(b, (struct order){SAVE, 0, 0, NULL, 0});
-    work_sink += b->written;
-    return 1;
-}
-
-static uint8_t save[CARD_SAVE_MOST];
-static size_t save_length;
-
-static void prepare_restore(struct bench *b)
-{
-    prepare_full(b);
-    do_save(b, false);
-    save_length = b->written;
-    memcpy(save, b->out, save_length);
+    return do_order(b, cleared, (struct order){SAVE, 0, 0, NULL, 0});
 }
 
 static size_t do_restore(struct bench *b, bool cleared)
 {
-    clear(b, (struct clearing){false, cleared});
-    give(b, (struct order){RESTORE, 0, 0, save, save_length});
+    if (cleared) {
+        memset(b->numbers, 0, sizeof b->numbers);
+        memset(b->names, 0, sizeof b->names);
+    }
+    give(b, (struct order){RESTORE, 0, 0, laid->save, laid->save_length});
     return 1;
 }
 
 const struct work works[WORKS] = {
-    {"a lookup by label on a full card", prepare_lookups, do_lookups, 1.5},
-    {"an event of an ordinary day", prepare_day, do_day, 2},
-    {"the set-up of a full card of 64 trees", prepare_set_up, do_set_up, 3},
-    {"a route order that moves 64 trees", prepare_move, do_move, 3},
-    {"a loss that ends 64 branches", prepare_move, do_loss, 3},
-    {"a save of a full card", prepare_full, do_save, 0},
-    {"a restore of a full card", prepare_restore, do_restore, 0},
+    {"a lookup by label on a full card", make_full, do_lookups, 1.15},
+    {"an event of an ordinary day", make_fresh, do_day, 1.25},
+    {"the set-up of a full card of 64 trees", make_fresh, do_set_up, 1.15},
+    {"a route order that moves 64 trees", make_one_root, do_move, 1.4},
+    {"a loss that ends 64 branches", make_one_root, do_loss, 1.5},
+    {"a save of a full card", make_full, do_save, 1.5},
+    {"a restore of a full card", make_saved, do_restore, 1.5},
 };
+
+static void choose_labels(void)
+{
+    uint32_t state = 1;
+    for (size_t i = 0; i < LOOKUPS; i++) {
+        state = state * 1664525 + 1013904223;
+        labels[i] = CARD_BASE_LEAST + CARD_LABELS - CARD_TREES + (state >> 16) % CARD_TREES;
+    }
+}
 
 void open_work(const char *day_file)
 {
     day = read_day(day_file);
     name_roots();
+    make_messages(over_roots, CARD_ROOTS);
+    make_messages(of_one_root, 1);
+    choose_labels();
 }

@@ -1,4 +1,4 @@
-/* The work that is measured and counted: orders of our own, and what both cards do with them. */
+/* The work that is measured and counted: orders of our own, and what the cards do with them. */
 #ifndef WORK_H
 #define WORK_H
 
@@ -20,18 +20,22 @@ struct tree_name {
 
 struct message message_of(enum message_kind kind, struct tree_name name, uint32_t label);
 
+struct order take_order(uint32_t from, const struct message *m);
+struct order element_order(enum order_kind kind, const struct message *m);
 struct order route_order(size_t root, uint32_t to);
 
-/* The order, which is to be accepted: the program ends where it is not. */
+/* The order, which is to be answered so: the program ends where it is not. */
 void give(struct bench *b, struct order o);
+void give_for(struct bench *b, struct order o, uint32_t answer);
 
 /* A neighbour that is never the upstream of a root that is given a route below: its branches are not held. */
 uint32_t branch_of(size_t root);
 uint32_t upstream_of(size_t root);
 
+/* What is measured or counted. Its card is made once for each side, and laid back before each turn. */
 struct work {
     const char *what;
-    void (*prepare)(struct bench *);
+    void (*make)(struct bench *);
     size_t (*run)(struct bench *, bool cleared); /* how many times it did what is said */
     double at_most;                              /* of a ratio of times; 0: none is set */
 };
@@ -43,5 +47,7 @@ extern uint64_t work_sink;
 
 /* Reads the ordinary day; before anything else here. */
 void open_work(const char *day_file);
+
+void prepare(struct bench *b, const struct work *w);
 
 #endif
