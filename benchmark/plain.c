@@ -1,8 +1,9 @@
 /*
- * A plain C card, written for speed. A tree stays in its slot while it stands; `order` has the slots, oldest first.
- * Free labels are bits, and a mapped label knows its tree's slot. A tree keeps its root's route, by which its branch from
- * the upstream is held: that one is left out of lookups, and alone it makes no label due. Which branches stand are bits
- * too. Names and roots have tags of one octet, compared eight at a time before any name is.
+ * A plain C card, written for speed. A tree stays in its slot while it stands, and a root while it has a route; `order`
+ * and `root_order` have the slots, oldest first. Free labels are bits, and a mapped label knows its tree's slot. A tree
+ * knows its root's slot, and so its route, by which its branch from the upstream is held: that one is left out of
+ * lookups, and alone it makes no label due. Which branches stand are bits too. Names and roots have tags of one octet,
+ * compared eight at a time before any name is. With each root stand the counts of its trees.
  */
 #include "side.h"
 
@@ -15,17 +16,27 @@ enum { MAPPING = 0x0400, WITHDRAW = 0x0402, RELEASE = 0x0403 };
 /* A label's mark: 0 free, 1 to 16 mapped to a neighbour, 17 to 32 awaiting release from one; its tree's slot above. */
 enum { MAPPED = 1, AWAITING = 17, MARK = 0xff, SLOT_SHIFT = 8 };
 
+/* A root's route; how many of its trees stand; how many of them have one branch, held or not, and no leaf. */
+struct entry {
+    uint8_t via, trees, lone;
+};
+
+/* The slot of a root that has no route. What is counted there says nothing. */
+enum { NO_ENTRY = CARD_ROOTS };
+
 struct table {
     uint64_t base, next_id, route_count, tree_count;
-    uint64_t used_slots, leaves;
+    uint64_t used_slots, used_roots, leaves;
     uint64_t turn; /* the place after that of the last label given */
+    uint64_t free_count;
     uint64_t free_labels[CARD_LABELS / 64];
-    uint64_t via[CARD_ROOTS];
     uint64_t order[CARD_TREES / 8];
+    uint64_t root_order[CARD_ROOTS / 8];
     uint64_t tree_tag[CARD_TREES / 8];
+    uint64_t tree_root[CARD_TREES / 8]; /* the slot of its root */
     uint64_t tree_root_tag[CARD_TREES / 8];
-    uint64_t route_tag[CARD_ROOTS / 8];
-    uint8_t route[CARD_TREES];
+    uint64_t root_tag[CARD_ROOTS / 8];
+    struct entry roots[CARD_ROOTS + 1];
     uint8_t standing[CARD_TREES][2]; /* a bit for each neighbour whose branch stands */
     uint64_t own_label[CARD_TREES];
     uint64_t branches[CARD_TREES][CARD_NEIGHBOURS];
@@ -67,11 +78,6 @@ static struct card card_in(uint64_t *numbers, uint8_t *names)
     return (struct card){(struct table *)numbers, (struct texts *)names};
 }
 
-static uint8_t *order_of(struct table *t)
-{
-    return (uint8_t *)t->order;
-}
-
 static uint8_t *octets_of(uint64_t *column)
 {
     return (uint8_t *)column;
@@ -110,10 +116,29 @@ static bool holds(const uint8_t *slot, struct text t)
     return slot[0] == t.length && memcmp(slot + 1, t.octets, t.length) == 0;
 }
 
-static void keep(uint8_t *slot, struct text t)
+/* At least 8 octets, as every name has. Most have at most 32. */
+static void copy_name(uint8_t *to, const uint8_t *from, size_t length)
 {
-    slot[0] = (uint8_t)t.length;
-    memcpy(slot + 1, t.octets, t.length);
+    uint64_t low[2], high[2];
+    if (length > 32) {
+        memcpy(to, from, length);
+    } else if (length > 16) {
+        memcpy(low, from, 16);
+        memcpy(high, from + length - 16, 16);
+        memcpy(to, low, 16);
+        memcpy(to + length - 16, high, 16);
+    } else {
+        memcpy(low, from, 8);
+        memcpy(high, from + length - 8, 8);
+        memcpy(to, low, 8);
+        memcpy(to + length - 8, high, 8);
+    }
+}
+
+static void keep(uint8_t *slot, struct text name)
+{
+    slot[0] = (uint8_t)name.length;
+    copy_name(slot + 1, name.octets, name.length);
 }
 
 static struct text kept(const uint8_t *slot)
@@ -211,7 +236,7 @@ static void send(struct card c, struct output *o, uint32_t to, uint32_t kind, st
     put_four(s + 8, (uint32_t)c.table->next_id++);
     put_two(s + 12, 0x0100);
     put_two(s + 14, (uint32_t)name.length);
-    memcpy(s + 16, name.octets, name.length);
+    copy_name(s + 16, name.octets, name.length);
     s += 16 + name.length;
     put_two(s, 0x0200);
     put_two(s + 2, 4);
@@ -239,7 +264,7 @@ static struct text root_of(struct text name)
     return (struct text){name.octets + 4, name.octets[3]};
 }
 
-static uint8_t root_tag(struct text root)
+static uint8_t tag_of_root(struct text root)
 {
     return root.octets[root.length - 1];
 }
@@ -249,7 +274,7 @@ static uint8_t name_tag(struct text name)
 {
     uint64_t behind;
     memcpy(&behind, name.octets + name.length - 8, 8);
-    return (uint8_t)((behind * 0x9E3779B97F4A7C15 >> 56) + root_tag(root_of(name)));
+    return (uint8_t)((behind * 0x9E3779B97F4A7C15 >> 56) + tag_of_root(root_of(name)));
 }
 
 static size_t slots_in_use(const struct table *t)
@@ -278,35 +303,27 @@ static bool same_root(const uint8_t *octets, size_t length, struct text root)
            (length == 4 || memcmp(octets + 4, root.octets + 4, 12) == 0);
 }
 
-static size_t find_route(struct card c, struct text root)
+/* The slot of a root that has a route, or NO_ENTRY. */
+static size_t find_root(struct card c, struct text root)
 {
     const struct table *t = c.table;
-    uint64_t left = places_of(t->route_tag, t->route_count, root_tag(root)) & ((1ull << t->route_count) - 1);
+    uint64_t left = t->used_roots & places_of(t->root_tag, CARD_ROOTS, tag_of_root(root));
     for (; left != 0; left &= left - 1) {
-        size_t i = (size_t)__builtin_ctzll(left);
-        if (same_root(c.texts->root[i] + 1, c.texts->root[i][0], root))
-            return i;
+        size_t r = (size_t)__builtin_ctzll(left);
+        if (same_root(c.texts->root[r] + 1, c.texts->root[r][0], root))
+            return r;
     }
-    return t->route_count;
+    return NO_ENTRY;
 }
 
-static uint32_t route_of(struct card c, struct text root)
+static size_t root_slot(const struct table *t, size_t slot)
 {
-    size_t i = find_route(c, root);
-    return i < c.table->route_count ? (uint32_t)c.table->via[i] : CARD_NO_ROUTE;
+    return ((const uint8_t *)t->tree_root)[slot];
 }
 
-static size_t count_free(const struct table *t)
+static uint32_t route_of(const struct table *t, size_t slot)
 {
-    size_t found = 0;
-    for (int w = 0; w < CARD_LABELS / 64; w++)
-        found += (size_t)__builtin_popcountll(t->free_labels[w]);
-    return found;
-}
-
-static bool any_free(const struct table *t)
-{
-    return (t->free_labels[0] | t->free_labels[1] | t->free_labels[2] | t->free_labels[3]) != 0;
+    return t->roots[root_slot(t, slot)].via;
 }
 
 /* The first free label after the last given, going round the block; some label is free. */
@@ -320,6 +337,7 @@ static size_t take_next_free(struct table *t)
     }
     size_t p = w * 64 + (size_t)__builtin_ctzll(here);
     t->free_labels[w] &= ~(1ull << p % 64);
+    t->free_count--;
     t->turn = (p + 1) % CARD_LABELS;
     return p;
 }
@@ -339,6 +357,18 @@ static uint32_t standing_in(const struct table *t, size_t slot)
 static bool is_bare(const struct table *t, size_t slot)
 {
     return standing_in(t, slot) == 0 && !is_leaf(t, slot);
+}
+
+static bool is_lone(const struct table *t, size_t slot)
+{
+    uint32_t bits = standing_in(t, slot);
+    return bits != 0 && (bits & (bits - 1)) == 0 && !is_leaf(t, slot);
+}
+
+/* After a change of the tree, by what it was before. */
+static void recount(struct table *t, size_t slot, bool was_lone)
+{
+    t->roots[root_slot(t, slot)].lone += (uint8_t)(is_lone(t, slot) - was_lone);
 }
 
 static void set_branch(struct table *t, size_t slot, uint32_t neighbour, uint32_t label)
@@ -376,30 +406,56 @@ static void give_up_label(struct card c, struct output *o, size_t slot)
     t->own_label[slot] = NO_LABEL;
 }
 
-static size_t enter_tree(struct card c, struct text name, uint32_t route)
+static size_t enter_tree(struct card c, struct text name, size_t root)
 {
     struct table *t = c.table;
     size_t slot = (size_t)__builtin_ctzll(~t->used_slots);
     t->used_slots |= 1ull << slot;
-    order_of(t)[t->tree_count++] = (uint8_t)slot;
+    octets_of(t->order)[t->tree_count++] = (uint8_t)slot;
     t->own_label[slot] = NO_LABEL;
-    t->route[slot] = (uint8_t)route;
+    t->roots[root].trees++;
+    octets_of(t->tree_root)[slot] = (uint8_t)root;
     octets_of(t->tree_tag)[slot] = name_tag(name);
-    octets_of(t->tree_root_tag)[slot] = root_tag(root_of(name));
+    octets_of(t->tree_root_tag)[slot] = tag_of_root(root_of(name));
     memset(t->standing[slot], 0, 2);
     memset(t->branches[slot], 0, sizeof t->branches[slot]);
     keep(c.texts->tree[slot], name);
     return slot;
 }
 
+/* From its order, which has so many. */
+static void remove_slot(uint8_t *order, size_t count, size_t slot)
+{
+    uint8_t *at = memchr(order, (int)slot, count);
+    memmove(at, at + 1, (size_t)(order + count - (at + 1)));
+}
+
 static void remove_tree(struct card c, size_t slot)
 {
     struct table *t = c.table;
-    uint8_t *order = order_of(t);
-    uint8_t *at = memchr(order, (int)slot, t->tree_count);
-    memmove(at, at + 1, (size_t)(order + t->tree_count - (at + 1)));
-    t->tree_count--;
+    remove_slot(octets_of(t->order), t->tree_count--, slot);
+    t->roots[root_slot(t, slot)].trees--;
     t->used_slots &= ~(1ull << slot);
+}
+
+/* The slots among these, oldest first; how many. */
+static size_t oldest_first(const struct table *t, uint64_t among, uint8_t slots[CARD_TREES])
+{
+    const uint8_t *order = (const uint8_t *)t->order;
+    size_t count = 0;
+    if (among == t->used_slots) {
+        memcpy(slots, order, t->tree_count);
+        return t->tree_count;
+    }
+    if ((among & (among - 1)) == 0) {
+        slots[0] = (uint8_t)(among == 0 ? 0 : __builtin_ctzll(among));
+        return among != 0;
+    }
+    for (size_t i = 0; i < t->tree_count; i++) {
+        slots[count] = order[i];
+        count += among >> order[i] & 1;
+    }
+    return count;
 }
 
 /* ---- events of one tree */
@@ -413,18 +469,19 @@ static size_t make_ready(struct card c, size_t slot, struct text name, uint32_t 
 {
     struct table *t = c.table;
     bool stands = slot != CARD_TREES;
-    uint32_t route = stands ? t->route[slot] : route_of(c, root_of(name));
+    size_t root = stands ? root_slot(t, slot) : find_root(c, root_of(name));
+    uint32_t route = t->roots[root].via;
     bool lacking = !stands || t->own_label[slot] == NO_LABEL;
     bool labelled = lacking && route < CARD_NEIGHBOURS && from != route;
     if (!stands && t->tree_count == CARD_TREES)
         *answer = CARD_TREES_FULL;
-    else if (labelled && !any_free(t))
+    else if (labelled && t->free_count == 0)
         *answer = CARD_LABELS_SHORT;
     else if (labelled && o->room < RECORD_HEAD + name.length)
         *answer = CARD_NO_ROOM;
     else {
         if (!stands)
-            slot = enter_tree(c, name, route);
+            slot = enter_tree(c, name, root);
         if (labelled)
             give_label(c, o, slot, route);
         *answer = CARD_ACCEPTED;
@@ -442,8 +499,11 @@ static void on_mapping(struct card c, uint32_t from, const struct message *m, st
         return;
     }
     slot = make_ready(c, slot, m->name, from, o, answer);
-    if (slot != CARD_TREES)
-        set_branch(t, slot, from, m->label);
+    if (slot == CARD_TREES)
+        return;
+    bool was_lone = is_lone(t, slot);
+    set_branch(t, slot, from, m->label);
+    recount(t, slot, was_lone);
 }
 
 /* What goes with a branch or a leaf that has gone: a label that is not needed any more, a tree with neither. */
@@ -453,7 +513,7 @@ struct ending {
 
 static struct ending ending_of(const struct table *t, size_t slot)
 {
-    bool label = t->own_label[slot] != NO_LABEL && !needs_label(t, slot, t->route[slot]);
+    bool label = t->own_label[slot] != NO_LABEL && !needs_label(t, slot, route_of(t, slot));
     return (struct ending){label, is_bare(t, slot)};
 }
 
@@ -472,6 +532,7 @@ static void on_withdraw(struct card c, uint32_t from, const struct message *m, s
     size_t slot = find_tree(t, c.texts, m->name);
     size_t size = RECORD_HEAD + m->name.length;
     bool branch = slot != CARD_TREES && t->branches[slot][from] == m->label;
+    bool was_lone = branch && is_lone(t, slot);
     if (branch) {
         set_branch(t, slot, from, 0);
         e = ending_of(t, slot);
@@ -483,7 +544,10 @@ static void on_withdraw(struct card c, uint32_t from, const struct message *m, s
         return;
     }
     send(c, o, from, RELEASE, m->name, m->label);
-    let_go(c, slot, e, o);
+    if (branch) {
+        recount(t, slot, was_lone);
+        let_go(c, slot, e, o);
+    }
     *answer = CARD_ACCEPTED;
 }
 
@@ -497,6 +561,7 @@ static void on_release(struct card c, uint32_t from, const struct message *m, ui
     }
     t->mark[p] = 0;
     t->free_labels[p / 64] |= 1ull << p % 64;
+    t->free_count++;
     *answer = CARD_ACCEPTED;
 }
 
@@ -532,8 +597,11 @@ size_t plain_join(uint64_t *numbers, uint8_t *names, const uint8_t *element, siz
     if (*answer != CARD_ACCEPTED)
         return 0;
     size_t slot = make_ready(c, find_tree(c.table, c.texts, name), name, CARD_NEIGHBOURS, &o, answer);
-    if (slot != CARD_TREES)
+    if (slot != CARD_TREES) {
+        bool was_lone = is_lone(c.table, slot);
         c.table->leaves |= 1ull << slot;
+        recount(c.table, slot, was_lone);
+    }
     return o.written;
 }
 
@@ -559,89 +627,142 @@ size_t plain_leave(uint64_t *numbers, uint8_t *names, const uint8_t *element, si
         *answer = CARD_NO_ROOM;
         return 0;
     }
+    recount(t, slot, false);
     let_go(c, slot, e, &o);
     return o.written;
 }
 
 /* ---- route orders */
 
-/*
- * The slots of a root's trees, oldest first, as bits those that need a label afterwards, and how many octets the records
- * of their move have.
- */
+/* A route order: the slot of the root, or NO_ENTRY, its trees, oldest first, and where they go. */
 struct move {
+    size_t root;
+    uint32_t route;
     uint8_t slots[CARD_TREES];
-    uint64_t needy;
-    size_t count, size;
+    size_t count;
 };
 
-static void plan_move(struct card c, struct text root, uint32_t route, struct move *m)
+/* The trees of a root: by its slot, or where it has none by its octets. */
+static uint64_t trees_of(struct card c, size_t r, struct text root)
 {
     const struct table *t = c.table;
-    const uint8_t *order = order_of(c.table);
-    uint64_t tagged = t->used_slots & places_of(t->tree_root_tag, slots_in_use(t), root_tag(root));
-    m->needy = m->count = m->size = 0;
-    for (size_t i = 0; tagged != 0 && i < t->tree_count; i++) {
-        size_t slot = order[i];
-        if ((tagged >> slot & 1) == 0)
-            continue;
-        tagged ^= 1ull << slot;
-        struct text name = kept(c.texts->tree[slot]);
-        if (!same_root(name.octets + 4, name.octets[3], root))
-            continue;
-        bool needs = needs_label(c.table, slot, route);
-        size_t records = (size_t)(c.table->own_label[slot] != NO_LABEL) + needs;
-        m->size += records * (RECORD_HEAD + name.length);
-        m->needy |= (uint64_t)needs << slot;
-        m->slots[m->count++] = (uint8_t)slot;
+    uint64_t found = t->used_slots & places_of(t->tree_root, slots_in_use(t), (uint8_t)r);
+    if (r != NO_ENTRY)
+        return found;
+    found &= places_of(t->tree_root_tag, slots_in_use(t), tag_of_root(root));
+    for (uint64_t left = found; left != 0; left &= left - 1) {
+        const uint8_t *name = c.texts->tree[__builtin_ctzll(left)] + 1;
+        if (!same_root(name + 4, name[3], root))
+            found ^= left & -left;
     }
+    return found;
 }
 
-static void move_tree(struct card c, size_t slot, uint32_t route, bool needs, struct output *o)
+/* What a move takes: labels, and octets of its records. */
+struct need {
+    size_t labels, octets;
+};
+
+static struct need need_of(struct card c, const struct move *m)
+{
+    const struct table *t = c.table;
+    struct need n = {0, 0};
+    for (size_t k = 0; k < m->count; k++) {
+        size_t slot = m->slots[k];
+        bool needs = needs_label(t, slot, m->route);
+        size_t records = (size_t)(t->own_label[slot] != NO_LABEL) + needs;
+        n.labels += needs;
+        n.octets += records * (RECORD_HEAD + c.texts->tree[slot][0]);
+    }
+    return n;
+}
+
+/* By the counts where they say enough: the walk is for between, and for a room that might be too short. */
+static uint32_t move_refusal(struct card c, const struct move *m, size_t room)
+{
+    size_t free = c.table->free_count;
+    if (m->count <= free && room >= m->count * 2 * CARD_RECORD_MOST)
+        return CARD_ACCEPTED;
+    struct need n = need_of(c, m);
+    return n.labels > free ? CARD_LABELS_SHORT : n.octets > room ? CARD_NO_ROOM : CARD_ACCEPTED;
+}
+
+static void move_tree(struct card c, size_t slot, uint32_t route, struct output *o)
 {
     if (c.table->own_label[slot] != NO_LABEL)
         give_up_label(c, o, slot);
-    c.table->route[slot] = (uint8_t)route;
-    if (needs)
+    if (needs_label(c.table, slot, route))
         give_label(c, o, slot, route);
 }
 
-static void set_route(struct card c, size_t i, struct text root, uint32_t route)
+static size_t enter_root(struct card c, struct text root, uint32_t route)
 {
     struct table *t = c.table;
-    if (route == CARD_NO_ROUTE) {
-        t->route_count--;
-        memmove(t->via + i, t->via + i + 1, (t->route_count - i) * sizeof t->via[0]);
-        memmove(octets_of(t->route_tag) + i, octets_of(t->route_tag) + i + 1, t->route_count - i);
-        memmove(c.texts->root[i], c.texts->root[i + 1], (t->route_count - i) * ROOT_SLOT);
-        return;
+    size_t r = (size_t)__builtin_ctzll(~t->used_roots);
+    t->used_roots |= 1ull << r;
+    octets_of(t->root_order)[t->route_count++] = (uint8_t)r;
+    octets_of(t->root_tag)[r] = tag_of_root(root);
+    c.texts->root[r][0] = (uint8_t)root.length;
+    memcpy(c.texts->root[r] + 1, root.octets, root.length);
+    t->roots[r] = (struct entry){(uint8_t)route, 0, 0};
+    return r;
+}
+
+static void remove_root(struct table *t, size_t r)
+{
+    remove_slot(octets_of(t->root_order), t->route_count--, r);
+    t->used_roots &= ~(1ull << r);
+}
+
+/* Trees that had no route get one. */
+static void count_trees(struct table *t, size_t r, const struct move *m)
+{
+    for (size_t k = 0; k < m->count; k++) {
+        octets_of(t->tree_root)[m->slots[k]] = (uint8_t)r;
+        t->roots[r].lone += is_lone(t, m->slots[k]);
     }
-    if (i == t->route_count) {
-        keep(c.texts->root[i], root);
-        octets_of(t->route_tag)[i] = root_tag(root);
-        t->route_count++;
+    t->roots[r].trees = (uint8_t)m->count;
+}
+
+static void set_route(struct card c, struct text root, const struct move *m)
+{
+    struct table *t = c.table;
+    if (m->root == NO_ENTRY) {
+        count_trees(t, enter_root(c, root, m->route), m);
+    } else if (m->route == CARD_NO_ROUTE) {
+        for (size_t k = 0; k < m->count; k++)
+            octets_of(t->tree_root)[m->slots[k]] = NO_ENTRY;
+        remove_root(t, m->root);
+    } else {
+        t->roots[m->root].via = (uint8_t)m->route;
     }
-    t->via[i] = route;
+}
+
+/* Whether the counts alone tell that labels do not suffice. */
+static bool is_short_by_counts(const struct table *t, const struct entry *e, uint32_t route)
+{
+    return route < CARD_NEIGHBOURS && (size_t)(e->trees - e->lone) > t->free_count;
 }
 
 static uint32_t change_route(struct card c, struct text root, uint32_t route, struct output *o)
 {
     struct table *t = c.table;
-    struct move m;
-    size_t i = find_route(c, root);
-    uint32_t before = i < t->route_count ? (uint32_t)t->via[i] : CARD_NO_ROUTE;
-    if (before == route)
+    struct move m = {find_root(c, root), route, {0}, 0};
+    const struct entry *e = &t->roots[m.root];
+    if (e->via == route)
         return CARD_ACCEPTED;
-    if (i == CARD_ROOTS)
+    if (m.root == NO_ENTRY && t->route_count == CARD_ROOTS)
         return CARD_ROOTS_FULL;
-    plan_move(c, root, route, &m);
-    if (count_free(t) < (size_t)__builtin_popcountll(m.needy))
+    if (m.root != NO_ENTRY && is_short_by_counts(t, e, route))
         return CARD_LABELS_SHORT;
-    if (o->room < m.size)
-        return CARD_NO_ROOM;
+    if (m.root == NO_ENTRY || e->trees != 0)
+        m.count = oldest_first(t, trees_of(c, m.root, root), m.slots);
+    uint32_t refusal = move_refusal(c, &m, o->room);
+    if (refusal != CARD_ACCEPTED)
+        return refusal;
     for (size_t k = 0; k < m.count; k++)
-        move_tree(c, m.slots[k], route, m.needy >> m.slots[k] & 1, o);
-    set_route(c, i, root, route);
+        move_tree(c, m.slots[k], route, o);
+    set_route(c, root, &m);
     return CARD_ACCEPTED;
 }
 
@@ -660,38 +781,44 @@ size_t plain_route(uint64_t *numbers, uint8_t *names, const uint8_t *root, size_
 
 /* ---- a neighbour's session is lost */
 
+/* The neighbour, the slots of the trees that it touches, oldest first: with a branch of its own, or a route through it. */
+struct loss {
+    uint32_t gone;
+    uint8_t slots[CARD_TREES];
+    size_t count;
+};
+
+static void plan_loss(const struct table *t, uint32_t gone, struct loss *l)
+{
+    const uint8_t *order = (const uint8_t *)t->order;
+    l->gone = gone;
+    l->count = 0;
+    for (size_t i = 0; i < t->tree_count; i++) {
+        l->slots[l->count] = order[i];
+        l->count += (standing_in(t, order[i]) >> gone & 1) | (route_of(t, order[i]) == gone);
+    }
+}
+
 /* Whether the tree, without that neighbour's branch, withdraws its label from another. */
 static bool withdraws(const struct table *t, size_t slot, uint32_t gone)
 {
-    size_t p = t->own_label[slot];
-    if (p == NO_LABEL || (t->mark[p] & MARK) == MAPPED + gone || is_leaf(t, slot))
+    uint32_t route = route_of(t, slot);
+    if (t->own_label[slot] == NO_LABEL || route == gone || is_leaf(t, slot))
         return false;
-    return (standing_in(t, slot) & ~(1u << gone) & ~(1u << t->route[slot])) == 0;
+    return (standing_in(t, slot) & ~(1u << gone) & ~(1u << route)) == 0;
 }
 
-static size_t loss_size(struct card c, uint32_t gone)
+static size_t loss_size(struct card c, const struct loss *l)
 {
-    const uint8_t *order = order_of(c.table);
     size_t size = 0;
-    for (size_t i = 0; i < c.table->tree_count; i++)
-        if (withdraws(c.table, order[i], gone))
-            size += RECORD_HEAD + c.texts->tree[order[i]][0];
+    for (size_t k = 0; k < l->count; k++)
+        if (withdraws(c.table, l->slots[k], l->gone))
+            size += RECORD_HEAD + c.texts->tree[l->slots[k]][0];
     return size;
 }
 
-/* Its branches, its labels, mapped or awaiting, and the routes through it. */
-static void part_from(struct card c, uint32_t gone)
+static void free_labels_of(struct table *t, uint32_t gone)
 {
-    struct table *t = c.table;
-    const uint8_t *order = order_of(t);
-    for (size_t i = 0; i < t->tree_count; i++) {
-        size_t slot = order[i];
-        set_branch(t, slot, gone, 0);
-        if (t->route[slot] == gone) {
-            t->route[slot] = CARD_NO_ROUTE;
-            t->own_label[slot] = NO_LABEL;
-        }
-    }
     for (size_t w = 0; w < CARD_LABELS / 64; w++)
         for (uint64_t left = ~t->free_labels[w]; left != 0; left &= left - 1) {
             size_t p = w * 64 + (size_t)__builtin_ctzll(left);
@@ -699,11 +826,46 @@ static void part_from(struct card c, uint32_t gone)
             if (use == MAPPED + gone || use == AWAITING + gone) {
                 t->mark[p] = 0;
                 t->free_labels[w] |= left & -left;
+                t->free_count++;
             }
         }
-    for (size_t i = t->route_count; i-- > 0;)
-        if (t->via[i] == gone)
-            set_route(c, i, kept(c.texts->root[i]), CARD_NO_ROUTE);
+}
+
+/* Its branches, its labels, mapped or awaiting, and the routes through it. */
+static void part_from(struct table *t, const struct loss *l)
+{
+    for (size_t k = 0; k < l->count; k++) {
+        size_t slot = l->slots[k];
+        bool was_lone = is_lone(t, slot);
+        set_branch(t, slot, l->gone, 0);
+        recount(t, slot, was_lone);
+        if (route_of(t, slot) == l->gone) {
+            octets_of(t->tree_root)[slot] = NO_ENTRY;
+            t->own_label[slot] = NO_LABEL;
+        }
+    }
+    free_labels_of(t, l->gone);
+    for (uint64_t left = t->used_roots; left != 0; left &= left - 1)
+        if (t->roots[__builtin_ctzll(left)].via == l->gone)
+            remove_root(t, (size_t)__builtin_ctzll(left));
+}
+
+/* Trees that are bare go all at once. */
+static void sweep(struct table *t, const struct loss *l)
+{
+    uint8_t *order = octets_of(t->order);
+    size_t count = 0;
+    for (size_t k = 0; k < l->count; k++)
+        if (is_bare(t, l->slots[k])) {
+            t->roots[root_slot(t, l->slots[k])].trees--;
+            t->used_slots &= ~(1ull << l->slots[k]);
+        }
+    for (size_t i = 0; i < t->tree_count; i++) {
+        uint8_t slot = order[i];
+        order[count] = slot;
+        count += t->used_slots >> slot & 1;
+    }
+    t->tree_count = count;
 }
 
 size_t plain_lost(uint64_t *numbers, uint8_t *names, uint32_t neighbour, uint8_t *out, size_t out_length,
@@ -711,20 +873,21 @@ size_t plain_lost(uint64_t *numbers, uint8_t *names, uint32_t neighbour, uint8_t
 {
     struct card c = card_in(numbers, names);
     struct output o = {out, out_length, 0};
-    uint8_t slots[CARD_TREES];
+    struct loss l;
     if (neighbour >= CARD_NEIGHBOURS) {
         *answer = CARD_NO_SUCH_NEIGHBOUR;
         return 0;
     }
-    if (out_length < loss_size(c, neighbour)) {
+    plan_loss(c.table, neighbour, &l);
+    if (out_length < l.count * CARD_RECORD_MOST && out_length < loss_size(c, &l)) {
         *answer = CARD_NO_ROOM;
         return 0;
     }
-    part_from(c, neighbour);
-    size_t count = c.table->tree_count;
-    memcpy(slots, order_of(c.table), count);
-    for (size_t i = 0; i < count; i++)
-        let_go(c, slots[i], ending_of(c.table, slots[i]), &o);
+    part_from(c.table, &l);
+    for (size_t k = 0; k < l.count; k++)
+        if (ending_of(c.table, l.slots[k]).label)
+            give_up_label(c, &o, l.slots[k]);
+    sweep(c.table, &l);
     *answer = CARD_ACCEPTED;
     return o.written;
 }
@@ -738,7 +901,9 @@ uint32_t plain_start(uint64_t *numbers, uint32_t base)
     t->base = taken ? base : CARD_BASE_LEAST;
     t->next_id = 1;
     t->turn = 0;
-    t->route_count = t->tree_count = t->used_slots = t->leaves = 0;
+    t->route_count = t->tree_count = t->used_slots = t->used_roots = t->leaves = 0;
+    t->roots[NO_ENTRY].via = CARD_NO_ROUTE;
+    t->free_count = CARD_LABELS;
     memset(t->free_labels, 0xff, sizeof t->free_labels);
     memset(t->mark, 0, sizeof t->mark);
     return taken ? CARD_ACCEPTED : CARD_BAD_BASE;
@@ -778,12 +943,12 @@ bool plain_lookup_name(const uint64_t *numbers, const uint8_t *names, const uint
     if (element_refusal(name) != CARD_ACCEPTED)
         return nothing(branches);
     size_t slot = find_tree(t, (const struct texts *)names, name);
-    return slot == CARD_TREES ? nothing(branches) : found(t, slot, t->route[slot], branches);
+    return slot == CARD_TREES ? nothing(branches) : found(t, slot, route_of(t, slot), branches);
 }
 
 uint32_t plain_free_labels(const uint64_t *numbers)
 {
-    return (uint32_t)count_free((const struct table *)numbers);
+    return (uint32_t)((const struct table *)numbers)->free_count;
 }
 
 /* ---- the save and the way back */
@@ -863,10 +1028,10 @@ static bool fits_save(const struct table *t, const struct texts *x)
     return true;
 }
 
-static uint8_t *save_route(uint8_t *s, uint64_t via, const uint8_t *root)
+static uint8_t *save_route(uint8_t *s, uint8_t via, const uint8_t *root)
 {
     uint8_t *at = put_kind(s, ROUTE_KIND);
-    at[0] = (uint8_t)via;
+    at[0] = via;
     put_root(at + 1, kept(root));
     return s + SAVE_ROUTE;
 }
@@ -907,10 +1072,10 @@ static uint8_t *save_head(uint8_t *s, const struct table *t, size_t labels)
 
 static void write_save(uint8_t *s, const struct table *t, const struct texts *x, size_t labels)
 {
-    const uint8_t *order = (const uint8_t *)t->order;
+    const uint8_t *order = (const uint8_t *)t->order, *root_order = (const uint8_t *)t->root_order;
     s = save_head(s, t, labels);
     for (size_t i = 0; i < t->route_count; i++)
-        s = save_route(s, t->via[i], x->root[i]);
+        s = save_route(s, t->roots[root_order[i]].via, x->root[root_order[i]]);
     for (size_t i = 0; i < t->tree_count; i++)
         s = save_tree(s, t, x, order[i]);
     for (size_t w = 0; w < CARD_LABELS / 64; w++)
@@ -922,7 +1087,7 @@ size_t plain_save(const uint64_t *numbers, const uint8_t *names, uint8_t *out, s
 {
     const struct table *t = (const struct table *)numbers;
     const struct texts *x = (const struct texts *)names;
-    size_t labels = CARD_LABELS - count_free(t);
+    size_t labels = CARD_LABELS - t->free_count;
     size_t size = save_size(t->route_count, t->tree_count, labels);
     if (!fits_save(t, x))
         *answer = CARD_BAD_SAVE;
@@ -966,10 +1131,9 @@ static bool read_name(const uint8_t *s, uint8_t *element, struct text *name)
 static bool read_route(struct card c, const uint8_t *s)
 {
     struct text root;
-    size_t i = c.table->route_count;
-    if (!has_kind(s, ROUTE_KIND) || s[3] > CARD_THIS_NODE || !read_root(s + 4, &root) || find_route(c, root) != i)
+    if (!has_kind(s, ROUTE_KIND) || s[3] > CARD_THIS_NODE || !read_root(s + 4, &root) || find_root(c, root) != NO_ENTRY)
         return false;
-    set_route(c, i, root, s[3]);
+    enter_root(c, root, s[3]);
     return true;
 }
 
@@ -995,9 +1159,12 @@ static bool read_tree(struct card c, const uint8_t *s)
         return false;
     if (find_tree(c.table, c.texts, name) != CARD_TREES)
         return false;
-    size_t slot = enter_tree(c, name, route_of(c, root_of(name)));
+    size_t slot = enter_tree(c, name, find_root(c, root_of(name)));
     c.table->leaves |= (uint64_t)*leaf << slot;
-    return read_branches(c.table, slot, leaf + 1) && !is_bare(c.table, slot);
+    if (!read_branches(c.table, slot, leaf + 1))
+        return false;
+    recount(c.table, slot, false);
+    return !is_bare(c.table, slot);
 }
 
 /* A label's mark: a mapped one is its tree's, which has none yet. */
@@ -1012,7 +1179,7 @@ static bool read_use(struct card c, size_t p, const uint8_t *s, struct text name
         return true;
     }
     size_t slot = find_tree(t, c.texts, name);
-    if (slot == CARD_TREES || t->own_label[slot] != NO_LABEL || t->route[slot] != neighbour)
+    if (slot == CARD_TREES || t->own_label[slot] != NO_LABEL || route_of(t, slot) != neighbour)
         return false;
     t->mark[p] = (MAPPED + neighbour) | slot << SLOT_SHIFT;
     t->own_label[slot] = p;
@@ -1030,6 +1197,7 @@ static bool read_label(struct card c, const uint8_t *s, uint64_t *turn)
     if (!read_use(c, p, s + 7, name))
         return false;
     c.table->free_labels[p / 64] &= ~(1ull << p % 64);
+    c.table->free_count--;
     keep(c.texts->label[p], name);
     *turn = p + 1;
     return true;
@@ -1040,7 +1208,7 @@ static bool labels_are_due(const struct table *t)
 {
     for (uint64_t left = t->used_slots; left != 0; left &= left - 1) {
         size_t slot = (size_t)__builtin_ctzll(left);
-        if ((t->own_label[slot] != NO_LABEL) != needs_label(t, slot, t->route[slot]))
+        if ((t->own_label[slot] != NO_LABEL) != needs_label(t, slot, route_of(t, slot)))
             return false;
     }
     return true;
