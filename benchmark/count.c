@@ -27,7 +27,7 @@ static void count_work(struct bench *b, const struct work *w)
 {
     prepare(b, w);
     work_begins();
-    size_t done = w->run(b, false);
+    size_t done = w->run(b, w, false);
     work_ends();
     say(w->what, "", done);
 }
@@ -44,7 +44,7 @@ static const struct growth growths[] = {
     {8, SHORT_VALUE, "3 octets"}, {8, 32, "32 octets"},    {8, CARD_OPAQUE_MOST, "128 octets"},
 };
 
-enum { LONE_ROOT = CARD_ROOTS - 1, NEW_ROUTE = 5, THEIR_LABEL = 1000 };
+enum { LONE_ROOT = CARD_ROOTS - 1, THEIR_LABEL = 1000 };
 
 static struct bench image;
 
@@ -128,8 +128,8 @@ int main(int count, char **words)
     }
     open_work(words[2]);
     open_bench(&bench, strcmp(words[1], "plain") == 0 ? &plain : &proved);
-    for (size_t i = 0; i < WORKS; i++)
-        count_work(&bench, &works[i]);
+    for (size_t i = 0; i < main_works.count; i++)
+        count_work(&bench, &main_works.works[i]);
     for (size_t i = 0; i < sizeof growths / sizeof growths[0]; i++) {
         count_one_tree(&bench, &growths[i]);
         count_all_trees(&bench, &growths[i]);

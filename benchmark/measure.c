@@ -1,19 +1,21 @@
 /*
- * measure DAY [REMARK]: tables of the times of the cards, taken in turns in one run. DAY is an ordinary day.
- * Each time is the best of PASSES x TURNS: what else the machine does only adds to a time.
+ * measure main|routes|made DAY [REMARK]: a table of the times of the cards, taken in turns in one run. DAY is an ordinary
+ * day. Each time is the best of PASSES x TURNS: what else the machine does only adds to a time.
  */
 #define _POSIX_C_SOURCE 199309L
 #include "work.h"
 
 #include <stdio.h>
+#include <string.h>
 #include <time.h>
 
-enum { PASSES = 6, TURNS = 60, MOST_SIDES = 5 };
+enum { PASSES = 30, TURNS = 12, MOST_SIDES = 5, MOST_WORKS = 16, LONG_DAY = 100000 };
 
-/* The plain card by each compiler that was there. */
+/* The plain card by each compiler that was there, and an older proved card, where one was given. */
 extern const struct side plain_gcc_O2 __attribute__((weak));
 extern const struct side plain_gcc_O3 __attribute__((weak));
 extern const struct side plain_clang_O3 __attribute__((weak));
+extern const struct side older __attribute__((weak));
 
 struct column {
     const char *head;
@@ -22,8 +24,8 @@ struct column {
 };
 
 static struct column columns[MOST_SIDES];
-static size_t column_count;
-static double best[WORKS][2][MOST_SIDES];
+static size_t column_count, first_plain;
+static double best[MOST_WORKS][2][MOST_SIDES];
 
 static void add_column(const char *head, const struct side *side)
 {
@@ -46,17 +48,25 @@ static double time_once(const struct work *w, struct bench *b, bool cleared)
 {
     prepare(b, w);
     double start = now();
-    size_t done = w->run(b, cleared);
+    size_t done = w->run(b, w, cleared);
     return (now() - start) / (double)done;
 }
 
-/* All sides in turns. */
-static void measure(size_t work, bool cleared)
+static bool is_able(const struct side *s, const struct work *w)
 {
-    double *least = best[work][cleared];
-    for (int turn = 0; turn < TURNS; turn++)
+    return (w->asks != LOST || s->lost != NULL) && (w->asks != SAVE || s->save != NULL) &&
+           (w->asks != RESTORE || s->restore != NULL);
+}
+
+/* All sides in turns. */
+static void measure(const struct work *w, bool cleared, double *least)
+{
+    int turns = w->plan.events > LONG_DAY ? 1 : TURNS;
+    for (int turn = 0; turn < turns; turn++)
         for (size_t c = 0; c < column_count; c++) {
-            double t = time_once(&works[work], columns[c].bench, cleared);
+            if (!is_able(columns[c].side, w))
+                continue;
+            double t = time_once(w, columns[c].bench, cleared);
             if (least[c] == 0 || t < least[c])
                 least[c] = t;
         }
@@ -64,58 +74,74 @@ static void measure(size_t work, bool cleared)
 
 static double best_plain(const double *times)
 {
-    double least = times[1];
-    for (size_t c = 2; c < column_count; c++)
+    double least = times[first_plain];
+    for (size_t c = first_plain + 1; c < column_count; c++)
         least = times[c] < least ? times[c] : least;
     return least;
 }
 
-static void print_row(size_t work)
+static void print_number(double number, int places)
 {
-    const struct work *w = &works[work];
-    const double *times = best[work][0], *cleared = best[work][1];
-    printf("| %s |", w->what);
-    for (size_t c = 0; c < column_count; c++)
-        printf(" %.1f |", times[c]);
-    printf(" %.2f | %.2f |", times[0] / best_plain(times), cleared[0] / best_plain(cleared));
-    if (w->at_most == 0)
-        printf(" |\n");
+    if (number == 0)
+        printf(" |");
     else
-        printf(" %.2f |\n", w->at_most);
+        printf(" %.*f |", places, number);
 }
 
-static void print_table(void)
+static void print_row(const struct work *w, double times[2][MOST_SIDES])
 {
-    printf("| measured |");
+    printf("| %s |", w->what);
+    for (size_t c = 0; c < column_count; c++)
+        print_number(times[0][c], 1);
+    print_number(times[0][0] / best_plain(times[0]), 2);
+    print_number(times[1][0] / best_plain(times[1]), 2);
+    print_number(w->at_most, 2);
+    printf("\n");
+}
+
+static void print_table(const struct work_group *g)
+{
+    printf("| %s |", g->name);
     for (size_t c = 0; c < column_count; c++)
         printf(" %s |", columns[c].head);
     printf(" ratio | cleared | at most |\n|---|");
     for (size_t c = 0; c < column_count + 3; c++)
         printf("---|");
     printf("\n");
-    for (size_t i = 0; i < WORKS; i++)
-        print_row(i);
+    for (size_t i = 0; i < g->count; i++)
+        print_row(&g->works[i], best[i]);
+}
+
+static const struct work_group *group_named(const char *name)
+{
+    return strcmp(name, "main") == 0     ? &main_works
+           : strcmp(name, "routes") == 0 ? &route_works
+           : strcmp(name, "made") == 0   ? &made_works
+                                         : NULL;
 }
 
 int main(int count, char **words)
 {
-    if (count < 2) {
-        fprintf(stderr, "usage: measure DAY [REMARK]\n");
+    const struct work_group *g = count < 3 ? NULL : group_named(words[1]);
+    if (g == NULL || g->count > MOST_WORKS) {
+        fprintf(stderr, "usage: measure main|routes|made DAY [REMARK]\n");
         return 2;
     }
-    open_work(words[1]);
+    open_work(words[2]);
     add_column("proved", &proved);
+    add_column("older", &older);
+    first_plain = column_count;
     add_column("gcc -O2", &plain_gcc_O2);
     add_column("gcc -O3", &plain_gcc_O3);
     add_column("clang -O3", &plain_clang_O3);
     for (int pass = 0; pass < PASSES; pass++)
-        for (size_t i = 0; i < WORKS; i++)
+        for (size_t i = 0; i < g->count; i++)
             for (int cleared = 0; cleared < 2; cleared++)
-                measure(i, cleared);
-    printf("Nanoseconds, the best of %d, all in turns in one run%s%s.\n", PASSES * TURNS, count > 2 ? "; " : "",
-           count > 2 ? words[2] : "");
+                measure(&g->works[i], cleared, best[i][cleared]);
+    printf("Nanoseconds, the best of %d, all in turns in one run%s%s.\n", PASSES * TURNS, count > 3 ? "; " : "",
+           count > 3 ? words[3] : "");
     printf("Ratio: of the proved card to the best of the plain one. Cleared: that ratio where the buffers that a call is\n"
            "lent were cleared before it, within the time.\n\n");
-    print_table();
+    print_table(g);
     return work_sink == 0;
 }

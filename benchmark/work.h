@@ -1,53 +1,48 @@
-/* The work that is measured and counted: orders of our own, and what the cards do with them. */
+/* The work that is measured and counted: what the cards do with orders. */
 #ifndef WORK_H
 #define WORK_H
 
-#include "side.h"
+#include "made.h"
 
-enum { LSP_VALUE = 7, SHORT_VALUE = 3, MESSAGE_MOST = 8 + 4 + CARD_ELEMENT_MOST + 8, ELEMENT_AT = 12 };
-
-enum message_kind { MAPPING = 0x0400, WITHDRAW = 0x0402, RELEASE = 0x0403 };
-
-struct message {
-    uint8_t octets[MESSAGE_MOST];
-    size_t length, element_length;
-};
-
-/* A tree by its root's number, its own, and how many octets its opaque value has: SHORT_VALUE, or LSP_VALUE and more. */
-struct tree_name {
-    size_t root, tree, value;
-};
-
-struct message message_of(enum message_kind kind, struct tree_name name, uint32_t label);
-
-struct order take_order(uint32_t from, const struct message *m);
-struct order element_order(enum order_kind kind, const struct message *m);
-struct order route_order(size_t root, uint32_t to);
-
-/* The order, which is to be answered so: the program ends where it is not. */
-void give(struct bench *b, struct order o);
-void give_for(struct bench *b, struct order o, uint32_t answer);
-
-/* A neighbour that is never the upstream of a root that is given a route below: its branches are not held. */
-uint32_t branch_of(size_t root);
-uint32_t upstream_of(size_t root);
-
-/* What is measured or counted. Its card is made once for each side, and laid back before each turn. */
 struct work {
     const char *what;
-    void (*make)(struct bench *);
-    size_t (*run)(struct bench *, bool cleared); /* how many times it did what is said */
-    double at_most;                              /* of a ratio of times; 0: none is set */
+    /* The card, once for each side; it is laid back before each turn. */
+    void (*make)(struct bench *, const struct work *);
+    size_t (*run)(struct bench *, const struct work *, bool cleared); /* how many times it did what is said */
+    double at_most;        /* of a ratio of times; 0: none is set */
+    enum order_kind asks;  /* for a call that not every side has */
+    struct made_plan plan; /* of a made day */
+    struct {
+        size_t trees, branches; /* of the root; of each of its trees */
+        bool few;               /* no label is free */
+        uint32_t to, answer;
+    } route;
 };
 
-enum { WORKS = 7 };
+struct work_group {
+    const char *name;
+    const struct work *works;
+    size_t count;
+};
 
-extern const struct work works[WORKS];
+extern const struct work_group main_works, route_works, made_works;
+
 extern uint64_t work_sink;
 
 /* Reads the ordinary day; before anything else here. */
 void open_work(const char *day_file);
 
 void prepare(struct bench *b, const struct work *w);
+
+/* What else is kept with the card that was laid last. */
+struct kept {
+    uint8_t save[CARD_SAVE_MOST];
+    size_t save_length;
+    struct made_day day;
+};
+
+extern struct kept *laid;
+
+size_t do_order(struct bench *b, bool cleared, struct order o, uint32_t answer);
 
 #endif
