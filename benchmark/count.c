@@ -1,5 +1,5 @@
 /*
- * count proved|plain DAY: each piece of work once on one card, for a counter that sees where `work_begins` and `work_ends`
+ * count proved|plain|older DAY: each piece of work once on one card, for a counter that sees where `work_begins` and `work_ends`
  * are called (count.py). Writes a line for each: what it did, on what card, and how many times.
  */
 #include "work.h"
@@ -23,13 +23,21 @@ static void say(const char *row, const char *column, size_t done)
     printf("%s\t%s\t%zu\n", row, column, done);
 }
 
-static void count_work(struct bench *b, const struct work *w)
+static void count_work(struct bench *b, const struct work *w, const char *column)
 {
+    if (!is_able(b->side, w) || w->plan.events > LONG_DAY)
+        return;
     prepare(b, w);
     work_begins();
     size_t done = w->run(b, w, false);
     work_ends();
-    say(w->what, "", done);
+    say(w->what, column, done);
+}
+
+static void count_group(struct bench *b, const struct work_group *g, const char *column)
+{
+    for (size_t i = 0; i < g->count; i++)
+        count_work(b, &g->works[i], column);
 }
 
 /* ---- the cost as the work grows: one order on a card of so many trees, whose values have so many octets */
@@ -119,18 +127,31 @@ static void count_all_trees(struct bench *b, const struct growth *g)
     count_anew(b, g, "a loss that ends every tree", (struct order){LOST, 0, branch_of(0), NULL, 0});
 }
 
+/* Where one was given. */
+extern const struct side older __attribute__((weak));
+
+static const struct side *side_named(const char *name)
+{
+    return strcmp(name, "proved") == 0  ? &proved
+           : strcmp(name, "plain") == 0 ? &plain
+           : strcmp(name, "older") == 0 ? &older
+                                        : NULL;
+}
+
 int main(int count, char **words)
 {
     static struct bench bench;
-    if (count != 3 || (strcmp(words[1], "proved") != 0 && strcmp(words[1], "plain") != 0)) {
-        fprintf(stderr, "usage: count proved|plain DAY\n");
+    const struct side *side = count != 3 ? NULL : side_named(words[1]);
+    if (side == NULL) {
+        fprintf(stderr, "usage: count proved|plain|older DAY\n");
         return 2;
     }
     open_work(words[2]);
-    open_bench(&bench, strcmp(words[1], "plain") == 0 ? &plain : &proved);
-    for (size_t i = 0; i < main_works.count; i++)
-        count_work(&bench, &main_works.works[i]);
-    for (size_t i = 0; i < sizeof growths / sizeof growths[0]; i++) {
+    open_bench(&bench, side);
+    count_group(&bench, &main_works, "");
+    count_group(&bench, &route_works, "routes");
+    count_group(&bench, &made_works, "made");
+    for (size_t i = 0; side->lost != NULL && i < sizeof growths / sizeof growths[0]; i++) {
         count_one_tree(&bench, &growths[i]);
         count_all_trees(&bench, &growths[i]);
     }

@@ -1,12 +1,12 @@
 #!/usr/bin/env python3
 """Counts the instructions of both cards and prints the tables of docs/BENCHMARK.md.
 
-  count.py [--emulator QEMU] [--nm NM] [--remark TEXT] PROGRAM DAY OBJECT..
+  count.py [--older] [--emulator QEMU] [--nm NM] [--remark TEXT] PROGRAM DAY OBJECT..
 
 PROGRAM is count.c, linked. It calls `work_begins` and `work_ends` around each piece of work: what lies between is counted,
 and nothing of the start or of the preparation. Counted are the instructions of the cards' functions, which OBJECT..
 (plain.o and the archives) define, and of memcpy and its kin, which they call; not those of the program that gives the
-orders.
+orders. With --older PROGRAM has an older proved card too.
 
 With --emulator PROGRAM runs under that qemu-x86_64, which logs each instruction's address. Without, it runs under
 valgrind's callgrind.
@@ -23,7 +23,9 @@ import subprocess
 import sys
 import tempfile
 
-SIDES = ("proved", "plain")
+CALLS = ("start", "receive", "join", "leave", "route", "lost", "lookup_label", "lookup_name", "free_labels", "save", "restore")
+PREFIXES = {"proved": "card_", "older": "older_card_", "plain": "plain_"}
+GROUPS = {"": "counted", "routes": "a route order for a root of", "made": "an event of a made day"}
 PROFILED = ("an event of an ordinary day", "a route order that moves 64 trees", "a loss that ends 64 branches",
             "a restore of a full card")
 DEAREST = 10
@@ -125,7 +127,7 @@ def grinded(args, side):
     with tempfile.TemporaryDirectory() as folder:
         out = os.path.join(folder, "out")
         words = ["valgrind", "-q", "--tool=callgrind", f"--callgrind-out-file={out}", "--compress-strings=no",
-                 "--compress-pos=no", "--toggle-collect=card_*", "--toggle-collect=plain_*",
+                 "--compress-pos=no", *(f"--toggle-collect={PREFIXES[side]}{call}" for call in CALLS),
                  f"--dump-before={BEGINS}", f"--dump-before={ENDS}", args.program, side, args.day]
         said = run_text(*words)
         files = sorted((f for f in os.listdir(folder) if f.startswith("out.")), key=lambda f: int(f[4:]))
@@ -162,15 +164,18 @@ def print_table(head, rows):
     print()
 
 
-def print_work(works):
-    rows = [(proved.row, show(proved.all), show(plain.all), f"{proved.all / plain.all:.2f}")
-            for proved, plain in zip(*works) if not proved.column]
-    print_table(("counted", "proved", "plain C", "ratio"), rows)
+def print_work(works, group, said):
+    rows = []
+    for work in works["proved"]:
+        alike = {side: next((w.all for w in works[side] if (w.row, w.column) == (work.row, work.column)), 0) for side in works}
+        if work.column == group:
+            rows.append((work.row, *(show(number) for number in alike.values()), f"{work.all / alike['plain']:.2f}"))
+    print_table((said, *works, "ratio"), rows)
 
 
 def print_growth(works, unit, said):
     cells = {}
-    for proved, plain in zip(*works):
+    for proved, plain in zip(works["proved"], works["plain"]):
         if unit in proved.column:
             cells.setdefault(proved.row, {})[proved.column] = f"{show(proved.all)} / {show(plain.all)}"
     columns = list(next(iter(cells.values())))
@@ -180,13 +185,14 @@ def print_growth(works, unit, said):
 
 def print_dearest(work):
     print(f"The dearest functions of the proved card, {work.row}:\n")
-    dearest = sorted(work.functions.items(), key=lambda item: -item[1])[:DEAREST]
+    dearest = sorted((item for item in work.functions.items() if item[1] > 0), key=lambda item: -item[1])[:DEAREST]
     print_table(("function", "instructions", "share"),
                 [(f"`{name}`", show(count), f"{100 * count / work.all:.0f} %") for name, count in dearest])
 
 
 def main():
     parser = argparse.ArgumentParser(description=__doc__.splitlines()[0])
+    parser.add_argument("--older", action="store_true")
     parser.add_argument("--emulator")
     parser.add_argument("--nm", default="nm")
     parser.add_argument("--remark", default="")
@@ -196,12 +202,13 @@ def main():
     args = parser.parse_args()
     if not args.emulator and not shutil.which("valgrind"):
         sys.exit("count: no valgrind here, which is needed where there is no emulator")
-    works = [count(args, side) for side in SIDES]
+    works = {side: count(args, side) for side in PREFIXES if side != "older" or args.older}
     print(f"Instructions, not times{args.remark and '; '}{args.remark}.\n")
-    print_work(works)
+    for group, said in GROUPS.items():
+        print_work(works, group, said)
     print_growth(works, "tree", "names with 7 octets of opaque value")
     print_growth(works, "octets", "8 trees, whose names have so many octets of opaque value")
-    for work in works[0]:
+    for work in works["proved"]:
         if work.row in PROFILED:
             print_dearest(work)
 

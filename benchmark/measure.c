@@ -9,7 +9,7 @@
 #include <string.h>
 #include <time.h>
 
-enum { PASSES = 30, TURNS = 12, MOST_SIDES = 5, MOST_WORKS = 16, LONG_DAY = 100000 };
+enum { PASSES = 30, TURNS = 12, MOST_SIDES = 5, MOST_WORKS = 16 };
 
 /* The plain card by each compiler that was there, and an older proved card, where one was given. */
 extern const struct side plain_gcc_O2 __attribute__((weak));
@@ -50,12 +50,6 @@ static double time_once(const struct work *w, struct bench *b, bool cleared)
     double start = now();
     size_t done = w->run(b, w, cleared);
     return (now() - start) / (double)done;
-}
-
-static bool is_able(const struct side *s, const struct work *w)
-{
-    return (w->asks != LOST || s->lost != NULL) && (w->asks != SAVE || s->save != NULL) &&
-           (w->asks != RESTORE || s->restore != NULL);
 }
 
 /* All sides in turns. */

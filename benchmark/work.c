@@ -156,6 +156,12 @@ static size_t do_set_up(struct bench *b, const struct work *w, bool cleared)
     return 1;
 }
 
+bool is_able(const struct side *s, const struct work *w)
+{
+    return (w->asks != LOST || s->lost != NULL) && (w->asks != SAVE || s->save != NULL) &&
+           (w->asks != RESTORE || s->restore != NULL);
+}
+
 size_t do_order(struct bench *b, bool cleared, struct order o, uint32_t answer)
 {
     if (cleared)

@@ -27,6 +27,11 @@ struct work_group {
 
 extern const struct work_group main_works, route_works, made_works;
 
+enum { LONG_DAY = 100000 }; /* events; longer ones are done less often */
+
+/* Whether the side has the call that the work asks for. */
+bool is_able(const struct side *s, const struct work *w);
+
 extern uint64_t work_sink;
 
 /* Reads the ordinary day; before anything else here. */
