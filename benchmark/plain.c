@@ -962,8 +962,7 @@ enum {
     SAVE_LABEL = 59,
     ROOT_SPACE = 16,
     VALUE_SPACE = 32,
-    NAME_SPACE = 1 + ROOT_SPACE + 1 + VALUE_SPACE,
-    SHORT_NAME = 6 + ROOT_SPACE + VALUE_SPACE
+    NAME_SPACE = 1 + ROOT_SPACE + 1 + VALUE_SPACE
 };
 
 /* In a label's record. */
@@ -988,11 +987,40 @@ static struct text value_of(struct text name)
     return (struct text){name.octets + head, name.length - head};
 }
 
+/* From its middle less n on, a mask of n octets. */
+static const uint64_t masks[2 * VALUE_SPACE / 8] = {~0ull, ~0ull, ~0ull, ~0ull};
+
+static uint64_t eight_at(const uint8_t *s)
+{
+    uint64_t x;
+    memcpy(&x, s, 8);
+    return x;
+}
+
+/* The text and zeros behind it, or whether zeros stand behind it. As many octets as the space has can be read there. */
+static inline void put_space(uint8_t *s, size_t space, struct text t)
+{
+    const uint8_t *mask = (const uint8_t *)masks + VALUE_SPACE - t.length;
+    for (size_t i = 0; i < space; i += 8) {
+        uint64_t x = eight_at(t.octets + i) & eight_at(mask + i);
+        memcpy(s + i, &x, 8);
+    }
+}
+
+static inline bool is_clear_behind(const uint8_t *s, size_t space, size_t length)
+{
+    const uint8_t *mask = (const uint8_t *)masks + VALUE_SPACE - length;
+    uint64_t behind = 0;
+    for (size_t i = 0; i < space; i += 8)
+        behind |= eight_at(s + i) & ~eight_at(mask + i);
+    return behind == 0;
+}
+
+/* Roots and names stand in their slots, which are longer than these spaces. */
 static void put_root(uint8_t *s, struct text root)
 {
     s[0] = (uint8_t)root.length;
-    memset(s + 1, 0, ROOT_SPACE);
-    memcpy(s + 1, root.octets, root.length);
+    put_space(s + 1, ROOT_SPACE, root);
 }
 
 static void put_name(uint8_t *s, struct text name)
@@ -1001,8 +1029,7 @@ static void put_name(uint8_t *s, struct text name)
     put_root(s, root_of(name));
     s += 1 + ROOT_SPACE;
     s[0] = (uint8_t)value.length;
-    memset(s + 1, 0, VALUE_SPACE);
-    memcpy(s + 1, value.octets, value.length);
+    put_space(s + 1, VALUE_SPACE, value);
 }
 
 static size_t save_size(size_t routes, size_t trees, size_t labels)
@@ -1104,27 +1131,27 @@ size_t plain_save(const uint64_t *numbers, const uint8_t *names, uint8_t *out, s
 /* A root from its space: 4 octets with zeros behind, or 16. */
 static bool read_root(const uint8_t *s, struct text *root)
 {
-    static const uint8_t zeros[ROOT_SPACE - 4];
     *root = (struct text){s + 1, s[0]};
-    return s[0] == ROOT_SPACE || (s[0] == 4 && memcmp(s + 5, zeros, sizeof zeros) == 0);
+    return (s[0] == 4 || s[0] == ROOT_SPACE) && is_clear_behind(s + 1, ROOT_SPACE, s[0]);
 }
 
-/* A name from its space, laid out as an element. */
-static bool read_name(const uint8_t *s, uint8_t *element, struct text *name)
+/* A name from its space, laid out as an element in a slot. */
+static bool read_name(const uint8_t *s, uint8_t *slot, struct text *name)
 {
-    static const uint8_t zeros[VALUE_SPACE];
     struct text root, value = {s + 2 + ROOT_SPACE, s[1 + ROOT_SPACE]};
+    uint8_t *element = slot + 1;
     if (!read_root(s, &root) || value.length == 0 || value.length > VALUE_SPACE)
         return false;
-    if (memcmp(value.octets + value.length, zeros, VALUE_SPACE - value.length) != 0 || !is_filled(value))
+    if (!is_clear_behind(value.octets, VALUE_SPACE, value.length) || !is_filled(value))
         return false;
     element[0] = 6;
     put_two(element + 1, root.length == 4 ? 1 : 2);
     element[3] = (uint8_t)root.length;
-    memcpy(element + 4, root.octets, root.length);
+    memcpy(element + 4, root.octets, ROOT_SPACE);
     put_two(element + 4 + root.length, (uint32_t)value.length);
-    memcpy(element + 6 + root.length, value.octets, value.length);
-    *name = (struct text){element, 6 + root.length + value.length};
+    memcpy(element + 6 + root.length, value.octets, VALUE_SPACE);
+    slot[0] = (uint8_t)(6 + root.length + value.length);
+    *name = kept(slot);
     return true;
 }
 
@@ -1152,10 +1179,10 @@ static bool read_branches(struct table *t, size_t slot, const uint8_t *s)
 
 static bool read_tree(struct card c, const uint8_t *s)
 {
-    uint8_t element[SHORT_NAME];
+    uint8_t read[NAME_SLOT];
     struct text name;
     const uint8_t *leaf = s + 3 + NAME_SPACE;
-    if (!has_kind(s, TREE_KIND) || *leaf > 1 || !read_name(s + 3, element, &name))
+    if (!has_kind(s, TREE_KIND) || *leaf > 1 || !read_name(s + 3, read, &name))
         return false;
     if (find_tree(c.table, c.texts, name) != CARD_TREES)
         return false;
@@ -1189,16 +1216,14 @@ static bool read_use(struct card c, size_t p, const uint8_t *s, struct text name
 /* Labels rise, so one at or above the turn is new. The turn is the last label's: what was given last is not saved. */
 static bool read_label(struct card c, const uint8_t *s, uint64_t *turn)
 {
-    uint8_t element[SHORT_NAME];
     struct text name;
     uint64_t p = four_at(s + 3) - c.table->base;
-    if (!has_kind(s, LABEL_KIND) || p < *turn || p >= CARD_LABELS || !read_name(s + 9, element, &name))
+    if (!has_kind(s, LABEL_KIND) || p < *turn || p >= CARD_LABELS || !read_name(s + 9, c.texts->label[p], &name))
         return false;
     if (!read_use(c, p, s + 7, name))
         return false;
     c.table->free_labels[p / 64] &= ~(1ull << p % 64);
     c.table->free_count--;
-    keep(c.texts->label[p], name);
     *turn = p + 1;
     return true;
 }
