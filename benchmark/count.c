@@ -151,6 +151,7 @@ int main(int count, char **words)
     count_group(&bench, &main_works, "");
     count_group(&bench, &route_works, "routes");
     count_group(&bench, &made_works, "made");
+    count_group(&bench, &box_works, "box");
     for (size_t i = 0; side->lost != NULL && i < sizeof growths / sizeof growths[0]; i++) {
         count_one_tree(&bench, &growths[i]);
         count_all_trees(&bench, &growths[i]);

@@ -23,9 +23,9 @@ import subprocess
 import sys
 import tempfile
 
-CALLS = ("start", "receive", "join", "leave", "route", "lost", "lookup_label", "lookup_name", "free_labels", "save", "restore")
+CALLS = ("start", "receive", "join", "leave", "route", "lost", "lookup_label", "lookup_name", "free_labels", "save", "restore", "serve")
 PREFIXES = {"proved": "card_", "older": "older_card_", "plain": "plain_"}
-GROUPS = {"": "counted", "routes": "a route order for a root of", "made": "an event of a made day"}
+GROUPS = {"": "counted", "routes": "a route order for a root of", "made": "an event of a made day", "box": "an octet through the box"}
 PROFILED = ("an event of an ordinary day", "a route order that moves 64 trees", "a loss that ends 64 branches",
             "a restore of a full card")
 DEAREST = 10
@@ -153,6 +153,8 @@ def count(args, side):
 
 
 def show(number):
+    if number == 0:
+        return ""
     return f"{number:,.0f}" if number >= 1000 else f"{number:.1f}".removesuffix(".0")
 
 

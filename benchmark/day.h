@@ -5,7 +5,7 @@
 #include <stddef.h>
 #include <stdint.h>
 
-enum order_kind { BAD, START, ROOM, TAKE, JOIN, LEAVE, ROUTE, LOST, LABEL, TREE, FREE, SAVE, RESTORE };
+enum order_kind { BAD, START, ROOM, TAKE, JOIN, LEAVE, ROUTE, LOST, LABEL, TREE, FREE, SAVE, RESTORE, SERVE };
 
 struct order {
     enum order_kind kind;

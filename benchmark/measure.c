@@ -1,5 +1,5 @@
 /*
- * measure main|routes|made DAY [REMARK]: a table of the times of the cards, taken in turns in one run. DAY is an ordinary
+ * measure main|routes|made|box DAY [REMARK]: a table of the times of the cards, taken in turns in one run. DAY is an ordinary
  * day. Each time is the best of PASSES x TURNS: what else the machine does only adds to a time.
  */
 #define _POSIX_C_SOURCE 199309L
@@ -86,7 +86,7 @@ static void print_row(const struct work *w, double times[2][MOST_SIDES])
 {
     printf("| %s |", w->what);
     for (size_t c = 0; c < column_count; c++)
-        print_number(times[0][c], 1);
+        print_number(times[0][c], times[0][c] < 10 ? 2 : 1);
     print_number(times[0][0] / best_plain(times[0]), 2);
     print_number(times[1][0] / best_plain(times[1]), 2);
     print_number(w->at_most, 2);
@@ -111,6 +111,7 @@ static const struct work_group *group_named(const char *name)
     return strcmp(name, "main") == 0     ? &main_works
            : strcmp(name, "routes") == 0 ? &route_works
            : strcmp(name, "made") == 0   ? &made_works
+           : strcmp(name, "box") == 0    ? &box_works
                                          : NULL;
 }
 
@@ -118,7 +119,7 @@ int main(int count, char **words)
 {
     const struct work_group *g = count < 3 ? NULL : group_named(words[1]);
     if (g == NULL || g->count > MOST_WORKS) {
-        fprintf(stderr, "usage: measure main|routes|made DAY [REMARK]\n");
+        fprintf(stderr, "usage: measure main|routes|made|box DAY [REMARK]\n");
         return 2;
     }
     open_work(words[2]);

@@ -4,6 +4,7 @@
 #pragma weak older_card_lost
 #pragma weak older_card_save
 #pragma weak older_card_restore
+#pragma weak older_card_serve
 
 uint32_t older_card_start(uint64_t *, uint32_t);
 size_t older_card_receive(uint64_t *, uint8_t *, uint32_t, const uint8_t *, size_t, uint8_t *, size_t, uint32_t *);
@@ -16,5 +17,7 @@ bool older_card_lookup_name(const uint64_t *, const uint8_t *, const uint8_t *, 
 uint32_t older_card_free_labels(const uint64_t *);
 size_t older_card_save(const uint64_t *, const uint8_t *, uint8_t *, size_t, uint32_t *);
 uint32_t older_card_restore(uint64_t *, uint8_t *, const uint8_t *, size_t, uint64_t *, uint8_t *, uint8_t *);
+size_t older_card_serve(uint64_t *, uint8_t *, uint64_t *, uint8_t *, size_t, uint32_t, const uint8_t *, const uint8_t *, size_t,
+                        uint8_t *, size_t, uint32_t *, size_t *);
 
 const struct side older = SIDE("older", older_card);

@@ -23,4 +23,9 @@ size_t plain_save(const uint64_t *numbers, const uint8_t *names, uint8_t *out, s
 uint32_t plain_restore(uint64_t *numbers, uint8_t *names, const uint8_t *octets, size_t octets_length,
                        uint64_t *spare_numbers, uint8_t *spare_names, uint8_t *spare_save);
 
+/* The session box over it: plain_box.c. */
+size_t plain_serve(uint64_t *numbers, uint8_t *names, uint64_t *stream, uint8_t *buffer, size_t buffer_length,
+                   uint32_t neighbour, const uint8_t *expected, const uint8_t *offered, size_t offered_length,
+                   uint8_t *out, size_t out_length, uint32_t *answer, size_t *eaten);
+
 #endif

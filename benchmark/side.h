@@ -18,12 +18,15 @@ struct side {
     uint32_t (*free_labels)(const uint64_t *);
     size_t (*save)(const uint64_t *, const uint8_t *, uint8_t *, size_t, uint32_t *);
     uint32_t (*restore)(uint64_t *, uint8_t *, const uint8_t *, size_t, uint64_t *, uint8_t *, uint8_t *);
+    size_t (*serve)(uint64_t *, uint8_t *, uint64_t *, uint8_t *, size_t, uint32_t, const uint8_t *, const uint8_t *, size_t,
+                    uint8_t *, size_t, uint32_t *, size_t *);
 };
 
 #define SIDE(name, prefix)                                                                                             \
     {                                                                                                                  \
         name, prefix##_start, prefix##_receive, prefix##_join, prefix##_leave, prefix##_route, prefix##_lost,          \
-            prefix##_lookup_label, prefix##_lookup_name, prefix##_free_labels, prefix##_save, prefix##_restore          \
+            prefix##_lookup_label, prefix##_lookup_name, prefix##_free_labels, prefix##_save, prefix##_restore,         \
+            prefix##_serve                                                                                             \
     }
 
 extern const struct side proved, plain;
@@ -40,6 +43,8 @@ struct bench {
     uint32_t answer;
     size_t written;
     bool leaf;
+    uint64_t stream[CARD_STREAM_NUMBERS]; /* of one neighbour */
+    _Alignas(CACHE_LINE) uint8_t buffer[CARD_STREAM_OCTETS];
     _Alignas(CACHE_LINE) uint64_t branches[CARD_NEIGHBOURS];
     _Alignas(CACHE_LINE) uint64_t spare_numbers[CARD_NUMBERS];
     _Alignas(CACHE_LINE) uint8_t spare_names[CARD_NAMES];

@@ -36,6 +36,8 @@ struct image {
     const struct work *work;
     uint64_t numbers[CARD_NUMBERS];
     uint8_t names[CARD_NAMES];
+    uint64_t stream[CARD_STREAM_NUMBERS];
+    uint8_t buffer[CARD_STREAM_OCTETS];
     struct kept kept;
 };
 
@@ -61,6 +63,8 @@ static void keep_image(struct image *i, const struct bench *b, const struct work
     i->work = w;
     memcpy(i->numbers, b->numbers, sizeof i->numbers);
     memcpy(i->names, b->names, sizeof i->names);
+    memcpy(i->stream, b->stream, sizeof i->stream);
+    memcpy(i->buffer, b->buffer, sizeof i->buffer);
 }
 
 struct kept *laid;
@@ -76,9 +80,18 @@ void prepare(struct bench *b, const struct work *w)
     }
     memcpy(b->numbers, i->numbers, sizeof b->numbers);
     memcpy(b->names, i->names, sizeof b->names);
+    if (w->asks == SERVE) {
+        memcpy(b->stream, i->stream, sizeof b->stream);
+        memcpy(b->buffer, i->buffer, sizeof b->buffer);
+    }
 }
 
 /* ---- the work */
+
+void fill_card(struct bench *b)
+{
+    fill(b, over_roots, CARD_ROOTS);
+}
 
 static void make_fresh(struct bench *b, const struct work *w)
 {
@@ -159,7 +172,7 @@ static size_t do_set_up(struct bench *b, const struct work *w, bool cleared)
 bool is_able(const struct side *s, const struct work *w)
 {
     return (w->asks != LOST || s->lost != NULL) && (w->asks != SAVE || s->save != NULL) &&
-           (w->asks != RESTORE || s->restore != NULL);
+           (w->asks != RESTORE || s->restore != NULL) && (w->asks != SERVE || s->serve != NULL);
 }
 
 size_t do_order(struct bench *b, bool cleared, struct order o, uint32_t answer)

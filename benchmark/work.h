@@ -3,6 +3,14 @@
 #define WORK_H
 
 #include "made.h"
+#include "stream.h"
+
+/* How a stream is cut, and a piece of it, on which so many calls are made. */
+enum cut { PDUS, MESSAGES, OCTETS };
+
+struct piece {
+    size_t at, length, calls;
+};
 
 struct work {
     const char *what;
@@ -17,6 +25,11 @@ struct work {
         bool few;               /* no label is free */
         uint32_t to, answer;
     } route;
+    struct {
+        void (*make)(struct stream_text *);
+        enum cut cut;
+        size_t from, count; /* of octets one at a time */
+    } box;
 };
 
 struct work_group {
@@ -25,7 +38,7 @@ struct work_group {
     size_t count;
 };
 
-extern const struct work_group main_works, route_works, made_works;
+extern const struct work_group main_works, route_works, made_works, box_works;
 
 enum { LONG_DAY = 100000 }; /* events; longer ones are done less often */
 
@@ -44,9 +57,17 @@ struct kept {
     uint8_t save[CARD_SAVE_MOST];
     size_t save_length;
     struct made_day day;
+    struct kept_stream {
+        struct stream_text text;
+        struct piece *pieces;
+        size_t count;
+    } stream;
 };
 
 extern struct kept *laid;
+
+/* 64 trees over 32 roots. */
+void fill_card(struct bench *b);
 
 size_t do_order(struct bench *b, bool cleared, struct order o, uint32_t answer);
 
