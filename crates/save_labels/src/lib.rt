@@ -71,7 +71,7 @@ fn read_uses(
 // ---- the label that each tree carries
 
 // The tree of the name that the label at place p is mapped for carries it from now on, unless it carries one already.
-fn give_label(numbers: &mut [u64], names: &[u8], tags: &[u64], p: usize)
+fn give_label(numbers: &mut [u64], names: &[u8], tags: &[u32], p: usize)
     requires { ⌜ Numbers (now numbers) × Names (now names) × (length (now tags) ≡ treeLimit) × Tagged (now tags) (treeCount (now numbers)) (now names) × (p < labelCount) × (onceEach sameName (cardOf (now numbers) (now names) .trees) ≡ true)
         × ((j : ℕ) → j < treeCount (now numbers) → treeAt j (cardOf (now numbers) (now names)) .label ≡ baseIn (now numbers) + p → ⊥) ⌝ }
     ensures { λ _. ⌜ (let c = cardOf (now (numbers .entry)) (now (names .entry)) in
@@ -95,7 +95,7 @@ fn label_trees(numbers: &mut [u64], names: &[u8])
     ensures { λ _. ⌜ (let c = cardOf (now (numbers .entry)) (now (names .entry)) in
         cardOf (now (numbers .exit)) (now (names .entry)) ≡ withTrees (allLabelled (c .base) (c .labels) (c .trees)) c) ⌝ }
 {
-    let mut tags = [0u64; TREE_LIMIT];
+    let mut tags = [0u32; TREE_LIMIT];
     save_tags::tree_tags(numbers, names, &mut tags);
     let mut p = 0;
     while p < LABEL_COUNT {

@@ -11,18 +11,18 @@ ghost use Rattle.memory.specs.Memory.{cardOf, treeCount, treeName};
 ghost use Rattle.save_tags.specs.Tags.{tagOf, Tagged};
 use meaning::TREE_LIMIT;
 
-fn tag(name: &[u8]) -> u64
+fn tag(name: &[u8]) -> u32
     ensures { λ r. ⌜ r ≡ tagOf (now (name .entry)) ⌝ }
 {
     let n = name.len();
     if n < 4 {
-        return octets::four_at(name, 0);
+        return octets::four_at(name, 0) as u32;
     }
-    octets::four_at(name, n - 4)
+    octets::four_at(name, n - 4) as u32
 }
 
 // The tags of all trees' names.
-pub fn tree_tags(numbers: &[u64], names: &[u8], tags: &mut [u64])
+pub fn tree_tags(numbers: &[u64], names: &[u8], tags: &mut [u32])
     requires { ⌜ Numbers (now numbers) × Names (now names) × (length (now tags) ≡ treeLimit) ⌝ }
     ensures { λ _. ⌜ Tagged (now (tags .exit)) (treeCount (now (numbers .entry))) (now (names .entry)) ⌝ }
 {
@@ -35,7 +35,7 @@ pub fn tree_tags(numbers: &[u64], names: &[u8], tags: &mut [u64])
 }
 
 // Whether the tree at place i has that name, whose tag is t.
-fn is_named(names: &[u8], tags: &[u64], i: usize, t: u64, name: &[u8]) -> bool
+fn is_named(names: &[u8], tags: &[u32], i: usize, t: u32, name: &[u8]) -> bool
     requires { ⌜ Names (now names) × (length (now tags) ≡ treeLimit) × (i < treeLimit) × (getD (now tags) i 0 ≡ tagOf (treeName (now names) i)) × (t ≡ tagOf (now name)) ⌝ }
     ensures { λ r. ⌜ r ≡ same (treeName (now (names .entry)) i) (now (name .entry)) ⌝ }
 {
@@ -46,7 +46,7 @@ fn is_named(names: &[u8], tags: &[u64], i: usize, t: u64, name: &[u8]) -> bool
 }
 
 // The place of the tree of that name, from place `from` on; the number of trees where it does not stand there.
-pub fn tagged_from(numbers: &[u64], names: &[u8], tags: &[u64], from: usize, name: &[u8]) -> usize
+pub fn tagged_from(numbers: &[u64], names: &[u8], tags: &[u32], from: usize, name: &[u8]) -> usize
     requires { ⌜ Numbers (now numbers) × Names (now names) × (length (now tags) ≡ treeLimit) × Tagged (now tags) (treeCount (now numbers)) (now names) × (from ≤ treeCount (now numbers)) ⌝ }
     ensures { λ r. ⌜ (r ≡ from + place (named (now (name .entry))) (drop from (cardOf (now (numbers .entry)) (now (names .entry)) .trees)))
         × (r ≤ treeCount (now (numbers .entry))) × (r ≤ treeLimit) ⌝ }
@@ -68,7 +68,7 @@ pub fn names_once(numbers: &[u64], names: &[u8]) -> bool
     requires { ⌜ Numbers (now numbers) × Names (now names) ⌝ }
     ensures { λ r. ⌜ r ≡ onceEach sameName (cardOf (now (numbers .entry)) (now (names .entry)) .trees) ⌝ }
 {
-    let mut tags = [0u64; TREE_LIMIT];
+    let mut tags = [0u32; TREE_LIMIT];
     tree_tags(numbers, names, &mut tags);
     let n = memory::tree_count(numbers);
     let mut i = 0;
