@@ -1,5 +1,5 @@
 -- Two lists compared part by part, from the end. Assumes nothing.
-use Prim.Native.Nat.{ℕ, zero, suc, _+_, _≤_, _<_}
+use Prim.Native.Nat.{ℕ, zero, suc, _+_, _-_, _≤_, _<_}
 use native.Mathlib.Nat.{le-of-suc-le-suc, not-suc-le-zero, zero-add, suc-add}
 use native.Mathlib.Numerals.{add-one}
 use native.Mathlib.Omega.{arith}
@@ -10,7 +10,7 @@ use lib.Seq.{drop-drop, drop-cons}
 use mathlib.Core.Bool.{true, false, _&&_}
 use lib.Dec.{eqb}
 use Rattle.meaning.specs.Octets.{same}
-use Rattle.meaning.specs.Lists.{by-test, same-eq, same-no}
+use Rattle.meaning.specs.Lists.{by-test, same-eq, same-no, same-refl}
 
 -- ---- a comparison from the end
 
@@ -55,3 +55,13 @@ same-before k i j a b e t p =
 
 pub same-before-at : (i : ℕ) (a b : List ℕ) → i < length a → i < length b → getD a i 0 ≡ getD b i 0 → drop (i + 1) a ≡ drop (i + 1) b → drop i a ≡ drop i b
 same-before-at i a b h l e p = rw (drop-cons a i 0 h, drop-cons b i 0 l, e, sym (add-one i), p) refl
+
+-- what is the same from place n on is the same where the first k are, which reach so far
+pub same-first : (k n : ℕ) (a b : List ℕ) → n ≤ k → drop n a ≡ drop n b → same (take k (drop 0 a)) (take k (drop 0 b)) ≡ same a b
+same-first k n a b h p =
+    let m : n + (k - n) ≡ k = omega arith in
+    let q : drop k a ≡ drop k b =
+    ap (λ (j : ℕ). drop j a) (sym m) ∙ sym (drop-drop (k - n) n a) ∙ ap (drop (k - n)) p ∙ drop-drop (k - n) n b ∙ ap (λ (j : ℕ). drop j b) m in
+    by-test (same (take k (drop 0 a)) (take k (drop 0 b)))
+    (λ t. let e : a ≡ b = same-before k 0 k a b (omega arith) t q in t ∙ sym (ap (same a) (sym e) ∙ same-refl a))
+    (λ t. t ∙ sym (same-part k 0 a b t))
