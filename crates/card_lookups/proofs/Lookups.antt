@@ -69,14 +69,6 @@ module _ (ns os : List ℕ) (l : ℕ) where
       far-off : baseIn ns ≤ l → labelCount ≤ l - baseIn ns
       far-off k = by-test (ltb l (baseIn ns + labelCount)) (λ e. absurd (h k (ltb-true _ _ e))) (λ e. omega (arith, ltb-false l (baseIn ns + labelCount) e))
 
-  pub mapped-inside : (mappedTo (useOf l (cardOf ns os)) ≡ noRoute → ⊥) → (baseIn ns ≤ l) × (l < baseIn ns + labelCount)
-  mapped-inside h =
-      by-test (leb (baseIn ns) l)
-      (λ x. by-test (ltb l (baseIn ns + labelCount))
-      (λ y. (leb-true _ _ x, ltb-true _ _ y))
-      (λ y. absurd (h (ap mappedTo (outside (λ _ k. omega (arith, ltb-false l (baseIn ns + labelCount) y))) ∙ unfold mappedTo in refl))))
-      (λ x. absurd (h (ap mappedTo (outside (λ k _. omega (arith, leb-false (baseIn ns) l x))) ∙ unfold mappedTo in refl)))
-
   pub none-found : mappedTo (useOf l (cardOf ns os)) ≡ noRoute → nothing ≡ lookupLabel l (cardOf ns os)
   unfolding lookupLabel
   none-found e =

@@ -6,6 +6,7 @@ ghost use Rattle.meaning.specs.Card.{treeAt, feedOf, lookupLabel, lookupName, n
 ghost use Rattle.memory.specs.Sizes.{Numbers, Names};
 ghost use Rattle.memory.specs.Memory.{cardOf, treeCount};
 ghost use Rattle.card_lookups.specs.Feed.{feedIn};
+use meaning::LABEL_COUNT;
 
 // Where the tree at place i leads while u is its upstream, whose own branch is held. The one place is cleared where the row
 // was laid, and nothing is read again: a load behind a store to a part of what it loads would wait for that store.
@@ -31,11 +32,15 @@ pub fn find_label(numbers: &[u64], label: u64, branches: &mut [u64; 16]) -> bool
     requires { ⌜ Numbers (now numbers) ⌝ }
     ensures { λ r. ⌜ ((os : List ℕ) → feedIn (now (branches .exit)) r ≡ lookupLabel label (cardOf (now (numbers .entry)) os)) ⌝ }
 {
-    let sender = memory_labels::mapped_to(numbers, label);
+    let p = memory_labels::place_in_block(numbers, label);
+    if LABEL_COUNT <= p {
+        return no_feed(branches);
+    }
+    let sender = memory_labels::mapped_at(numbers, p);
     if sender == 17 {
         return no_feed(branches);
     }
-    let i = memory_trees::carrier_place(numbers, label);
+    let i = memory_trees::carrier_at(numbers, p);
     if i < memory::tree_count(numbers) {
         return feed_at(numbers, i, sender, branches);
     }

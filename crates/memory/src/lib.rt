@@ -1,9 +1,11 @@
 // The card's memory: its head, and the texts and rows in it. The memory is two lent arrays; specs/Memory.antt says which card they
 // denote, and docs/MEMORY.md draws them. A function that sees the numbers alone speaks of every content of the octets.
 ghost use mathlib.Core.Path.{_≡_};
+ghost use mathlib.Core.Bool.{false};
 ghost use mathlib.Core.List.{List, _∷_};
 ghost use Prim.Native.Nat.{ℕ, _+_, _-_, _≤_, _<_};
 ghost use lib.ListN.{length, replicate};
+ghost use Rattle.meaning.specs.Octets.{same};
 ghost use Rattle.meaning.specs.Card.{turn, withNext, withLast, labelCount, routeLimit, treeLimit};
 ghost use Rattle.memory.specs.Sizes.{Numbers, Names, nameSpace};
 ghost use Rattle.memory.specs.Parts.{Written, Closed};
@@ -134,6 +136,26 @@ pub fn text(names: &[u8], k: usize, a: usize) -> &[u8]
     }
     let e = s + k;
     &names[s..e]
+}
+
+// Whether the text at place a may be s: false only where it is not. The last four octets of s are asked for where they would stand:
+// that is one comparison, and tells most texts apart.
+pub fn may_be(names: &[u8], k: usize, a: usize, s: &[u8]) -> bool
+    requires { ⌜ a + 1 + k ≤ length (now names) ⌝ }
+    ensures { λ r. ⌜ (r ≡ false → same (textAt k (now (names .entry)) a) (now (s .entry)) ≡ false) ⌝ }
+{
+    let n = s.len();
+    if n < 4 {
+        return true;
+    }
+    if k < n {
+        return true;
+    }
+    let e = a + n;
+    (names[e - 3] == s[n - 4])
+        & (names[e - 2] == s[n - 3])
+        & (names[e - 1] == s[n - 2])
+        & (names[e] == s[n - 1])
 }
 
 // How many octets the name of the tree at place i takes of its space, with its length before it.

@@ -1,14 +1,18 @@
 // The counts of a root's trees in the card's memory: what one tree counts, how a change of it is counted, and how all are worked out.
 ghost use mathlib.Core.Path.{_≡_};
+ghost use mathlib.Core.Bool.{false};
 ghost use mathlib.Core.List.{List};
 ghost use Prim.Native.Nat.{ℕ, _≤_, _<_};
 ghost use lib.ListN.{set};
-ghost use Rattle.meaning.specs.Octets.{count};
+ghost use lib.Dec.{eqb};
+ghost use Rattle.meaning.specs.Octets.{count, same};
 ghost use Rattle.meaning.specs.Wire.{rootIn};
 ghost use Rattle.meaning.specs.Card.{Tree, withTrees, withBranch, withLeaf, treeAt, isBranch, isEmpty, routePlace, treeLimit, routeLimit};
 ghost use Rattle.meaning.specs.Events.{ofRoot, total, inRoot, oneStanding, oneLone, changed, recounted};
 ghost use Rattle.memory.specs.Sizes.{Numbers, Names};
-ghost use Rattle.memory.specs.Memory.{cardOf, routeCount, treeCount};
+ghost use Rattle.memory.specs.Memory.{cardOf, routeCount, treeCount, treeName};
+use meaning::ROOT_LIMIT;
+use memory::NAME_SPACE;
 
 // How many trees stand, and how many of these are lone.
 pub struct Counts {
@@ -28,19 +32,23 @@ pub fn is_empty(numbers: &[u64], i: usize) -> bool
     !memory_trees::any_branch(numbers, i, 16, 0, 16)
 }
 
-fn branch_count(numbers: &[u64], i: usize) -> u64
+// Whether it has one branch and no more: the second that is found ends the search.
+fn is_single(numbers: &[u64], i: usize) -> bool
     requires { ⌜ Numbers (now numbers) × (i < treeCount (now numbers)) × (i < treeLimit) ⌝ }
-    ensures { λ r. ⌜ ((os : List ℕ) → r ≡ count isBranch (treeAt i (cardOf (now (numbers .entry)) os) .branches)) ⌝ }
+    ensures { λ r. ⌜ ((os : List ℕ) → r ≡ eqb (count isBranch (treeAt i (cardOf (now (numbers .entry)) os) .branches)) 1) ⌝ }
 {
-    let mut sum = 0;
+    let mut sum = 0u64;
     let mut n = 0;
     while n < 16 {
         if memory_trees::branch(numbers, i, n) != 0 {
+            if sum == 1 {
+                return false;
+            }
             sum += 1;
         }
         n += 1;
     }
-    sum
+    sum == 1
 }
 
 fn one_standing(numbers: &[u64], i: usize) -> u64
@@ -57,7 +65,7 @@ fn one_lone(numbers: &[u64], i: usize) -> u64
     if memory_trees::is_leaf(numbers, i) {
         return 0;
     }
-    if branch_count(numbers, i) == 1 { 1 } else { 0 }
+    if is_single(numbers, i) { 1 } else { 0 }
 }
 
 // ---- a change of one tree
@@ -128,11 +136,33 @@ pub fn change_leaf(numbers: &mut [u64], names: &[u8], i: usize, leaf: bool)
 
 // ---- all trees of a root
 
+// Whether it may be of that root: false only where it is not. The root's last four octets are asked for where they would stand.
+fn may_be_of(names: &[u8], i: usize, root: &[u8]) -> bool
+    requires { ⌜ Names (now names) × (i < treeLimit) ⌝ }
+    ensures { λ r. ⌜ (r ≡ false → same (rootIn (treeName (now (names .entry)) i)) (now (root .entry)) ≡ false) ⌝ }
+{
+    let n = root.len();
+    if n < 4 {
+        return true;
+    }
+    if ROOT_LIMIT < n {
+        return true;
+    }
+    let e = i * NAME_SPACE + n;
+    (names[e + 1] == root[n - 4])
+        & (names[e + 2] == root[n - 3])
+        & (names[e + 3] == root[n - 2])
+        & (names[e + 4] == root[n - 1])
+}
+
 pub fn is_of_root(names: &[u8], i: usize, root: &[u8]) -> bool
     requires { ⌜ Names (now names) × (i < treeLimit) ⌝ }
     ensures { λ r. ⌜ ((ns : List ℕ) → i < treeCount ns → r ≡ ofRoot (now (root .entry)) (treeAt i (cardOf ns (now (names .entry))))) ⌝ }
 {
-    octets::equal(wire_name::root_of(memory_trees::tree_name(names, i)), root)
+    if may_be_of(names, i, root) {
+        return octets::equal(wire_name::root_of(memory_trees::tree_name(names, i)), root);
+    }
+    false
 }
 
 // The counts of a root, worked out.

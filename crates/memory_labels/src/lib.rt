@@ -66,31 +66,16 @@ pub fn awaited_at(numbers: &[u64], p: usize) -> u64
     numbers[MARK_COLUMN + p] % 256 - 16
 }
 
-// The place of a label in the block; 256 where it is not of the block.
+// The place of a label in the block; 256 where it is not of the block. One test: of a label below the base the difference wraps far above.
 pub fn place_in_block(numbers: &[u64], label: u64) -> usize
     requires { ⌜ Numbers (now numbers) ⌝ }
     ensures { λ r. ⌜ InBlock (now (numbers .entry)) label r ⌝ }
 {
-    let b = memory::base(numbers);
-    if label < b {
+    let d = std::num::wrapping_sub_u64(label, memory::base(numbers));
+    if LABELS <= d {
         return LABEL_COUNT;
     }
-    if LABELS <= label - b {
-        return LABEL_COUNT;
-    }
-    (label - b) as usize
-}
-
-// The neighbour to which a label is mapped; 17 for none.
-pub fn mapped_to(numbers: &[u64], label: u64) -> u64
-    requires { ⌜ Numbers (now numbers) ⌝ }
-    ensures { λ r. ⌜ ((os : List ℕ) → r ≡ mappedTo (useOf label (cardOf (now (numbers .entry)) os))) × (r ≤ 17) ⌝ }
-{
-    let p = place_in_block(numbers, label);
-    if LABEL_COUNT <= p {
-        return 17;
-    }
-    mapped_at(numbers, p)
+    d as usize
 }
 
 pub fn label_name(names: &[u8], p: usize) -> &[u8]

@@ -1,12 +1,12 @@
 // Routes in the card's memory: what is asked of them, and how they come and go.
 ghost use mathlib.Core.Path.{_≡_};
 ghost use mathlib.Core.List.{List, [], _∷_, _++_};
-ghost use Prim.Native.Nat.{ℕ, _+_, _-_, _≤_, _<_};
+ghost use Prim.Native.Nat.{ℕ, _+_, _*_, _-_, _≤_, _<_};
 ghost use lib.ListN.{length, set};
-ghost use Rattle.meaning.specs.Octets.{put, cut};
+ghost use Rattle.meaning.specs.Octets.{put, cut, same};
 ghost use Rattle.meaning.specs.Wire.{rootLimit};
 ghost use Rattle.meaning.specs.Card.{withRoutes, withCounts, routePlace, routeLimit, routeOf};
-ghost use Rattle.memory.specs.Sizes.{Numbers, Names};
+ghost use Rattle.memory.specs.Sizes.{Numbers, Names, rootNames, rootSpace};
 ghost use Rattle.memory.specs.Memory.{cardOf, routeCount, rootName, routeIn, entryIn};
 use meaning::ROOT_LIMIT;
 use memory::ROOT_NAMES;
@@ -44,32 +44,51 @@ pub fn lone(numbers: &[u64], i: usize) -> u64
     numbers[ROUTE_COLUMN + i] / 65536 % 256
 }
 
+// Whether the root at place i, whose space begins at a, is that one.
+fn is_root(names: &[u8], i: usize, a: usize, root: &[u8]) -> bool
+    requires { ⌜ Names (now names) × (i < routeLimit) × (a ≡ rootNames + i * rootSpace) ⌝ }
+    ensures { λ r. ⌜ r ≡ same (rootName (now (names .entry)) i) (now (root .entry)) ⌝ }
+{
+    if memory::may_be(names, ROOT_LIMIT, a, root) {
+        return octets::equal(root_name(names, i), root);
+    }
+    false
+}
+
 pub fn route_place(numbers: &[u64], names: &[u8], root: &[u8]) -> usize
     requires { ⌜ Numbers (now numbers) × Names (now names) ⌝ }
     ensures { λ r. ⌜ (r ≡ routePlace (now (root .entry)) (cardOf (now (numbers .entry)) (now (names .entry)))) × (r ≤ routeCount (now (numbers .entry))) × (r ≤ routeLimit) ⌝ }
 {
     let n = memory::route_count(numbers);
+    let mut a = ROOT_NAMES;
     let mut i = 0;
     while i < n {
-        if octets::equal(root_name(names, i), root) {
+        if is_root(names, i, a, root) {
             return i;
         }
+        a += ROOT_SPACE;
         i += 1;
     }
     n
 }
 
-// The route of a root: 0 to 15 a neighbour, 16 this node, 17 no route.
-pub fn route_of(numbers: &[u64], names: &[u8], root: &[u8]) -> u64
-    requires { ⌜ Numbers (now numbers) × Names (now names) ⌝ }
-    ensures { λ r. ⌜ r ≡ routeOf (now (root .entry)) (cardOf (now (numbers .entry)) (now (names .entry))) ⌝ }
+// The route of the root whose place is i: 0 to 15 a neighbour, 16 this node, 17 no route.
+pub fn route_at(numbers: &[u64], i: usize) -> u64
+    requires { ⌜ Numbers (now numbers) ⌝ }
+    ensures { λ r. ⌜ ((os root : List ℕ) → i ≡ routePlace root (cardOf (now (numbers .entry)) os) → r ≡ routeOf root (cardOf (now (numbers .entry)) os)) ⌝ }
 {
-    let i = route_place(numbers, names, root);
     if i < memory::route_count(numbers) {
         numbers[ROUTE_COLUMN + i] % 256
     } else {
         17
     }
+}
+
+pub fn route_of(numbers: &[u64], names: &[u8], root: &[u8]) -> u64
+    requires { ⌜ Numbers (now numbers) × Names (now names) ⌝ }
+    ensures { λ r. ⌜ r ≡ routeOf (now (root .entry)) (cardOf (now (numbers .entry)) (now (names .entry))) ⌝ }
+{
+    route_at(numbers, route_place(numbers, names, root))
 }
 
 // ---- what changes in one place

@@ -2,14 +2,15 @@
 ghost use mathlib.Core.Path.{_≡_};
 ghost use mathlib.Core.Bool.{true, false};
 ghost use mathlib.Core.List.{List};
-ghost use Prim.Native.Nat.{ℕ, _+_, _-_, _≤_, _<_};
+ghost use mathlib.Core.Logic.{_⊎_};
+ghost use Prim.Native.Nat.{ℕ, _+_, _*_, _-_, _≤_, _<_};
 ghost use lib.ListN.{length, getD, set};
-ghost use Rattle.meaning.specs.Octets.{place, any};
+ghost use Rattle.meaning.specs.Octets.{place, any, same};
 ghost use Rattle.meaning.specs.Wire.{nameLimit};
 ghost use Rattle.meaning.specs.Card.{withTrees, withBranch, withLeaf, treePlace, treeAt, isBranch, useOf, heldFor, carries, labelCount, treeLimit};
 ghost use Rattle.meaning.specs.Events.{setUse, setLabel, ended};
-ghost use Rattle.memory.specs.Sizes.{Numbers, Names};
-ghost use Rattle.memory.specs.Memory.{cardOf, baseIn, treeCount, treeName, carriesAt, ownPlace};
+ghost use Rattle.memory.specs.Sizes.{Numbers, Names, nameSpace};
+ghost use Rattle.memory.specs.Memory.{cardOf, baseIn, treeCount, treeName, isMappedAt, carriesAt, ownPlace};
 use meaning::NAME_LIMIT;
 use memory::BRANCH_COLUMN;
 use memory::LABELS;
@@ -97,32 +98,54 @@ pub fn branches(numbers: &[u64], i: usize) -> [u64; 16]
     ]
 }
 
-// The branch of neighbour k, once that of neighbour n is x (16: nobody's changes).
-fn branch_then(numbers: &[u64], i: usize, n: usize, x: u64, k: usize) -> u64
-    requires { ⌜ Numbers (now numbers) × (i < treeCount (now numbers)) × (i < treeLimit) × (k < 16) ⌝ }
-    ensures { λ r. ⌜ ((os : List ℕ) → r ≡ getD (set (treeAt i (cardOf (now (numbers .entry)) os) .branches) n x) k 0) ⌝ }
+fn is_other(k: usize, n: usize, but: usize) -> bool
+    ensures { λ r. ⌜ (r ≡ true → (k ≡ n → ⊥) × (k ≡ but → ⊥)) × (r ≡ false → (k ≡ n) ⊎ (k ≡ but)) ⌝ }
 {
     if k == n {
-        return x;
+        return false;
     }
-    branch(numbers, i, k)
+    k != but
 }
 
-// Whether the tree then has a branch, apart from that of neighbour `but` (16: none apart).
-pub fn any_branch(numbers: &[u64], i: usize, n: usize, x: u64, but: usize) -> bool
+// Whether the tree has a branch of another neighbour than n and `but`. A branch that is not there takes one test.
+fn any_other(numbers: &[u64], i: usize, n: usize, but: usize) -> bool
     requires { ⌜ Numbers (now numbers) × (i < treeCount (now numbers)) × (i < treeLimit) ⌝ }
-    ensures { λ r. ⌜ ((os : List ℕ) → r ≡ any isBranch (set (set (treeAt i (cardOf (now (numbers .entry)) os) .branches) n x) but 0)) ⌝ }
+    ensures { λ r. ⌜ ((os : List ℕ) → r ≡ any isBranch (set (set (treeAt i (cardOf (now (numbers .entry)) os) .branches) n 0) but 0)) ⌝ }
 {
     let mut k = 0;
     while k < 16 {
-        if k != but {
-            if branch_then(numbers, i, n, x, k) != 0 {
+        if branch(numbers, i, k) != 0 {
+            if is_other(k, n, but) {
                 return true;
             }
         }
         k += 1;
     }
     false
+}
+
+// Whether the branch x of neighbour n is one, apart from that of neighbour `but`.
+fn is_one(n: usize, x: u64, but: usize) -> bool
+    ensures { λ r. ⌜ (r ≡ true → (x ≡ 0 → ⊥) × (n < 16) × (n ≡ but → ⊥)) × (r ≡ false → (x ≡ 0) ⊎ ((16 ≤ n) ⊎ (n ≡ but))) ⌝ }
+{
+    if x == 0 {
+        return false;
+    }
+    if 16 <= n {
+        return false;
+    }
+    n != but
+}
+
+// Whether the tree has a branch, once that of neighbour n is x (16: nobody's changes), apart from that of neighbour `but` (16: none apart).
+pub fn any_branch(numbers: &[u64], i: usize, n: usize, x: u64, but: usize) -> bool
+    requires { ⌜ Numbers (now numbers) × (i < treeCount (now numbers)) × (i < treeLimit) ⌝ }
+    ensures { λ r. ⌜ ((os : List ℕ) → r ≡ any isBranch (set (set (treeAt i (cardOf (now (numbers .entry)) os) .branches) n x) but 0)) ⌝ }
+{
+    if is_one(n, x, but) {
+        return true;
+    }
+    any_other(numbers, i, n, but)
 }
 
 pub fn tree_name(names: &[u8], i: usize) -> &[u8]
@@ -132,17 +155,30 @@ pub fn tree_name(names: &[u8], i: usize) -> &[u8]
     memory::text(names, NAME_LIMIT, i * NAME_SPACE)
 }
 
+// Whether the tree at place i, whose name's space begins at a, has that name.
+fn is_named(names: &[u8], i: usize, a: usize, name: &[u8]) -> bool
+    requires { ⌜ Names (now names) × (i < treeLimit) × (a ≡ i * nameSpace) ⌝ }
+    ensures { λ r. ⌜ r ≡ same (treeName (now (names .entry)) i) (now (name .entry)) ⌝ }
+{
+    if memory::may_be(names, NAME_LIMIT, a, name) {
+        return octets::equal(tree_name(names, i), name);
+    }
+    false
+}
+
 // The place of the tree of that name; the number of trees where it does not stand.
 pub fn tree_place(numbers: &[u64], names: &[u8], name: &[u8]) -> usize
     requires { ⌜ Numbers (now numbers) × Names (now names) ⌝ }
     ensures { λ r. ⌜ (r ≡ treePlace (now (name .entry)) (cardOf (now (numbers .entry)) (now (names .entry)))) × (r ≤ treeCount (now (numbers .entry))) × (r ≤ treeLimit) ⌝ }
 {
     let n = memory::tree_count(numbers);
+    let mut a = 0;
     let mut i = 0;
     while i < n {
-        if octets::equal(tree_name(names, i), name) {
+        if is_named(names, i, a, name) {
             return i;
         }
+        a += NAME_SPACE;
         i += 1;
     }
     n
@@ -178,22 +214,23 @@ pub fn held_for(numbers: &[u64], i: usize) -> u64
     }
 }
 
-// The place of the tree that carries a label of the block; the number of trees where none does. The label's mark names it.
-pub fn carrier_place(numbers: &[u64], label: u64) -> usize
-    requires { ⌜ Numbers (now numbers) × (baseIn (now numbers) ≤ label) × (label < baseIn (now numbers) + labelCount) ⌝ }
-    ensures { λ r. ⌜ ((os : List ℕ) → r ≡ place (carries label) (cardOf (now (numbers .entry)) os .trees)) × (r ≤ treeCount (now (numbers .entry))) × (r ≤ treeLimit) ⌝ }
+// The place of the tree that carries the label at place p of the block, which is mapped; the number of trees where none does. The
+// label's mark names it.
+pub fn carrier_at(numbers: &[u64], p: usize) -> usize
+    requires { ⌜ Numbers (now numbers) × (p < labelCount) × (isMappedAt (now numbers) p ≡ true) ⌝ }
+    ensures { λ r. ⌜ ((os : List ℕ) (label : ℕ) → label ≡ baseIn (now (numbers .entry)) + p → r ≡ place (carries label) (cardOf (now (numbers .entry)) os .trees))
+        × (r ≤ treeCount (now (numbers .entry))) × (r ≤ treeLimit) ⌝ }
 {
-    let p = label - memory::base(numbers);
     let n = memory::tree_count(numbers);
-    let k = p as usize;
-    if memory_labels::mapped_at(numbers, k) == 17 {
-        return n;
-    }
-    let i = (numbers[MARK_COLUMN + k] / 256) as usize;
+    let i = (numbers[MARK_COLUMN + p] / 256) as usize;
     if n <= i {
         return n;
     }
-    if numbers[OWN_COLUMN + i] == p { i } else { n }
+    if numbers[OWN_COLUMN + i] == p as u64 {
+        i
+    } else {
+        n
+    }
 }
 
 // The label that the tree carries awaits release from now on, and the tree carries none: a label that is not mapped has no carrier.

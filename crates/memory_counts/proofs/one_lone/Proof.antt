@@ -11,15 +11,15 @@ is-leaf-requires c κs = search needs
 returns : tie.Need-returns
 returns c = ((λ os. lone-leaf _ (sym (c .if1 .taken) ∙ c .before .is-leaf .ensures os)), omega arith)
 
-branch-count-requires : tie.Need-branch-count-requires
-branch-count-requires c κs = search needs
+is-single-requires : tie.Need-is-single-requires
+is-single-requires c κs = search needs
 
 returns-2 : tie.Need-returns-2
-returns-2 c = ((λ os. lone-once _ _ (sym (c .before .before .if1 .left) ∙ c .before .before .before .is-leaf .ensures os) (c .before .branch-count .ensures os) (c .if2 .taken)), omega arith)
+returns-2 c = ((λ os. lone-once _ _ (sym (c .before .before .if1 .left) ∙ c .before .before .before .is-leaf .ensures os) (c .before .is-single .ensures os) (c .if2 .taken)), omega arith)
 
 returns-3 : tie.Need-returns-3
-returns-3 c = ((λ os. lone-not _ _ (sym (c .before .before .if1 .left) ∙ c .before .before .before .is-leaf .ensures os) (c .before .branch-count .ensures os) (c .if2 .left)), omega arith)
+returns-3 c = ((λ os. lone-not _ _ (sym (c .before .before .if1 .left) ∙ c .before .before .before .is-leaf .ensures os) (c .before .is-single .ensures os) (c .if2 .left)), omega arith)
 
 pub one-lone-spec : {M : Type 1} → statement M
 one-lone-spec =
-    tie.close (tie.spec is-leaf-requires returns branch-count-requires returns-2 returns-3)
+    tie.close (tie.spec is-leaf-requires returns is-single-requires returns-2 returns-3)

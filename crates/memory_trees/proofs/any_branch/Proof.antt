@@ -1,75 +1,39 @@
-use Prim.Native.Nat.{ℕ, _-_, _≤_}
-use native.Mathlib.Omega.{arith}
-use mathlib.Core.Path.{_≡_, refl, sym, _∙_}
-use mathlib.Core.Logic.{⊎-elim}
+use mathlib.Core.Path.{sym, ap, _∙_}
+use mathlib.Core.Logic.{⊎-elim, inl, inr}
 use mathlib.Core.List.{List}
-use lib.ListN.{drop, set, length-set}
+use Prim.Native.Nat.{ℕ}
+use native.Mathlib.Omega.{arith}
 use borrow.Author.Needs.{needs}
 use Rattle.meaning.specs.Octets.{any}
 use Rattle.meaning.specs.Card.{isBranch, treeAt}
 use Rattle.memory.specs.Memory.{cardOf}
-use Rattle.memory.proofs.Trees.{branches-length, others-but, others-miss, others-hit, others-none}
+use Rattle.memory.proofs.Trees.{branches-length}
+use Rattle.memory_trees.proofs.Others.{one-leads, one-not}
 use Rattle.memory_trees.proofs.any_branch.Statement.{statement}
 use Rattle.memory_trees.proofs.any_branch.Tie as tie
 
-abbrev Inv-loop : tie.InvT-loop
-Inv-loop numbers i n x but k₀ k = (k ≤ 16) × ((os : List ℕ) → any isBranch (set (set (treeAt i (cardOf numbers os) .branches) n x) but 0) ≡ any isBranch (drop k (set (set (treeAt i (cardOf numbers os) .branches) n x) but 0)))
+is-one-requires : tie.Need-is-one-requires
+is-one-requires c κs = search needs
 
-abbrev μ-loop : tie.MeasureT-loop
-μ-loop numbers i n x but k₀ k = 16 - k
-
-loop-holds : tie.Need-loop-holds Inv-loop μ-loop
-loop-holds c = (omega arith, (λ os. refl))
-
-branch-then-requires : tie.Need-branch-then-requires Inv-loop μ-loop
-branch-then-requires c κs = search needs
-
-returns : tie.Need-returns Inv-loop μ-loop
+returns : tie.Need-returns
 returns c = λ os.
-    let l = c .before .before .before in
-    let s = l .before .before .before in
-    let bs = set (treeAt (s .args .i) (cardOf (s .args .numbers .now) os) .branches) (s .args .n) (s .args .x) in
-    let n16 = length-set (treeAt (s .args .i) (cardOf (s .args .numbers .now) os) .branches) (s .args .n) (s .args .x) ∙ branches-length (s .args .numbers .now) os (s .args .i) (s .pre .1) in
-    sym (l .before .loop .inv .1 os ∙ others-hit bs (s .args .but) (l .before .loop .k) _ (omega arith) (c .before .before .if1 .taken) (c .before .branch-then .ensures os) (c .if2 .taken))
-
-add-k : tie.Need-add-k Inv-loop μ-loop
-add-k c = search needs
-
-loop-less : tie.Need-loop-less Inv-loop μ-loop
-loop-less c = search needs
-
-loop-again : tie.Need-loop-again Inv-loop μ-loop
-loop-again c =
-    let l = c .before in
-    let s = l .before .before .before in (
-      omega arith,
-      λ os.
-          let bs = set (treeAt (s .args .i) (cardOf (s .args .numbers .now) os) .branches) (s .args .n) (s .args .x) in
-          let n16 = length-set (treeAt (s .args .i) (cardOf (s .args .numbers .now) os) .branches) (s .args .n) (s .args .x) ∙ branches-length (s .args .numbers .now) os (s .args .i) (s .pre .1) in
-          l .before .loop .inv .1 os
-          ∙ ⊎-elim
-          (λ w. others-miss bs (s .args .but) (l .before .loop .k) _ (omega arith) (w .0 .taken) (w .1 .ensures os) (w .2 .left))
-          (λ w. others-but bs (s .args .but) (l .before .loop .k) (omega arith) (w .left))
-          (c .if1 .came),
-    )
-
-returns-2 : tie.Need-returns-2 Inv-loop μ-loop
-returns-2 c = λ os.
     let s = c .before .before .before in
-    let bs = set (treeAt (s .args .i) (cardOf (s .args .numbers .now) os) .branches) (s .args .n) (s .args .x) in
-    let n16 = length-set (treeAt (s .args .i) (cardOf (s .args .numbers .now) os) .branches) (s .args .n) (s .args .x) ∙ branches-length (s .args .numbers .now) os (s .args .i) (s .pre .1) in
-    sym (c .before .loop .inv .1 os ∙ others-none bs (s .args .but) (c .before .loop .k) (omega arith))
+    let a = s .args in
+    let n16 = branches-length (a .numbers .now) os (a .i) (s .pre .1) in
+    let one = c .before .is-one .ensures .0 (c .if1 .taken) in
+    sym (one-leads (treeAt (a .i) (cardOf (a .numbers .now) os) .branches) (a .n) (a .but) (a .x) (one .0) (omega (arith, n16, one .1)) (one .2))
+
+any-other-requires : tie.Need-any-other-requires
+any-other-requires c κs = search needs
+
+returns-2 : tie.Need-returns-2
+returns-2 c = λ os.
+    let s = c .before .before .before .before in
+    let a = s .args in
+    let n16 = branches-length (a .numbers .now) os (a .i) (s .pre .1) in
+    let none = c .before .before .is-one .ensures .1 (c .before .if1 .left) in
+    c .any-other .ensures os
+    ∙ ap (any isBranch) (one-not (treeAt (a .i) (cardOf (a .numbers .now) os) .branches) (a .n) (a .but) (a .x) (⊎-elim (λ z. inl z) (⊎-elim (λ h. inr (inl (omega (arith, n16, h)))) (λ q. inr (inr q))) none))
 
 pub any-branch-spec : {M : Type 1} → statement M
-any-branch-spec =
-    tie.close
-    (tie.spec
-    Inv-loop
-    μ-loop
-    loop-holds
-    branch-then-requires
-    returns
-    add-k
-    loop-less
-    loop-again
-    returns-2)
+any-branch-spec = tie.close (tie.spec is-one-requires returns any-other-requires returns-2)
