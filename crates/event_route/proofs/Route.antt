@@ -114,12 +114,13 @@ few-walk c r via u k b q eu ek e = rw q (unfold runsOut in sym (ap (labelsShort 
 
 -- ---- the order by its cases
 
-pub full-is : (c : Card) (r : List ℕ) (via : ℕ) → (routeOf r c ≡ via → ⊥) → (eqb (routeOf r c) noRoute && leb routeLimit (length (c .routes))) ≡ routesFull c r via
+pub full-is : (c : Card) (r : List ℕ) (via old : ℕ) → old ≡ routeOf r c → (routeOf r c ≡ via → ⊥) → (eqb old noRoute && leb routeLimit (length (c .routes))) ≡ routesFull c r via
 unfolding routesFull
-full-is c r via ne =
-    by-test (eqb (routeOf r c) noRoute)
+full-is c r via old was ne =
+    rw was
+    (by-test (eqb (routeOf r c) noRoute)
     (λ e. rw (e, ne-eqb via noRoute (λ z. ne (eqb-true _ _ e ∙ sym z))) refl)
-    (λ e. rw e refl)
+    (λ e. rw e refl))
 
 pub order-same : (c : Card) (r : List ℕ) (via : ℕ) (s : List ℕ) → routeOf r c ≡ via → Does (finish (length s) c (routeOrder c r via)) 0 0 s s c
 unfolding routeOrder
@@ -171,7 +172,7 @@ module _ (c : Card) (r : List ℕ) (via : ℕ) (ne : routeOf r c ≡ via → ⊥
       walk-enough e = unfold runsOut labelsShort in ltb-false _ _ (second (quickNo c r via) _ e)
 
       few : routeOf r c ≡ noRoute → routesFull c r via ≡ false → length (c .routes) < routeLimit
-      few none full = leb-false routeLimit (length (c .routes)) (rw (eq-eqb (routeOf r c) noRoute none) at (full-is c r via ne ∙ full))
+      few none full = leb-false routeLimit (length (c .routes)) (rw (eq-eqb (routeOf r c) noRoute none) at (full-is c r via (routeOf r c) refl ne ∙ full))
 
   pub order-done : k ≡ 0 → (s' : List ℕ) (e : Card) (end : ℕ) → Ended (movedTo c r via) (c .next) 0 s s' e end → Does (finish (length s) c (routeOrder c r via)) 0 end s s' e
   order-done q s' e end w =
@@ -225,3 +226,9 @@ moved-room c d r u via e p q =
     let long : length (d .routes) ≡ length (c .routes) = ap (λ (l : List Route). length l) same in
     let ok = p (sym (same-place r c d same) ∙ q ∙ long) in
     (ok .0, rw long (ok .1))
+
+pub moved-place : (c d : Card) (r : List ℕ) (u i : ℕ) → d ≡ moveAll r u c .card → i ≡ routePlace r c → i ≤ length (c .routes) → (i ≡ routePlace r d) × (i ≤ length (d .routes))
+moved-place c d r u i e p h =
+    let same : d .routes ≡ c .routes = ap (λ (x : Card). x .routes) e ∙ all-routes r u c in
+    let long : length (d .routes) ≡ length (c .routes) = ap (λ (l : List Route). length l) same in
+    (p ∙ sym (same-place r c d same), rw long h)

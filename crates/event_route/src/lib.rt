@@ -18,25 +18,23 @@ ghost use Rattle.event_route.specs.Order.{labelsFew, routesTo, movedTo, 
 use meaning::ROUTE_LIMIT;
 use memory_counts::Counts;
 
-// 15, for a root whose route is to be another.
-fn routes_full(numbers: &[u64], names: &[u8], root: &[u8]) -> bool
-    requires { ⌜ Numbers (now numbers) × Names (now names) ⌝ }
-    ensures { λ r. ⌜ (let c = cardOf (now (numbers .entry)) (now (names .entry)) in r ≡ (eqb (routeOf (now (root .entry)) c) noRoute
-        && leb routeLimit (length (c .routes)))) ⌝ }
+// 15, for a root whose route was `old` and is to be another.
+fn routes_full(numbers: &[u64], old: u64) -> bool
+    requires { ⌜ Numbers (now numbers) ⌝ }
+    ensures { λ r. ⌜ ((os : List ℕ) → r ≡ (eqb old noRoute && leb routeLimit (length (cardOf (now (numbers .entry)) os .routes)))) ⌝ }
 {
-    if memory_routes::route_of(numbers, names, root) == 17 {
+    if old == 17 {
         return ROUTE_LIMIT <= memory::route_count(numbers);
     }
     false
 }
 
-// The counts of the root's entry; for a new one they are worked out.
-fn entry_counts(numbers: &[u64], names: &[u8], root: &[u8]) -> Counts
-    requires { ⌜ Numbers (now numbers) × Names (now names) ⌝ }
+// The counts of the root's entry, whose place is k; for a new one they are worked out.
+fn entry_counts(numbers: &[u64], names: &[u8], k: usize, root: &[u8]) -> Counts
+    requires { ⌜ Numbers (now numbers) × Names (now names) × (k ≡ routePlace (now root) (cardOf (now numbers) (now names))) ⌝ }
     ensures { λ r. ⌜ (let e = entryOf (now (root .entry)) (cardOf (now (numbers .entry)) (now (names .entry))) in (r .standing ≡ e .standing) × (r .lone ≡ e .lone)
         × (r .standing < 256) × (r .lone < 256)) ⌝ }
 {
-    let k = memory_routes::route_place(numbers, names, root);
     if k < memory::route_count(numbers) {
         let standing = memory_routes::standing(numbers, k);
         let lone = memory_routes::lone(numbers, k);
@@ -65,6 +63,7 @@ fn route_refusal(
     numbers: &[u64],
     names: &[u8],
     root: &[u8],
+    old: u64,
     via: u64,
     u: u64,
     standing: u64,
@@ -72,11 +71,11 @@ fn route_refusal(
     room: usize,
 ) -> u32
     requires { ⌜ (let c = cardOf (now numbers) (now names) in Numbers (now numbers) × Names (now names) × (u ≡ upstream via) × (routeOf (now root) c ≡ via → ⊥)
-        × (standing ≡ entryOf (now root) c .standing) × (lone ≡ entryOf (now root) c .lone)) ⌝ }
+        × (standing ≡ entryOf (now root) c .standing) × (lone ≡ entryOf (now root) c .lone) × (old ≡ routeOf (now root) c)) ⌝ }
     ensures { λ r. ⌜ (let c = cardOf (now (numbers .entry)) (now (names .entry)) in r ≡ 15 when routesFull c (now (root .entry)) via else 12 when labelsFew c (now (root .entry)) via
         else 16 when ltb room (sizeAll (now (root .entry)) (upstream via) c) else 0) ⌝ }
 {
-    if routes_full(numbers, names, root) {
+    if routes_full(numbers, old) {
         return 15;
     }
     if surely_short(numbers, via, standing, lone) {
@@ -93,15 +92,22 @@ fn route_refusal(
     0
 }
 
-// The root's entry: anew, or gone where there is no route.
-fn set_route(numbers: &mut [u64], names: &mut [u8], root: &[u8], via: u64, standing: u64, lone: u64)
+// The root's entry, whose place is i: anew, or gone where there is no route.
+fn set_route(
+    numbers: &mut [u64],
+    names: &mut [u8],
+    i: usize,
+    root: &[u8],
+    via: u64,
+    standing: u64,
+    lone: u64,
+)
     requires { ⌜ (let c = cardOf (now numbers) (now names) in Numbers (now numbers) × Names (now names) × (length (now root) ≤ rootLimit)
         × (routePlace (now root) c ≡ length (c .routes) → (via ≡ 17 → ⊥) × (length (c .routes) < routeLimit))
-        × (via ≤ 17) × (standing < 256) × (lone < 256)) ⌝ }
+        × (via ≤ 17) × (standing < 256) × (lone < 256) × (i ≡ routePlace (now root) c) × (i ≤ length (c .routes))) ⌝ }
     ensures { λ _. ⌜ (let c = cardOf (now (numbers .entry)) (now (names .entry)) in (cardOf (now (numbers .exit)) (now (names .exit)))
         ≡ withRoutes (routesTo c (record { root = now (root .entry); via = via; standing = standing; lone = lone })) c) ⌝ }
 {
-    let i = memory_routes::route_place(numbers, names, root);
     if via == 17 {
         memory_routes::remove_route(numbers, names, i);
         return;
@@ -112,6 +118,7 @@ fn set_route(numbers: &mut [u64], names: &mut [u8], root: &[u8], via: u64, stand
 fn re_route(
     numbers: &mut [u64],
     names: &mut [u8],
+    i: usize,
     root: &[u8],
     via: u64,
     u: u64,
@@ -122,12 +129,12 @@ fn re_route(
     requires { ⌜ (let c = cardOf (now numbers) (now names) in Numbers (now numbers) × Names (now names) × (length (now root) ≤ rootLimit) × (u ≡ upstream via) × (u ≤ 17) × (u ≡ 16 → ⊥)
         × (routePlace (now root) c ≡ length (c .routes) → (via ≡ 17 → ⊥) × (length (c .routes) < routeLimit))
         × (needAll (now root) u c ≤ freeLabels c) × (sizeAll (now root) u c ≤ length (now out))
-        × (via ≤ 17) × (standing ≡ entryOf (now root) c .standing) × (lone ≡ entryOf (now root) c .lone) × (standing < 256) × (lone < 256)) ⌝ }
+        × (via ≤ 17) × (standing ≡ entryOf (now root) c .standing) × (lone ≡ entryOf (now root) c .lone) × (standing < 256) × (lone < 256) × (i ≡ routePlace (now root) c) × (i ≤ length (c .routes))) ⌝ }
     ensures { λ r. ⌜ (let c = cardOf (now (numbers .entry)) (now (names .entry)) in Ended (movedTo c (now (root .entry)) via) (c .next) 0 (now (out .entry)) (now (out .exit)) (cardOf (now (numbers .exit)) (now (names .exit))) r) ⌝ }
 {
     let w = event_roots::move_all(numbers, names, root, u, out, memory::next_id(numbers));
     let next = w.id;
-    set_route(numbers, names, root, via, standing, lone);
+    set_route(numbers, names, i, root, via, standing, lone);
     memory::set_next_id(numbers, next);
     w.at
 }
@@ -145,19 +152,21 @@ pub fn change_route(
     ensures { λ r. ⌜ (let c = cardOf (now (numbers .entry)) (now (names .entry)) in Does (finish (length (now (out .entry))) c (routeOrder c (now (root .entry)) via))
         (now (answer .exit)) r (now (out .entry)) (now (out .exit)) (cardOf (now (numbers .exit)) (now (names .exit)))) ⌝ }
 {
-    if memory_routes::route_of(numbers, names, root) == via {
+    let i = memory_routes::route_place(numbers, names, root);
+    let old = memory_routes::route_at(numbers, i);
+    if old == via {
         *answer = 0;
         return 0;
     }
     let u = event_holder::upstream_via(via);
-    let e = entry_counts(numbers, names, root);
+    let e = entry_counts(numbers, names, i, root);
     let standing = e.standing;
     let lone = e.lone;
-    let refusal = route_refusal(numbers, names, root, via, u, standing, lone, out.len());
+    let refusal = route_refusal(numbers, names, root, old, via, u, standing, lone, out.len());
     if refusal != 0 {
         *answer = refusal;
         return 0;
     }
     *answer = 0;
-    re_route(numbers, names, root, via, u, standing, lone, out)
+    re_route(numbers, names, i, root, via, u, standing, lone, out)
 }

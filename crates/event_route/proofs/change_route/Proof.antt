@@ -1,12 +1,16 @@
 use Rattle.event_route.proofs.Route.{order-same, order-refused, order-ready, order-done}
 use Rattle.memory.specs.Memory.{cardOf}
+use Rattle.memory.proofs.Memory.{routes-length}
 use mathlib.Core.Path.{sym, _∙_}
 use borrow.Author.Needs.{needs}
 use Rattle.event_route.proofs.change_route.Statement.{statement}
 use Rattle.event_route.proofs.change_route.Tie as tie
 
-route-of-requires : tie.Need-route-of-requires
-route-of-requires c κs = search needs
+route-place-requires : tie.Need-route-place-requires
+route-place-requires c κs = search needs
+
+route-at-requires : tie.Need-route-at-requires
+route-at-requires c κs = search needs
 
 same-length : tie.Need-same-length
 same-length c = search needs
@@ -15,16 +19,18 @@ same-length-2 : tie.Need-same-length-2
 same-length-2 c = search needs
 
 returns : tie.Need-returns
-returns c = order-same (cardOf (c .before .before .before .before .before .before .before .before .args .numbers .now) (c .before .before .before .before .before .before .before .before .args .names .now)) _ _ _ (sym (c .before .route-of .ensures) ∙ c .if1 .taken)
+returns c = order-same (cardOf (c .before .before .before .before .before .before .before .before .before .before .args .numbers .now) (c .before .before .before .before .before .before .before .before .before .before .args .names .now)) _ _ _ (sym (c .before .route-at .ensures _ _ (c .before .before .before .route-place .ensures .0)) ∙ c .if1 .taken)
 
 upstream-via-requires : tie.Need-upstream-via-requires
 upstream-via-requires c κs = search needs
 
 entry-counts-requires : tie.Need-entry-counts-requires
-entry-counts-requires c κs = search needs
+entry-counts-requires c κs = (search needs, search needs, c .before .before .before .before .before .before .route-place .ensures .0)
 
 route-refusal-requires : tie.Need-route-refusal-requires
-route-refusal-requires c κs = search needs
+route-refusal-requires c κs =
+    let was = c .before .before .before .before .before .before .before .route-at .ensures _ _ (c .before .before .before .before .before .before .before .before .before .route-place .ensures .0) in
+    (search needs, search needs, search needs, (λ z. c .before .before .before .before .before .before .if1 .left (was ∙ z)), search needs, search needs, was)
 
 same-length-3 : tie.Need-same-length-3
 same-length-3 c = search needs
@@ -33,15 +39,16 @@ same-length-4 : tie.Need-same-length-4
 same-length-4 c = search needs
 
 returns-2 : tie.Need-returns-2
-returns-2 c = order-refused (cardOf (c .before .before .before .before .before .before .before .before .before .before .before .before .before .before .before .before .args .numbers .now) (c .before .before .before .before .before .before .before .before .before .before .before .before .before .before .before .before .args .names .now)) _ _ (λ z. c .before .before .before .before .before .before .before .before .if1 .left (c .before .before .before .before .before .before .before .before .before .route-of .ensures ∙ z)) _ _ (c .before .route-refusal .ensures) (c .if2 .taken)
+returns-2 c = order-refused (cardOf (c .before .before .before .before .before .before .before .before .before .before .before .before .before .before .before .before .before .before .args .numbers .now) (c .before .before .before .before .before .before .before .before .before .before .before .before .before .before .before .before .before .before .args .names .now)) _ _ (λ z. c .before .before .before .before .before .before .before .before .if1 .left (c .before .before .before .before .before .before .before .before .before .route-at .ensures _ _ (c .before .before .before .before .before .before .before .before .before .before .before .route-place .ensures .0) ∙ z)) _ _ (c .before .route-refusal .ensures) (c .if2 .taken)
 
 re-route-requires : tie.Need-re-route-requires
 re-route-requires c κs =
-    let start = c .before .before .before .before .before .before .before .before .before .before .before .before .before .before .before .before .before .before .before in
+    let start = c .before .before .before .before .before .before .before .before .before .before .before .before .before .before .before .before .before .before .before .before .before in
     let up = c .before .before .before .before .before .before .before .before .before .before .upstream-via .ensures in
     let e = c .before .before .before .before .before .before .before .entry-counts .ensures in
-    let R = order-ready (cardOf (c .before .before .before .before .before .before .before .before .before .before .before .before .before .before .before .before .before .before .before .args .numbers .now) (c .before .before .before .before .before .before .before .before .before .before .before .before .before .before .before .before .before .before .before .args .names .now)) _ _ (λ z. c .before .before .before .before .before .before .before .before .before .before .before .if1 .left (c .before .before .before .before .before .before .before .before .before .before .before .before .route-of .ensures ∙ z)) (start .args .out .now) _ (c .before .before .before .before .route-refusal .ensures) (c .before .before .before .if2 .left) in
-    (search needs, search needs, search needs, up .0, search needs, search needs, R .0, rw (up .0) (R .1), rw (up .0) (R .2), start .pre .3, e .0, e .1, e .2, e .3)
+    let place = c .before .before .before .before .before .before .before .before .before .before .before .before .before .before .route-place .ensures in
+    let R = order-ready (cardOf (start .args .numbers .now) (start .args .names .now)) _ _ (λ z. c .before .before .before .before .before .before .before .before .before .before .before .if1 .left (c .before .before .before .before .before .before .before .before .before .before .before .before .route-at .ensures _ _ (c .before .before .before .before .before .before .before .before .before .before .before .before .before .before .route-place .ensures .0) ∙ z)) (start .args .out .now) _ (c .before .before .before .before .route-refusal .ensures) (c .before .before .before .if2 .left) in
+    (search needs, search needs, search needs, up .0, search needs, search needs, R .0, rw (up .0) (R .1), rw (up .0) (R .2), start .pre .3, e .0, e .1, e .2, e .3, place .0, rw routes-length (place .1))
 
 same-length-5 : tie.Need-same-length-5
 same-length-5 c = search needs
@@ -53,13 +60,14 @@ same-length-7 : tie.Need-same-length-7
 same-length-7 c = search needs
 
 returns-3 : tie.Need-returns-3
-returns-3 c = order-done (cardOf (c .before .before .before .before .before .before .before .before .before .before .before .before .before .before .before .before .before .before .before .before .before .before .before .before .before .before .args .numbers .now) (c .before .before .before .before .before .before .before .before .before .before .before .before .before .before .before .before .before .before .before .before .before .before .before .before .before .before .args .names .now)) _ _ (λ z. c .before .before .before .before .before .before .before .before .before .before .before .before .before .before .before .before .before .before .if1 .left (c .before .before .before .before .before .before .before .before .before .before .before .before .before .before .before .before .before .before .before .route-of .ensures ∙ z)) _ _ (c .before .before .before .before .before .before .before .before .before .before .before .route-refusal .ensures) (c .before .before .before .before .before .before .before .before .before .before .if2 .left) _ _ _ (c .before .before .before .before .before .before .re-route .ensures)
+returns-3 c = order-done (cardOf (c .before .before .before .before .before .before .before .before .before .before .before .before .before .before .before .before .before .before .before .before .before .before .before .before .before .before .before .before .args .numbers .now) (c .before .before .before .before .before .before .before .before .before .before .before .before .before .before .before .before .before .before .before .before .before .before .before .before .before .before .before .before .args .names .now)) _ _ (λ z. c .before .before .before .before .before .before .before .before .before .before .before .before .before .before .before .before .before .before .if1 .left (c .before .before .before .before .before .before .before .before .before .before .before .before .before .before .before .before .before .before .before .route-at .ensures _ _ (c .before .before .before .before .before .before .before .before .before .before .before .before .before .before .before .before .before .before .before .before .before .route-place .ensures .0) ∙ z)) _ _ (c .before .before .before .before .before .before .before .before .before .before .before .route-refusal .ensures) (c .before .before .before .before .before .before .before .before .before .before .if2 .left) _ _ _ (c .before .before .before .before .before .before .re-route .ensures)
 
 pub change-route-spec : {M : Type 1} → statement M
 change-route-spec =
     tie.close
     (tie.spec
-    route-of-requires
+    route-place-requires
+    route-at-requires
     same-length
     same-length-2
     returns

@@ -1,4 +1,4 @@
-use Rattle.event_route.proofs.Route.{moved-room, moved-ends}
+use Rattle.event_route.proofs.Route.{moved-room, moved-place, moved-ends}
 use Rattle.memory.specs.Memory.{cardOf}
 use Rattle.meaning.specs.Card.{withNext}
 use mathlib.Core.Path.{ap, _∙_}
@@ -15,7 +15,8 @@ move-all-requires c κs = search needs
 set-route-requires : tie.Need-set-route-requires
 set-route-requires c κs =
     let start = c .before .before .before .before .before .before .before .before .before .before .before .before .before .before .before .before .before .before in
-    (search needs, search needs, search needs, moved-room (cardOf (start .args .numbers .now) (start .args .names .now)) _ _ _ _ (c .before .before .before .before .before .before .before .before .move-all .ensures .leaves) (start .pre .6), start .pre .9, start .pre .12, start .pre .13)
+    let moved = moved-place (cardOf (start .args .numbers .now) (start .args .names .now)) _ _ _ _ (c .before .before .before .before .before .before .before .before .move-all .ensures .leaves) (start .pre .14) (start .pre .15) in
+    (search needs, search needs, search needs, moved-room (cardOf (start .args .numbers .now) (start .args .names .now)) _ _ _ _ (c .before .before .before .before .before .before .before .before .move-all .ensures .leaves) (start .pre .6), start .pre .9, start .pre .12, start .pre .13, moved .0, moved .1)
 
 set-next-id-requires : tie.Need-set-next-id-requires
 set-next-id-requires c κs = search needs

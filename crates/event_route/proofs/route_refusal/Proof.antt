@@ -13,7 +13,7 @@ routes-full-requires c κs = search needs
 returns : tie.Need-returns
 returns c =
     let card = cardOf (c .before .before .before .before .before .args .numbers .now) (c .before .before .before .before .before .args .names .now) in
-    sym (when-1 15 12 16 _ _ _ (sym (full-is card _ _ (c .before .before .before .before .before .pre .3)) ∙ sym (c .before .routes-full .ensures) ∙ c .if1 .taken))
+    sym (when-1 15 12 16 _ _ _ (sym (full-is card _ _ _ (c .before .before .before .before .before .pre .6) (c .before .before .before .before .before .pre .3)) ∙ sym (c .before .routes-full .ensures _) ∙ c .if1 .taken))
 
 surely-short-requires : tie.Need-surely-short-requires
 surely-short-requires c κs = search needs
@@ -21,7 +21,7 @@ surely-short-requires c κs = search needs
 returns-2 : tie.Need-returns-2
 returns-2 c =
     let card = cardOf (c .before .before .before .before .before .before .before .args .numbers .now) (c .before .before .before .before .before .before .before .args .names .now) in
-    sym (when-2 15 12 16 _ _ _ (sym (full-is card _ _ (c .before .before .before .before .before .before .before .pre .3)) ∙ sym (c .before .before .before .routes-full .ensures) ∙ c .before .before .if1 .left) (few-quick card _ _ (sym (quick-is card _ _ _ _ (c .before .before .before .before .before .before .before .pre .4) (c .before .before .before .before .before .before .before .pre .5)) ∙ sym (c .before .surely-short .ensures _) ∙ c .if2 .taken)))
+    sym (when-2 15 12 16 _ _ _ (sym (full-is card _ _ _ (c .before .before .before .before .before .before .before .pre .6) (c .before .before .before .before .before .before .before .pre .3)) ∙ sym (c .before .before .before .routes-full .ensures _) ∙ c .before .before .if1 .left) (few-quick card _ _ (sym (quick-is card _ _ _ _ (c .before .before .before .before .before .before .before .pre .4) (c .before .before .before .before .before .before .before .pre .5)) ∙ sym (c .before .surely-short .ensures _) ∙ c .if2 .taken)))
 
 take-all-requires : tie.Need-take-all-requires
 take-all-requires c κs = search needs
@@ -33,19 +33,19 @@ returns-3 : tie.Need-returns-3
 returns-3 c =
     let card = cardOf (c .before .before .before .before .before .before .before .before .before .before .args .numbers .now) (c .before .before .before .before .before .before .before .before .before .before .args .names .now) in
     let quick = sym (quick-is card _ _ _ _ (c .before .before .before .before .before .before .before .before .before .before .pre .4) (c .before .before .before .before .before .before .before .before .before .before .pre .5)) ∙ sym (c .before .before .before .before .surely-short .ensures _) ∙ c .before .before .before .if2 .left in
-    sym (when-2 15 12 16 _ _ _ (sym (full-is card _ _ (c .before .before .before .before .before .before .before .before .before .before .pre .3)) ∙ sym (c .before .before .before .before .before .before .routes-full .ensures) ∙ c .before .before .before .before .before .if1 .left) (few-walk card _ _ _ _ true quick (c .before .before .before .before .before .before .before .before .before .before .pre .2) (c .before .before .take-all .ensures .0) (sym (c .before .labels-short .ensures _) ∙ c .if3 .taken)))
+    sym (when-2 15 12 16 _ _ _ (sym (full-is card _ _ _ (c .before .before .before .before .before .before .before .before .before .before .pre .6) (c .before .before .before .before .before .before .before .before .before .before .pre .3)) ∙ sym (c .before .before .before .before .before .before .routes-full .ensures _) ∙ c .before .before .before .before .before .if1 .left) (few-walk card _ _ _ _ true quick (c .before .before .before .before .before .before .before .before .before .before .pre .2) (c .before .before .take-all .ensures .0) (sym (c .before .labels-short .ensures _) ∙ c .if3 .taken)))
 
 returns-4 : tie.Need-returns-4
 returns-4 c =
     let card = cardOf (c .before .before .before .before .before .before .before .before .before .before .before .args .numbers .now) (c .before .before .before .before .before .before .before .before .before .before .before .args .names .now) in
     let quick = sym (quick-is card _ _ _ _ (c .before .before .before .before .before .before .before .before .before .before .before .pre .4) (c .before .before .before .before .before .before .before .before .before .before .before .pre .5)) ∙ sym (c .before .before .before .before .before .surely-short .ensures _) ∙ c .before .before .before .before .if2 .left in
-    sym (when-3 15 12 16 _ _ _ (sym (full-is card _ _ (c .before .before .before .before .before .before .before .before .before .before .before .pre .3)) ∙ sym (c .before .before .before .before .before .before .before .routes-full .ensures) ∙ c .before .before .before .before .before .before .if1 .left) (few-walk card _ _ _ _ false quick (c .before .before .before .before .before .before .before .before .before .before .before .pre .2) (c .before .before .before .take-all .ensures .0) (sym (c .before .before .labels-short .ensures _) ∙ c .before .if3 .left)) (room-short card _ _ _ _ _ (c .before .before .before .before .before .before .before .before .before .before .before .pre .2) (c .before .before .before .take-all .ensures .1) (c .if4 .taken)))
+    sym (when-3 15 12 16 _ _ _ (sym (full-is card _ _ _ (c .before .before .before .before .before .before .before .before .before .before .before .pre .6) (c .before .before .before .before .before .before .before .before .before .before .before .pre .3)) ∙ sym (c .before .before .before .before .before .before .before .routes-full .ensures _) ∙ c .before .before .before .before .before .before .if1 .left) (few-walk card _ _ _ _ false quick (c .before .before .before .before .before .before .before .before .before .before .before .pre .2) (c .before .before .before .take-all .ensures .0) (sym (c .before .before .labels-short .ensures _) ∙ c .before .if3 .left)) (room-short card _ _ _ _ _ (c .before .before .before .before .before .before .before .before .before .before .before .pre .2) (c .before .before .before .take-all .ensures .1) (c .if4 .taken)))
 
 returns-5 : tie.Need-returns-5
 returns-5 c =
     let card = cardOf (c .before .before .before .before .before .before .before .before .before .before .before .args .numbers .now) (c .before .before .before .before .before .before .before .before .before .before .before .args .names .now) in
     let quick = sym (quick-is card _ _ _ _ (c .before .before .before .before .before .before .before .before .before .before .before .pre .4) (c .before .before .before .before .before .before .before .before .before .before .before .pre .5)) ∙ sym (c .before .before .before .before .before .surely-short .ensures _) ∙ c .before .before .before .before .if2 .left in
-    sym (when-0 15 12 16 _ _ _ (sym (full-is card _ _ (c .before .before .before .before .before .before .before .before .before .before .before .pre .3)) ∙ sym (c .before .before .before .before .before .before .before .routes-full .ensures) ∙ c .before .before .before .before .before .before .if1 .left) (few-walk card _ _ _ _ false quick (c .before .before .before .before .before .before .before .before .before .before .before .pre .2) (c .before .before .before .take-all .ensures .0) (sym (c .before .before .labels-short .ensures _) ∙ c .before .if3 .left)) (room-enough card _ _ _ _ _ (c .before .before .before .before .before .before .before .before .before .before .before .pre .2) (c .before .before .before .take-all .ensures .1) (c .if4 .left)))
+    sym (when-0 15 12 16 _ _ _ (sym (full-is card _ _ _ (c .before .before .before .before .before .before .before .before .before .before .before .pre .6) (c .before .before .before .before .before .before .before .before .before .before .before .pre .3)) ∙ sym (c .before .before .before .before .before .before .before .routes-full .ensures _) ∙ c .before .before .before .before .before .before .if1 .left) (few-walk card _ _ _ _ false quick (c .before .before .before .before .before .before .before .before .before .before .before .pre .2) (c .before .before .before .take-all .ensures .0) (sym (c .before .before .labels-short .ensures _) ∙ c .before .if3 .left)) (room-enough card _ _ _ _ _ (c .before .before .before .before .before .before .before .before .before .before .before .pre .2) (c .before .before .before .take-all .ensures .1) (c .if4 .left)))
 
 pub route-refusal-spec : {M : Type 1} → statement M
 route-refusal-spec =

@@ -1,19 +1,16 @@
 use Rattle.event_route.proofs.Route.{gone-is, put-is, stands-below, room-for-it}
-use Rattle.memory.proofs.Memory.{routeCount-le}
+use Rattle.memory.proofs.Memory.{routeCount-le, routes-length}
 use mathlib.Core.Path.{_∙_}
 use native.Mathlib.Omega.{arith}
 use borrow.Author.Needs.{needs}
 use Rattle.event_route.proofs.set_route.Statement.{statement}
 use Rattle.event_route.proofs.set_route.Tie as tie
 
-route-place-requires : tie.Need-route-place-requires
-route-place-requires c κs = search needs
-
 remove-route-requires : tie.Need-remove-route-requires
 remove-route-requires c κs =
-    let start = c .before .before .before .before .before .before .before .before .before in
-    let the-route-place = c .before .before .before .route-place in
-    let below = stands-below (start .args .numbers .now) (start .args .names .now) (start .args .root .now) (the-route-place .result) (start .args .via) (the-route-place .ensures .0) (the-route-place .ensures .1) (start .pre .3) (c .before .before .if1 .taken) in
+    let start = c .before .before .before .before .before .before in
+    let most = rw routes-length at (start .pre .8) in
+    let below = stands-below (start .args .numbers .now) (start .args .names .now) (start .args .root .now) (start .args .i) (start .args .via) (start .pre .7) most (start .pre .3) (c .before .before .if1 .taken) in
     (search needs, search needs, below, omega (arith, below, routeCount-le (start .args .numbers .now)))
 
 same-length : tie.Need-same-length
@@ -23,13 +20,13 @@ same-length-2 : tie.Need-same-length-2
 same-length-2 c = search needs
 
 returns : tie.Need-returns
-returns c = c .before .before .before .before .remove-route .ensures ∙ gone-is _ _ _ (c .before .before .before .before .before .before .before .before .route-place .ensures .0) (c .before .before .before .before .before .before .before .if1 .taken)
+returns c = c .before .before .before .before .remove-route .ensures ∙ gone-is _ _ _ (c .before .before .before .before .before .before .before .before .before .before .before .pre .7) (c .before .before .before .before .before .before .before .if1 .taken)
 
 enter-route-requires : tie.Need-enter-route-requires
 enter-route-requires c κs =
-    let start = c .before .before .before .before .before .before .before .before .before in
-    let the-route-place = c .before .before .before .route-place in
-    (search needs, search needs, search needs, the-route-place .ensures .0, (λ h. room-for-it (start .args .numbers .now) (start .args .names .now) (start .args .root .now) (the-route-place .result) (start .args .via) (the-route-place .ensures .0) (the-route-place .ensures .1) (start .pre .3) h), omega (arith, start .pre .4), start .pre .5, start .pre .6)
+    let start = c .before .before .before .before .before .before in
+    let most = rw routes-length at (start .pre .8) in
+    (search needs, search needs, search needs, start .pre .7, (λ h. room-for-it (start .args .numbers .now) (start .args .names .now) (start .args .root .now) (start .args .i) (start .args .via) (start .pre .7) most (start .pre .3) h), omega (arith, start .pre .4), start .pre .5, start .pre .6)
 
 same-length-3 : tie.Need-same-length-3
 same-length-3 c = search needs
@@ -44,7 +41,6 @@ pub set-route-spec : {M : Type 1} → statement M
 set-route-spec =
     tie.close
     (tie.spec
-    route-place-requires
     remove-route-requires
     same-length
     same-length-2
