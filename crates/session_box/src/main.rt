@@ -68,4 +68,291 @@ fn answer_line(
     session_replies::answer(numbers, names, s0, b0, line, ask, number, room, text)
 }
 
-fn main() {}
+// What the line that is kept is answered with. One too long to keep is a bad line.
+fn reply(
+    numbers: &mut [u64; NUMBER_COUNT],
+    names: &mut [u8; OCTET_COUNT],
+    s0: &mut [u64; STREAM_NUMBERS],
+    b0: &mut [u8; STREAM_ROOM],
+    s1: &mut [u64; STREAM_NUMBERS],
+    b1: &mut [u8; STREAM_ROOM],
+    s2: &mut [u64; STREAM_NUMBERS],
+    b2: &mut [u8; STREAM_ROOM],
+    s3: &mut [u64; STREAM_NUMBERS],
+    b3: &mut [u8; STREAM_ROOM],
+    line: &[u8],
+    text: &mut [u8],
+    number: u64,
+    state: State,
+) -> Answered
+    requires { ⌜ turnsSpace ≤ length (now text) ⌝ }
+    ensures { λ r. ⌜ r .length ≤ turnsSpace ⌝ }
+    ensures { λ r. ⌜ ((o : List ℕ) → Keeps (now (line .entry)) (state .kept) o → length (now (line .entry)) ≡ lineLimit
+        → BoxSays (boxReply number (boxOf (state .room) (cardOf (now (numbers .entry)) (now (names .entry))) (four (now (s0 .entry)) (now (b0 .entry)) (now (s1 .entry)) (now (b1 .entry)) (now (s2 .entry)) (now (b2 .entry)) (now (s3 .entry)) (now (b3 .entry)))) o)
+        (r .length) (now (text .exit)) (cardOf (now (numbers .exit)) (now (names .exit))) (r .room)
+        (four (now (s0 .exit)) (now (b0 .exit)) (now (s1 .exit)) (now (b1 .exit)) (now (s2 .exit)) (now (b2 .exit)) (now (s3 .exit)) (now (b3 .exit)))) ⌝ }
+{
+    let kept = state.kept;
+    if kept <= line.len() {
+        return answer_line(
+            numbers,
+            names,
+            s0,
+            b0,
+            s1,
+            b1,
+            s2,
+            b2,
+            s3,
+            b3,
+            &line[..kept],
+            number,
+            state.room,
+            text,
+        );
+    }
+    Answered {
+        length: bench_lines::put_count(text, b"?", number),
+        room: state.room,
+    }
+}
+
+fn end_line(
+    numbers: &mut [u64; NUMBER_COUNT],
+    names: &mut [u8; OCTET_COUNT],
+    s0: &mut [u64; STREAM_NUMBERS],
+    b0: &mut [u8; STREAM_ROOM],
+    s1: &mut [u64; STREAM_NUMBERS],
+    b1: &mut [u8; STREAM_ROOM],
+    s2: &mut [u64; STREAM_NUMBERS],
+    b2: &mut [u8; STREAM_ROOM],
+    s3: &mut [u64; STREAM_NUMBERS],
+    b3: &mut [u8; STREAM_ROOM],
+    line: &[u8],
+    text: &mut [u8],
+    state: State,
+) -> State
+    requires { ⌜ turnsSpace ≤ length (now text) ⌝ }
+    ensures { λ r. ⌜ ((s : Stand Box) → Stands s (state .number) (boxOf (state .room) (cardOf (now (numbers .entry)) (now (names .entry))) (four (now (s0 .entry)) (now (b0 .entry)) (now (s1 .entry)) (now (b1 .entry)) (now (s2 .entry)) (now (b2 .entry)) (now (s3 .entry)) (now (b3 .entry)))) (now (line .entry)) (state .kept)
+        → Stands (ended boxLeft s) (r .number) (boxOf (r .room) (cardOf (now (numbers .exit)) (now (names .exit))) (four (now (s0 .exit)) (now (b0 .exit)) (now (s1 .exit)) (now (b1 .exit)) (now (s2 .exit)) (now (b2 .exit)) (now (s3 .exit)) (now (b3 .exit)))) (now (line .entry)) (r .kept)) ⌝ }
+{
+    let number = std::num::wrapping_add_u64(state.number, 1);
+    let done = reply(
+        numbers,
+        names,
+        s0,
+        b0,
+        s1,
+        b1,
+        s2,
+        b2,
+        s3,
+        b3,
+        line,
+        text,
+        number,
+        state,
+    );
+    let n = done.length;
+    io::write_all(1, &text[..n]);
+    State {
+        number,
+        kept: 0,
+        room: done.room,
+        more: true,
+    }
+}
+
+fn take_octet(
+    numbers: &mut [u64; NUMBER_COUNT],
+    names: &mut [u8; OCTET_COUNT],
+    s0: &mut [u64; STREAM_NUMBERS],
+    b0: &mut [u8; STREAM_ROOM],
+    s1: &mut [u64; STREAM_NUMBERS],
+    b1: &mut [u8; STREAM_ROOM],
+    s2: &mut [u64; STREAM_NUMBERS],
+    b2: &mut [u8; STREAM_ROOM],
+    s3: &mut [u64; STREAM_NUMBERS],
+    b3: &mut [u8; STREAM_ROOM],
+    line: &mut [u8],
+    text: &mut [u8],
+    c: u8,
+    state: State,
+) -> State
+    requires { ⌜ turnsSpace ≤ length (now text) ⌝ }
+    ensures { λ r. ⌜ ((s : Stand Box) → Stands s (state .number) (boxOf (state .room) (cardOf (now (numbers .entry)) (now (names .entry))) (four (now (s0 .entry)) (now (b0 .entry)) (now (s1 .entry)) (now (b1 .entry)) (now (s2 .entry)) (now (b2 .entry)) (now (s3 .entry)) (now (b3 .entry)))) (now (line .entry)) (state .kept)
+        → Stands (after boxLeft s c) (r .number) (boxOf (r .room) (cardOf (now (numbers .exit)) (now (names .exit))) (four (now (s0 .exit)) (now (b0 .exit)) (now (s1 .exit)) (now (b1 .exit)) (now (s2 .exit)) (now (b2 .exit)) (now (s3 .exit)) (now (b3 .exit)))) (now (line .exit)) (r .kept)) ⌝ }
+{
+    if c == b'\n' {
+        return end_line(
+            numbers,
+            names,
+            s0,
+            b0,
+            s1,
+            b1,
+            s2,
+            b2,
+            s3,
+            b3,
+            line,
+            text,
+            state,
+        );
+    }
+    State {
+        number: state.number,
+        kept: bench_input::keep(line, state.kept, c),
+        room: state.room,
+        more: true,
+    }
+}
+
+fn take_chunk(
+    numbers: &mut [u64; NUMBER_COUNT],
+    names: &mut [u8; OCTET_COUNT],
+    s0: &mut [u64; STREAM_NUMBERS],
+    b0: &mut [u8; STREAM_ROOM],
+    s1: &mut [u64; STREAM_NUMBERS],
+    b1: &mut [u8; STREAM_ROOM],
+    s2: &mut [u64; STREAM_NUMBERS],
+    b2: &mut [u8; STREAM_ROOM],
+    s3: &mut [u64; STREAM_NUMBERS],
+    b3: &mut [u8; STREAM_ROOM],
+    line: &mut [u8],
+    text: &mut [u8],
+    chunk: &[u8],
+    from: State,
+) -> State
+    requires { ⌜ turnsSpace ≤ length (now text) ⌝ }
+    ensures { λ r. ⌜ ((s : Stand Box) → Stands s (from .number) (boxOf (from .room) (cardOf (now (numbers .entry)) (now (names .entry))) (four (now (s0 .entry)) (now (b0 .entry)) (now (s1 .entry)) (now (b1 .entry)) (now (s2 .entry)) (now (b2 .entry)) (now (s3 .entry)) (now (b3 .entry)))) (now (line .entry)) (from .kept)
+        → Stands (afterAll boxLeft s (now (chunk .entry))) (r .number) (boxOf (r .room) (cardOf (now (numbers .exit)) (now (names .exit))) (four (now (s0 .exit)) (now (b0 .exit)) (now (s1 .exit)) (now (b1 .exit)) (now (s2 .exit)) (now (b2 .exit)) (now (s3 .exit)) (now (b3 .exit)))) (now (line .exit)) (r .kept)) ⌝ }
+{
+    let mut state = from;
+    let mut i = 0;
+    while i < chunk.len() {
+        state = take_octet(
+            numbers,
+            names,
+            s0,
+            b0,
+            s1,
+            b1,
+            s2,
+            b2,
+            s3,
+            b3,
+            line,
+            text,
+            chunk[i],
+            state,
+        );
+        i += 1;
+    }
+    state
+}
+
+// Reads once, and answers the lines that end in what came. At the end of the input, what is kept is a line too.
+fn step(
+    numbers: &mut [u64; NUMBER_COUNT],
+    names: &mut [u8; OCTET_COUNT],
+    s0: &mut [u64; STREAM_NUMBERS],
+    b0: &mut [u8; STREAM_ROOM],
+    s1: &mut [u64; STREAM_NUMBERS],
+    b1: &mut [u8; STREAM_ROOM],
+    s2: &mut [u64; STREAM_NUMBERS],
+    b2: &mut [u8; STREAM_ROOM],
+    s3: &mut [u64; STREAM_NUMBERS],
+    b3: &mut [u8; STREAM_ROOM],
+    line: &mut [u8; LINE_LIMIT],
+    text: &mut [u8; TURNS_SPACE],
+    state: State,
+) -> State {
+    let mut chunk = io::large_buffer();
+    let got = libc::read(0, &mut chunk);
+    if 0 < got {
+        let n = io::count(got, &chunk);
+        return take_chunk(
+            numbers,
+            names,
+            s0,
+            b0,
+            s1,
+            b1,
+            s2,
+            b2,
+            s3,
+            b3,
+            line,
+            text,
+            &chunk[..n],
+            state,
+        );
+    }
+    if 0 < state.kept {
+        end_line(
+            numbers,
+            names,
+            s0,
+            b0,
+            s1,
+            b1,
+            s2,
+            b2,
+            s3,
+            b3,
+            line,
+            text,
+            state,
+        );
+    }
+    State {
+        number: state.number,
+        kept: 0,
+        room: state.room,
+        more: false,
+    }
+}
+
+// The room is at first that of the longest save: no call has more of it than its buffer.
+// A proved loop has to end, and nothing says that the input does: the loop counts its turns down, from a number that no run uses up.
+fn main() {
+    let mut numbers = [0u64; NUMBER_COUNT];
+    let mut names = [0u8; OCTET_COUNT];
+    let mut s0 = [0u64; STREAM_NUMBERS];
+    let mut b0 = [0u8; STREAM_ROOM];
+    let mut s1 = [0u64; STREAM_NUMBERS];
+    let mut b1 = [0u8; STREAM_ROOM];
+    let mut s2 = [0u64; STREAM_NUMBERS];
+    let mut b2 = [0u8; STREAM_ROOM];
+    let mut s3 = [0u64; STREAM_NUMBERS];
+    let mut b3 = [0u8; STREAM_ROOM];
+    let mut line = [0u8; LINE_LIMIT];
+    let mut text = [0u8; TURNS_SPACE];
+    card::start(&mut numbers, 16);
+    let mut state = State {
+        number: 0,
+        kept: 0,
+        room: WHOLE_ROOM,
+        more: true,
+    };
+    let mut turns = u64::MAX;
+    while turns > 0 && state.more {
+        state = step(
+            &mut numbers,
+            &mut names,
+            &mut s0,
+            &mut b0,
+            &mut s1,
+            &mut b1,
+            &mut s2,
+            &mut b2,
+            &mut s3,
+            &mut b3,
+            &mut line,
+            &mut text,
+            state,
+        );
+        turns -= 1;
+    }
+}

@@ -108,7 +108,8 @@ fn with_octets(line: &[u8], at: usize) -> Ask
         number: neighbour,
         start,
         end,
-    } = number_hex(line, at) else {
+    } = number_hex(line, at)
+    else {
         return Ask::Bench;
     };
     if (neighbour < STREAM_COUNT) | (15 < neighbour) {
@@ -129,7 +130,8 @@ fn with_pack(line: &[u8], at: usize) -> Ask
         number: neighbour,
         start,
         end,
-    } = number_hex(line, at) else {
+    } = number_hex(line, at)
+    else {
         return Ask::Bench;
     };
     Ask::Pack {

@@ -1,0 +1,49 @@
+-- `session_box::main` ends and is safe. Assumes nothing.
+use borrow.Author.Needs.{needs}
+use Rattle.session_box.proofs.main.Statement.{statement}
+use Rattle.session_box.proofs.main.Tie as tie
+
+abbrev Inv-loop : tie.InvT-loop
+Inv-loop numbers₀ names₀ s0₀ b0₀ s1₀ b1₀ s2₀ b2₀ s3₀ b3₀ line₀ text₀ state₀ turns₀ numbers names s0 b0 s1 b1 s2 b2 s3 b3 line text state turns = Unit {0}
+
+abbrev μ-loop : tie.MeasureT-loop
+μ-loop numbers₀ names₀ s0₀ b0₀ s1₀ b1₀ s2₀ b2₀ s3₀ b3₀ line₀ text₀ state₀ turns₀ numbers names s0 b0 s1 b1 s2 b2 s3 b3 line text state turns = turns
+
+start-requires : tie.Need-start-requires Inv-loop μ-loop
+start-requires c κs = search needs
+
+loop-holds : tie.Need-loop-holds Inv-loop μ-loop
+loop-holds c = tt
+
+step-requires : tie.Need-step-requires Inv-loop μ-loop
+step-requires c κs = search needs
+
+sub-turns : tie.Need-sub-turns Inv-loop μ-loop
+sub-turns c = search needs
+
+loop-less : tie.Need-loop-less Inv-loop μ-loop
+loop-less c = search needs
+
+loop-again : tie.Need-loop-again Inv-loop μ-loop
+loop-again c = tt
+
+returns : tie.Need-returns Inv-loop μ-loop
+returns c = tt
+
+returns-2 : tie.Need-returns-2 Inv-loop μ-loop
+returns-2 c = tt
+
+pub main-spec : {M : Type 1} → statement M
+main-spec =
+    tie.close
+    (tie.spec
+    Inv-loop
+    μ-loop
+    start-requires
+    loop-holds
+    step-requires
+    sub-turns
+    loop-less
+    loop-again
+    returns
+    returns-2)
