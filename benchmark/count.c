@@ -1,5 +1,5 @@
 /*
- * count proved|plain|older DAY: each piece of work once on one card, for a counter that sees where `work_begins` and `work_ends`
+ * count SIDE card|box DAY: each piece of work once on one card, for a counter that sees where `work_begins` and `work_ends`
  * are called (count.py). Writes a line for each: what it did, on what card, and how many times.
  */
 #include "work.h"
@@ -127,31 +127,36 @@ static void count_all_trees(struct bench *b, const struct growth *g)
     count_anew(b, g, "a loss that ends every tree", (struct order){LOST, 0, branch_of(0), NULL, 0});
 }
 
-/* Where one was given. */
-extern const struct side older __attribute__((weak));
+/* Where they were given. */
+extern const struct side older_1 __attribute__((weak));
+extern const struct side older_2 __attribute__((weak));
 
 static const struct side *side_named(const char *name)
 {
-    return strcmp(name, "proved") == 0  ? &proved
-           : strcmp(name, "plain") == 0 ? &plain
-           : strcmp(name, "older") == 0 ? &older
-                                        : NULL;
+    return strcmp(name, "proved") == 0    ? &proved
+           : strcmp(name, "plain") == 0   ? &plain
+           : strcmp(name, "older 1") == 0 ? &older_1
+           : strcmp(name, "older 2") == 0 ? &older_2
+                                          : NULL;
 }
 
 int main(int count, char **words)
 {
     static struct bench bench;
-    const struct side *side = count != 3 ? NULL : side_named(words[1]);
+    const struct side *side = count != 4 ? NULL : side_named(words[1]);
     if (side == NULL) {
-        fprintf(stderr, "usage: count proved|plain|older DAY\n");
+        fprintf(stderr, "usage: count proved|plain|'older 1'|'older 2' card|box DAY\n");
         return 2;
     }
-    open_work(words[2]);
+    open_work(words[3]);
     open_bench(&bench, side);
+    if (strcmp(words[2], "box") == 0) {
+        count_group(&bench, &box_works, "box");
+        return 0;
+    }
     count_group(&bench, &main_works, "");
     count_group(&bench, &route_works, "routes");
     count_group(&bench, &made_works, "made");
-    count_group(&bench, &box_works, "box");
     for (size_t i = 0; side->lost != NULL && i < sizeof growths / sizeof growths[0]; i++) {
         count_one_tree(&bench, &growths[i]);
         count_all_trees(&bench, &growths[i]);

@@ -1,12 +1,12 @@
 #!/usr/bin/env python3
 """Counts the instructions of both cards and prints the tables of docs/BENCHMARK.md.
 
-  count.py [--older] [--emulator QEMU] [--nm NM] [--remark TEXT] PROGRAM DAY OBJECT..
+  count.py [--olders N] [--emulator QEMU] [--nm NM] [--remark TEXT] PROGRAM DAY OBJECT..
 
 PROGRAM is count.c, linked. It calls `work_begins` and `work_ends` around each piece of work: what lies between is counted,
 and nothing of the start or of the preparation. Counted are the instructions of the cards' functions, which OBJECT..
 (plain.o and the archives) define, and of memcpy and its kin, which they call; not those of the program that gives the
-orders. With --older PROGRAM has an older proved card too.
+orders. With --olders PROGRAM has so many older proved cards too.
 
 With --emulator PROGRAM runs under that qemu-x86_64, which logs each instruction's address. Without, it runs under
 valgrind's callgrind.
@@ -23,8 +23,8 @@ import subprocess
 import sys
 import tempfile
 
-CALLS = ("start", "receive", "join", "leave", "route", "lost", "lookup_label", "lookup_name", "free_labels", "save", "restore", "serve")
-PREFIXES = {"proved": "card_", "older": "older_card_", "plain": "plain_"}
+CALLS = ("start", "receive", "join", "leave", "route", "lost", "lookup_label", "lookup_name", "free_labels", "save", "restore")
+BOX_CALLS = ("serve",)
 GROUPS = {"": "counted", "routes": "a route order for a root of", "made": "an event of a made day", "box": "an octet through the box"}
 PROFILED = ("an event of an ordinary day", "a route order that moves 64 trees", "a loss that ends 64 branches",
             "a restore of a full card")
@@ -80,14 +80,14 @@ def parts_of(log, begins, ends):
     return parts
 
 
-def emulated(args, side):
+def emulated(args, side, part):
     """For each piece of work, the instructions of each function."""
     symbols = Symbols(args.nm, args.program, args.objects)
     with tempfile.TemporaryDirectory() as folder:
         log = os.path.join(folder, "log")
         os.mkfifo(log)
         words = [args.emulator, "-cpu", CPU, "-one-insn-per-tb", "-d", "nochain,exec", "-dfilter", symbols.ranges(),
-                 "-D", log, args.program, side, args.day]
+                 "-D", log, args.program, side, part, args.day]
         with subprocess.Popen(words, stdout=subprocess.PIPE, text=True) as running:
             with open(log, "rb") as lines:
                 parts = parts_of(lines, symbols.trace_of(BEGINS), symbols.trace_of(ENDS))
@@ -122,13 +122,14 @@ def read_callgrind(file):
     return functions if works else None
 
 
-def grinded(args, side):
+def grinded(args, side, part):
     """As emulated; a part in which nothing is counted is not written, and no piece of work is such a part."""
     with tempfile.TemporaryDirectory() as folder:
         out = os.path.join(folder, "out")
+        prefix, calls = "plain" if side == "plain" else "card", BOX_CALLS if part == "box" else CALLS
         words = ["valgrind", "-q", "--tool=callgrind", f"--callgrind-out-file={out}", "--compress-strings=no",
-                 "--compress-pos=no", *(f"--toggle-collect={PREFIXES[side]}{call}" for call in CALLS),
-                 f"--dump-before={BEGINS}", f"--dump-before={ENDS}", args.program, side, args.day]
+                 "--compress-pos=no", *(f"--toggle-collect={prefix}_{call}" for call in calls),
+                 f"--dump-before={BEGINS}", f"--dump-before={ENDS}", args.program, side, part, args.day]
         said = run_text(*words)
         files = sorted((f for f in os.listdir(folder) if f.startswith("out.")), key=lambda f: int(f[4:]))
         parts = [read_callgrind(os.path.join(folder, f)) for f in files]
@@ -144,8 +145,9 @@ class Work:
         self.all = sum(self.functions.values())
 
 
-def count(args, side):
-    said, parts = emulated(args, side) if args.emulator else grinded(args, side)
+def count(args, side, part):
+    """Of the card, or of the box: a call of the box may make one of the card, which is then not counted twice."""
+    said, parts = emulated(args, side, part) if args.emulator else grinded(args, side, part)
     lines = said.splitlines()
     if any(line.count("\t") != 2 for line in lines) or len(parts) != len(lines):
         sys.exit(f"{side}: {len(lines)} pieces of work and {len(parts)} counts\n{said}")
@@ -194,7 +196,7 @@ def print_dearest(work):
 
 def main():
     parser = argparse.ArgumentParser(description=__doc__.splitlines()[0])
-    parser.add_argument("--older", action="store_true")
+    parser.add_argument("--olders", type=int, default=0)
     parser.add_argument("--emulator")
     parser.add_argument("--nm", default="nm")
     parser.add_argument("--remark", default="")
@@ -204,7 +206,8 @@ def main():
     args = parser.parse_args()
     if not args.emulator and not shutil.which("valgrind"):
         sys.exit("count: no valgrind here, which is needed where there is no emulator")
-    works = {side: count(args, side) for side in PREFIXES if side != "older" or args.older}
+    sides = ("proved", *(f"older {i + 1}" for i in range(args.olders)), "plain")
+    works = {side: count(args, side, "card") + count(args, side, "box") for side in sides}
     print(f"Instructions, not times{args.remark and '; '}{args.remark}.\n")
     for group, said in GROUPS.items():
         print_work(works, group, said)

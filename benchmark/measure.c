@@ -9,13 +9,14 @@
 #include <string.h>
 #include <time.h>
 
-enum { PASSES = 30, TURNS = 12, MOST_SIDES = 5, MOST_WORKS = 16 };
+enum { PASSES = 30, TURNS = 12, MOST_SIDES = 6, MOST_WORKS = 16 };
 
-/* The plain card by each compiler that was there, and an older proved card, where one was given. */
+/* The plain card by each compiler that was there, and older proved cards, where they were given. */
 extern const struct side plain_gcc_O2 __attribute__((weak));
 extern const struct side plain_gcc_O3 __attribute__((weak));
 extern const struct side plain_clang_O3 __attribute__((weak));
-extern const struct side older __attribute__((weak));
+extern const struct side older_1 __attribute__((weak));
+extern const struct side older_2 __attribute__((weak));
 
 struct column {
     const char *head;
@@ -124,7 +125,8 @@ int main(int count, char **words)
     }
     open_work(words[2]);
     add_column("proved", &proved);
-    add_column("older", &older);
+    add_column("older 1", &older_1);
+    add_column("older 2", &older_2);
     first_plain = column_count;
     add_column("gcc -O2", &plain_gcc_O2);
     add_column("gcc -O3", &plain_gcc_O3);

@@ -10,11 +10,6 @@ struct stream {
     uint64_t stopped, left, place, count;
 };
 
-struct offer {
-    const uint8_t *octets;
-    size_t length, eaten;
-};
-
 _Static_assert(sizeof(struct stream) == CARD_STREAM_NUMBERS * sizeof(uint64_t), "a stream is the lent numbers");
 
 static uint32_t two_at(const uint8_t *s)
@@ -24,82 +19,70 @@ static uint32_t two_at(const uint8_t *s)
     return __builtin_bswap16(x);
 }
 
-/* As many of the offered octets as may be held: a head, or what is left of the PDU. */
-static void fill(struct stream *s, uint8_t *buffer, struct offer *o)
-{
-    size_t space = (s->left == 0 ? PDU_HEAD : s->left) - s->count, rest = o->length - o->eaten;
-    size_t n = space < rest ? space : rest;
-    uint8_t *to = buffer + s->place + s->count;
-    if (n == 1)
-        *to = o->octets[o->eaten];
-    else
-        memcpy(to, o->octets + o->eaten, n);
-    s->count += n;
-    o->eaten += n;
-}
-
 /* Each field as soon as its octets are there. */
-static bool is_bad_head(const uint8_t *held, size_t count, const uint8_t *identifier)
+static bool is_bad_head(const uint8_t *held, size_t count, const uint8_t *expected)
 {
     if (count >= 2 && two_at(held) != 1)
         return true;
     if (count >= 4 && (two_at(held + 2) < LEAST_LENGTH || two_at(held + 2) > MOST_LENGTH))
         return true;
-    return count == PDU_HEAD && memcmp(held + 4, identifier, CARD_IDENTIFIER_OCTETS) != 0;
+    return count == PDU_HEAD && memcmp(held + 4, expected, CARD_IDENTIFIER_OCTETS) != 0;
 }
 
-/* Of a message, within what is left of the PDU; 0 where it is not whole yet. */
-static size_t whole_message(const struct stream *s, const uint8_t *buffer, bool *bad)
+/* Whether a message with `count` of its octets there runs past what is left of the PDU. */
+static inline bool is_past(const uint8_t *message, size_t count, size_t left)
 {
-    *bad = s->left < MESSAGE_HEAD;
-    if (*bad || s->count < MESSAGE_HEAD)
-        return 0;
-    size_t size = MESSAGE_HEAD + two_at(buffer + s->place + 2);
-    *bad = size > s->left;
-    return *bad || s->count < size ? 0 : size;
+    return left < MESSAGE_HEAD || (count >= MESSAGE_HEAD && MESSAGE_HEAD + two_at(message + 2) > left);
 }
 
-static void stop(struct stream *s, struct offer *o)
+static size_t stop(struct stream *s, size_t eaten)
 {
     *s = (struct stream){1, 0, 0, 0};
-    o->eaten = o->length;
+    return eaten;
 }
 
-/* A message is done with; whether what is left shows that the stream stops. */
-static bool pass(struct stream *s, const uint8_t *buffer, size_t size)
+static inline size_t copy(uint8_t *to, const uint8_t *from, size_t space, size_t length)
 {
-    bool bad;
+    size_t n = space < length ? space : length;
+    if (n == 1)
+        *to = *from;
+    else
+        memcpy(to, from, n);
+    return n;
+}
+
+/* Octets of a PDU's head: how many were eaten. Behind a whole one the messages lie from the buffer's front on. */
+static size_t read_head(struct stream *s, uint8_t *buffer, const uint8_t *expected, const uint8_t *offered, size_t length)
+{
+    size_t n = copy(buffer + s->count, offered, PDU_HEAD - s->count, length);
+    s->count += n;
+    if (is_bad_head(buffer, s->count, expected))
+        return stop(s, length);
+    if (s->count == PDU_HEAD)
+        *s = (struct stream){0, two_at(buffer + 2) - CARD_IDENTIFIER_OCTETS, 0, 0};
+    return n;
+}
+
+struct call {
+    uint64_t *numbers;
+    uint8_t *names;
+    uint32_t neighbour;
+    uint8_t *out;
+    uint32_t *answer;
+};
+
+/* A whole message goes to the card, and the stream on behind it. */
+static size_t hand_on(struct stream *s, const uint8_t *buffer, size_t size, struct call c)
+{
+    size_t written = plain_receive(c.numbers, c.names, c.neighbour, buffer + s->place, size, c.out, CARD_SERVE_ROOM, c.answer);
     s->left -= size;
     s->place += size;
     s->count -= size;
-    if (s->left == 0) {
-        s->place = s->count = 0;
-        return false;
-    }
-    whole_message(s, buffer, &bad);
-    return bad;
-}
-
-/* The octets of the message that is then held whole, or 0. */
-static size_t take_octets(struct stream *s, uint8_t *buffer, const uint8_t *identifier, struct offer *o)
-{
-    bool bad;
-    fill(s, buffer, o);
-    if (s->left == 0) {
-        const uint8_t *head = buffer + s->place;
-        if (is_bad_head(head, s->count, identifier)) {
-            stop(s, o);
-            return 0;
-        }
-        if (s->count < PDU_HEAD)
-            return 0;
-        *s = (struct stream){0, two_at(head + 2) - CARD_IDENTIFIER_OCTETS, 0, 0};
-        fill(s, buffer, o);
-    }
-    size_t size = whole_message(s, buffer, &bad);
-    if (bad)
-        stop(s, o);
-    return size;
+    if (s->left == 0)
+        s->place = 0;
+    else if (is_past(buffer + s->place, s->count, s->left))
+        stop(s, 0);
+    return written;
 }
 
 size_t plain_serve(uint64_t *numbers, uint8_t *names, uint64_t *stream, uint8_t *buffer, size_t buffer_length,
@@ -107,23 +90,28 @@ size_t plain_serve(uint64_t *numbers, uint8_t *names, uint64_t *stream, uint8_t 
                    uint8_t *out, size_t out_length, uint32_t *answer, size_t *eaten)
 {
     struct stream *s = (struct stream *)stream;
-    struct offer o = {offered, offered_length, 0};
-    size_t written = 0, size = 0;
+    size_t n = 0, written = 0;
     *eaten = 0;
-    *answer = neighbour >= CARD_NEIGHBOURS                                              ? CARD_NO_SUCH_NEIGHBOUR
-              : out_length < CARD_SERVE_ROOM || buffer_length < CARD_STREAM_OCTETS ? CARD_SESSION_SHORT
-                                                                                        : CARD_ACCEPTED;
-    if (*answer != CARD_ACCEPTED)
+    if (neighbour >= CARD_NEIGHBOURS || out_length < CARD_SERVE_ROOM || buffer_length < CARD_STREAM_OCTETS) {
+        *answer = neighbour >= CARD_NEIGHBOURS ? CARD_NO_SUCH_NEIGHBOUR : CARD_SESSION_SHORT;
         return 0;
-    if (s->stopped)
-        o.eaten = o.length;
-    else
-        size = take_octets(s, buffer, expected, &o);
-    if (size != 0) {
-        written = plain_receive(numbers, names, neighbour, buffer + s->place, size, out, CARD_SERVE_ROOM, answer);
-        if (pass(s, buffer, size))
-            stop(s, &o);
     }
-    *eaten = o.eaten;
+    *answer = CARD_ACCEPTED;
+    if (s->left == 0 && !s->stopped)
+        n = read_head(s, buffer, expected, offered, offered_length);
+    if (s->left != 0) {
+        uint8_t *message = buffer + s->place;
+        size_t more = copy(message + s->count, offered + n, s->left - s->count, offered_length - n), count = s->count + more;
+        n += more;
+        s->count = count;
+        if (count >= MESSAGE_HEAD) {
+            size_t size = MESSAGE_HEAD + two_at(message + 2);
+            if (size > s->left)
+                stop(s, 0);
+            else if (size <= count)
+                written = hand_on(s, buffer, size, (struct call){numbers, names, neighbour, out, answer});
+        }
+    }
+    *eaten = s->stopped ? offered_length : n;
     return written;
 }
