@@ -1,5 +1,5 @@
 # shellcheck shell=bash
-# Sourced by ./bench, ./layers and ./check. What 'apart' starts has a process group of its own and puts its temporary files into the
+# Sourced by ./check and tools/proved.sh. What 'apart' starts has a process group of its own and puts its temporary files into the
 # folder $scratch; both are gone when the script ends, however it ends.
 scratch=$(mktemp -d)
 # rt runs programs as nobody, from a folder in there

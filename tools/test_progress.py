@@ -157,7 +157,7 @@ class Interrupted(Case):
     def setUp(self):
         super().setUp()
         (self.place / "tools").mkdir()
-        for name in ("bench", "tools/apart.sh", "tools/progress"):
+        for name in ("bench", "tools/apart.sh", "tools/proved.sh", "tools/progress"):
             shutil.copy(made.ROOT / name, self.place / name)
 
     def wait_for(self, done):
