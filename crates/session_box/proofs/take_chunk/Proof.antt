@@ -8,7 +8,8 @@ use Rattle.card.specs.Table.{cardOf}
 use Rattle.bench_input.specs.Input.{Stand, afterAll}
 use Rattle.bench_input.proofs.Input.{after-none, after-next}
 use Rattle.session_replies.specs.Done.{Box}
-use Rattle.session_box.specs.Input.{four, boxOf, boxLeft, Stands}
+use Rattle.session_lines.specs.Four.{four, boxOf}
+use Rattle.session_box.specs.Input.{boxLeft, Stands}
 use borrow.Author.Needs.{needs}
 use Rattle.session_box.proofs.take_chunk.Statement.{statement}
 use Rattle.session_box.proofs.take_chunk.Tie as tie

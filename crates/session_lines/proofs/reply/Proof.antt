@@ -1,18 +1,18 @@
--- `session_box::reply` meets its contract. Assumes nothing.
+-- `session_lines::reply` meets its contract. Assumes nothing.
 use native.Mathlib.Omega.{arith}
 use mathlib.Core.Path.{sym}
 use lib.Seq.{length-take-le}
 use Rattle.bench_words.specs.Words.{ascii}
 use Rattle.bench_input.proofs.Input.{keeps-line}
-use Rattle.session_box.proofs.Boxed.{says-bad, too-long}
+use Rattle.session_lines.proofs.Boxed.{says-bad, too-long}
 use borrow.Author.Needs.{needs}
-use Rattle.session_box.proofs.reply.Statement.{statement}
-use Rattle.session_box.proofs.reply.Tie as tie
+use Rattle.session_lines.proofs.reply.Statement.{statement}
+use Rattle.session_lines.proofs.reply.Tie as tie
 
 slice-aggregate-answer-line : tie.Need-slice-aggregate-answer-line
 slice-aggregate-answer-line c =
     let start = c .before .before .before .before .before .before .before .before .before .before .before .before .before .before in
-    sym (length-take-le (start .args .state .kept) (start .args .line .now) (omega arith))
+    sym (length-take-le (start .args .kept) (start .args .line .now) (omega arith))
 
 answer-line-requires : tie.Need-answer-line-requires
 answer-line-requires c κs = search needs
@@ -24,7 +24,7 @@ returns : tie.Need-returns
 returns c =
     let start = c .before .before .before .before .before .before .before .before .before .before .before .before .before .before .before .before .before .before in (
       c .before .before .answer-line .ensures .short,
-      λ o p e. rw (sym (keeps-line (start .args .line .now) (start .args .state .kept) o (c .before .before .before .before .before .before .before .before .before .before .before .before .before .before .before .if1 .taken) p)) (c .before .before .answer-line .ensures),
+      λ o p e. rw (sym (keeps-line (start .args .line .now) (start .args .kept) o (c .before .before .before .before .before .before .before .before .before .before .before .before .before .before .before .if1 .taken) p)) (c .before .before .answer-line .ensures),
     )
 
 slice-aggregate-put-count : tie.Need-slice-aggregate-put-count
@@ -41,7 +41,7 @@ unfolding ascii
 returns-2 c =
     let start = c .before .before .before .before .before .before .before .before in (
       omega arith,
-      λ o p e. says-bad _ _ _ _ _ o (too-long (start .args .line .now) (start .args .state .kept) o (c .before .before .before .before .before .if1 .left) p e) (omega arith) (c .before .before .put-count .ensures .0),
+      λ o p e. says-bad _ _ _ _ _ o (too-long (start .args .line .now) (start .args .kept) o (c .before .before .before .before .before .if1 .left) p e) (omega arith) (c .before .before .put-count .ensures .0),
     )
 
 pub reply-spec : {M : Type 1} → statement M

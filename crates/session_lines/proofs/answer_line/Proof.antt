@@ -1,9 +1,9 @@
--- `session_box::answer_line` meets its contract, stream by stream. Assumes nothing.
+-- `session_lines::answer_line` meets its contract, stream by stream. Assumes nothing.
 use native.Mathlib.Omega.{arith}
-use Rattle.session_box.proofs.Boxed.{says-box}
+use Rattle.session_lines.proofs.Boxed.{says-box}
 use borrow.Author.Needs.{needs}
-use Rattle.session_box.proofs.answer_line.Statement.{statement}
-use Rattle.session_box.proofs.answer_line.Tie as tie
+use Rattle.session_lines.proofs.answer_line.Statement.{statement}
+use Rattle.session_lines.proofs.answer_line.Tie as tie
 
 read-ask-requires : tie.Need-read-ask-requires
 read-ask-requires c κs = search needs
