@@ -1,8 +1,6 @@
 // Serves four neighbours over standard input: their octets, the PDUs to send them, their losses, and every order of the bench; a line for each
 // order. Neighbour N's identifier is 192.0.2.N:0, the card's own 192.0.2.254:0.
-ghost use mathlib.Core.Path.{_≡_};
-ghost use mathlib.Core.List.{List};
-ghost use Prim.Native.Nat.{ℕ, _≤_};
+ghost use Prim.Native.Nat.{_≤_};
 ghost use lib.ListN.{length};
 ghost use Rattle.card.specs.Table.{cardOf};
 ghost use Rattle.bench_input.specs.Input.{Stand, ended, after, afterAll};

@@ -1,7 +1,7 @@
 -- Laws by which what is written and left is what is done. Assumes nothing.
 use Prim.Native.Nat.{ℕ, _-_, _*_, _≤_, min}
 use native.Mathlib.Omega.{arith}
-use mathlib.Core.Path.{_≡_, refl, sym, ap, _∙_}
+use mathlib.Core.Path.{_≡_, refl, _∙_}
 use mathlib.Core.List.{List}
 use lib.ListN.{length, take, drop, length-drop}
 use lib.Seq.{length-take-le}
@@ -21,10 +21,9 @@ use Rattle.bench_verbs.specs.Line.{Said, orderOf}
 use Rattle.bench_lines.specs.Text.{eventLine, textSpace}
 use Rattle.bench_replies.specs.Reply.{eventRoom, replyTo, Says, Answers}
 use Rattle.bench_replies.proofs.Reply.{decoded}
-use Rattle.session_orders.specs.Told.{Told}
 use Rattle.session_orders.specs.Asks.{Lies, meant, InLine}
 use Rattle.session_orders.specs.declared.Ask.{Ask}
-use Rattle.session_turns.specs.Turns.{identifier, Turns, turns, TurnsSay}
+use Rattle.session_turns.specs.Turns.{turns, TurnsSay}
 use Rattle.session_replies.specs.Done.{packRoom, own, doneBy, Obeys}
 
 -- ---- octets

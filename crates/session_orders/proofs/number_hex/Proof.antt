@@ -1,4 +1,3 @@
-use mathlib.Core.Path.{refl}
 use Rattle.bench_words.proofs.Words.{word-none, word-some}
 use Rattle.session_orders.specs.Told.{numberHex}
 use Rattle.session_orders.proofs.Asked.{gives-none}

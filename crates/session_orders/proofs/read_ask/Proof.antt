@@ -1,4 +1,3 @@
-use native.Mathlib.Omega.{arith}
 use Rattle.bench_words.specs.Words.{ascii}
 use Rattle.bench_words.proofs.Words.{word-none, word-some}
 use Rattle.session_orders.proofs.Asked.{tells-bench, long-told, blank-told, octets-told, pack-told, lost-told, other-told}

@@ -1,9 +1,6 @@
 use Rattle.card.specs.Table.{cardOf}
 use Rattle.session.specs.Lent.{streamOf}
 -- `session_turns::turn` meets its contract: one call, and its text. Assumes nothing.
-use Prim.Native.Nat.{_+_, _≤_}
-use native.Mathlib.Omega.{arith}
-use lib.ListN.{length}
 use Rattle.session_turns.specs.Less.{called-leaves}
 use Rattle.session_turns.proofs.Telling.{turn-hands, turn-text, turn-within, turn-did}
 use borrow.Author.Needs.{needs}
