@@ -63,8 +63,7 @@ fn is_carried(numbers: &[u64], p: usize) -> bool
     if memory_labels::mapped_at(numbers, p) == 17 {
         return true;
     }
-    let label = memory::base(numbers) + p as u64;
-    memory_trees::carrier_place(numbers, label) < memory::tree_count(numbers)
+    memory_trees::carrier_at(numbers, p) < memory::tree_count(numbers)
 }
 
 fn all_carried(numbers: &[u64]) -> bool
