@@ -30,6 +30,7 @@ NEIGHBOURS = range(4)
 STOPS = 2  # the neighbour that stops and comes back
 BURSTS = 12
 PATIENCE = 60
+CAPTURE_PATIENCE = 15  # for tshark's start: the box itself waits for thirty seconds
 PIECES = (1, 2, 3, 7, 60, 500, 1460, 20000)
 PAUSES = 0.3  # after so many of the pieces the neighbour waits, so that others come between
 PDU_HEAD = 10
@@ -244,42 +245,40 @@ class Capture:
         if shutil.which("tshark"):
             words = ["tshark", "-q", "-B", "64", "-i", "lo", "-f", f"tcp port {port}", "-w", self.file]
             self.process = subprocess.Popen(words, stdout=subprocess.DEVNULL, stderr=subprocess.DEVNULL)
-            self.until(lambda: self.size() > 0 or self.process.poll() is not None)
+            self.until(lambda: self.has_begun() or self.process.poll() is not None, CAPTURE_PATIENCE)
+        self.runs = self.has_begun()
 
-    def size(self):
-        return self.file.stat().st_size if self.file.is_file() else 0
+    def has_begun(self):
+        return self.file.is_file() and self.file.stat().st_size > 0
 
-    def until(self, true):
-        """Waits for it, ten seconds at most."""
-        for _ in range(100):
-            if true():
-                return
+    def until(self, true, seconds=PATIENCE):
+        """Waits for it, no longer than that."""
+        end = time.monotonic() + seconds
+        while not true() and time.monotonic() < end:
             time.sleep(0.1)
 
-    def is_still(self):
-        """Whether nothing more gets into the file."""
-        size = self.size()
-        time.sleep(1)
-        return self.size() == size
-
-    def end(self):
-        if self.process and self.process.poll() is None:
-            self.until(self.is_still)
-            self.process.send_signal(signal.SIGINT)
-            self.process.wait(PATIENCE)
-
     def messages(self):
-        """The identifiers of the messages from the box to each address, as tshark reads them; None where it may not capture."""
-        if not self.size():
-            return None
+        """The identifiers of the messages from the box to each address, as tshark reads them; of a file that is still written too."""
         choice = ["-d", f"tcp.port=={self.port},ldp", "-Y", f"tcp.srcport=={self.port} and ldp"]
         words = ["tshark", "-r", self.file, *choice, "-T", "fields", "-e", "ip.dst", "-e", "ldp.msg.id"]
-        ran = subprocess.run(words, capture_output=True, text=True, check=True, timeout=PATIENCE)
+        ran = subprocess.run(words, capture_output=True, text=True, check=False, timeout=PATIENCE)
         found = collections.defaultdict(list)
         for line in ran.stdout.splitlines():
             address, numbers = line.split("\t")
             found[address] += [int(number, 16) for number in numbers.split(",")]
         return found
+
+    def wait_for(self, sent):
+        """The messages, when as many are in the file as were sent: it comes when the machine lets it. None where tshark may not capture."""
+        if not self.runs:
+            return None
+        self.until(lambda: sum(map(len, self.messages().values())) >= sent)
+        return self.messages()
+
+    def end(self):
+        if self.process and self.process.poll() is None:
+            self.process.send_signal(signal.SIGINT)
+            self.process.wait(PATIENCE)
 
 
 @made.needs(test_library.COMPILER, "examples/box.c is not built (no compiler for x86-64)")
@@ -337,9 +336,9 @@ class OverTcp(unittest.TestCase):
                 capture = Capture(port, folder)
                 try:
                     talks = self.run_a_day(box, port)
+                    captured = capture.wait_for(sum(len(line.heard) for lines in talks.values() for line in lines))
                 finally:
                     capture.end()
-                captured = capture.messages()
             finally:
                 box.kill()
         self.compare(box.lines, talks)
