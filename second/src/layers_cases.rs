@@ -20,6 +20,7 @@ pub fn day() -> Vec<String> {
     page.bad_names();
     page.rooms_of_names();
     page.wrapped_tree();
+    page.deepest();
     page.lines
 }
 
@@ -129,6 +130,21 @@ impl Page {
         self.show(&wrapped(&around(&ROOT, &[]), &with_opaque(opaque)));
     }
 
+    fn deepest(&mut self) {
+        self.comment("the shortest name in ever more layers: ten are the most, the eleventh is refused 7; a tree of that name");
+        let layer = around(&OTHER_ROOT, &[]);
+        let mut element = with_opaque(formed::bare(1));
+        while let Ok(more) = layers::wrap(&layer, &element, WHOLE_BUFFER) {
+            self.wrap(&layer, &element);
+            self.show(&more);
+            element = more;
+        }
+        self.wrap(&layer, &element);
+        self.order(Order::Join(element.clone()));
+        self.order(Order::Tree(element.clone()));
+        self.order(Order::Leave(element));
+    }
+
     fn bad_names(&mut self) {
         self.comment("octets that 6, 7 or 18 refuse, in each order; 7 comes before 18 where the whole would be too long");
         let plain = around(&ROOT, &[]);
@@ -186,6 +202,16 @@ mod tests {
 
     fn answers() -> Vec<String> {
         Program::Bench.answers(day().join("\n").as_bytes())
+    }
+
+    #[test]
+    fn ten_layers_and_an_eleventh() {
+        let answers = answers();
+        let shown = answers.iter().filter(|a| a.starts_with("layers 0 "));
+        let layers = shown.map(|a| a.matches(" > ").count() + 1);
+        assert_eq!(layers.max(), Some(10));
+        let last = &answers[answers.len() - 4..];
+        assert_eq!((&last[0][..], &last[2][..]), ("wrap 7", "tree leaf"));
     }
 
     #[test]

@@ -9,6 +9,7 @@ use crate::rng::Rng;
 use crate::wire::{self, write_opaque_element as held, TreeName};
 
 const MOST_LAYERS: usize = 9;
+const DEEP: usize = 8;
 
 fn any_layer(scene: &mut Scene) -> Layer {
     let rng = &mut *scene.rng;
@@ -24,8 +25,27 @@ fn any_layer(scene: &mut Scene) -> Layer {
     }
 }
 
+/// The shortest name in eight to ten of the shortest layers, of which the tenth has no place: ten layers with it are the most.
+fn deep_name(scene: &mut Scene) -> Vec<u8> {
+    let rng = &mut *scene.rng;
+    let opaque = formed::bare(1);
+    let root = rng.octets(4);
+    let mut element = wire::write_element(&TreeName { root, opaque });
+    for _ in 0..DEEP + rng.below(3) {
+        let layer = Layer {
+            root: rng.octets(4),
+            eight: Vec::new(),
+        };
+        element = layers::wrap(&layer, &element, WHOLE_BUFFER).unwrap_or(element);
+    }
+    element
+}
+
 /// A name in as many layers as chance will have it and have place.
 fn wrapped_name(scene: &mut Scene) -> Option<Vec<u8>> {
+    if scene.rng.percent(10) {
+        return Some(deep_name(scene));
+    }
     let name = scene.rng.pick(&scene.world.names)?;
     let mut element = wire::write_element(&name);
     for _ in 0..scene.rng.below(MOST_LAYERS) {
