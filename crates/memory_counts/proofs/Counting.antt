@@ -9,9 +9,9 @@ use mathlib.Core.List.{List, [], _∷_}
 use lib.ListN.{take, drop, getD, length, set, length-set, length-drop, drop-of-length-le}
 use lib.Seq.{set-out, getD-set-same, getD-drop, drop-cons}
 use lib.Dec.{eqb, ltb}
-use borrow.Author.Tests.{eq-eqb, ne-eqb, lt-ltb}
+use borrow.Author.Tests.{eq-eqb, ne-eqb}
 use Rattle.meaning.specs.Octets.{any, count, place, same}
-use Rattle.meaning.specs.Lists.{by-test, positive, same-eq}
+use Rattle.meaning.specs.Lists.{by-test, any-count, count-any, same-eq}
 use Rattle.meaning.specs.Wire.{rootIn, rootLength, nameLimit}
 use Rattle.meaning.specs.Card.{Route, Tree, Card, noEntry, withRoutes, withTrees, withCounts, routePlace, isFor, bare, treeAt, isBranch, isEmpty, isLone}
 use Rattle.meaning.specs.Events.{ofRoot, total, inRoot, oneStanding, oneLone, changed, recountedFor, recount, recounted}
@@ -21,7 +21,8 @@ use Rattle.memory.specs.Sizes.{nameSpace}
 use Rattle.memory.specs.Memory.{upTo, textAt, treeName, cardOf, routeCount, treeCount, routeIn}
 use Rattle.memory.proofs.Memory.{trees-length}
 use Rattle.memory.proofs.Marks.{never}
-use Rattle.memory.proofs.Trees.{branches-length, name-at}
+use Rattle.memory.proofs.Trees.{name-at}
+use Rattle.memory_trees.proofs.Others.{one, count-set, one-within}
 
 -- ---- whether a tree is empty
 
@@ -29,61 +30,39 @@ pub empty-leaf : (t : Tree) → true ≡ t .leaf → false ≡ isEmpty t
 unfolding isEmpty
 empty-leaf t e = rw (← e) (sym (and-false (not (any isBranch (t .branches)))))
 
-module _ (ns os : List ℕ) (i : ℕ) (h : i < treeCount ns) where
-  pub empty-branches : (r : Bool) → r ≡ any isBranch (set (set (treeAt i (cardOf ns os) .branches) 16 0) 16 0) → false ≡ treeAt i (cardOf ns os) .leaf → not r ≡ isEmpty (treeAt i (cardOf ns os))
-  unfolding isEmpty
-  empty-branches r e f =
-      let bs : List ℕ = treeAt i (cardOf ns os) .branches in
-      let long : length bs ≡ 16 = branches-length ns os i h in
-      let same : set (set bs 16 0) 16 0 ≡ bs = ap (λ (l : List ℕ). set l 16 0) (set-out bs 16 0 (omega arith)) ∙ set-out bs 16 0 (omega arith) in
-      rw (← f, e, same) (by-test (any isBranch bs) (λ t. rw t refl) (λ t. rw t refl))
-
--- ---- its branches, one after the other
-
-module _ (bs : List ℕ) (n sum all : ℕ) (so-far : sum + count isBranch (drop n bs) ≡ all) where
-  pub branch-more : (x : ℕ) → n < length bs → x ≡ getD bs n 0 → (x ≡ 0 → ⊥) → sum + 1 + count isBranch (drop (n + 1) bs) ≡ all
-  unfolding count isBranch
-  branch-more x h e z =
-      let some : ltb 0 (getD bs n 0) ≡ true = rw (← e) (lt-ltb 0 x (positive x z)) in
-      let step : sum + suc (count isBranch (drop (suc n) bs)) ≡ all = rw (drop-cons bs n 0 h, some) at so-far in
-      rw (add-one n) (omega arith)
-
-  pub branch-none : (x : ℕ) → n < length bs → x ≡ getD bs n 0 → x ≡ 0 → sum + count isBranch (drop (n + 1) bs) ≡ all
-  unfolding count isBranch
-  branch-none x h e z =
-      let none : getD bs n 0 ≡ 0 = sym e ∙ z in
-      rw (add-one n) (rw (drop-cons bs n 0 h, none) at so-far)
-
-  -- the second
-  pub branch-second : (x : ℕ) → n < length bs → x ≡ getD bs n 0 → (x ≡ 0 → ⊥) → sum ≡ 1 → false ≡ eqb all 1
-  branch-second x h e z one = let more = branch-more x h e z in sym (ne-eqb all 1 (λ q. omega arith))
-
-  pub branch-all : length bs ≤ n → sum ≡ all
-  unfolding count
-  branch-all h = let done : sum + 0 ≡ all = rw (drop-of-length-le bs {i = n} h) at so-far in omega arith
+pub empty-branches : (t : Tree) (b : ℕ) → false ≡ t .leaf → b ≡ count isBranch (t .branches) → eqb b 0 ≡ isEmpty t
+unfolding isEmpty
+empty-branches t b f e =
+    by-test (any isBranch (t .branches))
+    (λ some. rw (← f, some) (ne-eqb b 0 (λ z. let no : true ≡ false = sym some ∙ count-any isBranch (t .branches) (sym e ∙ z) in absurd (never (sym no)))))
+    (λ none. rw (← f, none) (eq-eqb b 0 (e ∙ any-count isBranch (t .branches) none)))
 
 -- ---- what one tree counts
 
 module _ (t : Tree) where
-  pub stands-not : true ≡ isEmpty t → 0 ≡ oneStanding t
-  unfolding oneStanding
-  stands-not e = rw (← e) refl
+  abbrev Counted : ℕ → ℕ → Type 0
+  Counted standing lone = (standing ≡ oneStanding t) × (lone ≡ oneLone t)
 
-  pub stands-once : false ≡ isEmpty t → 1 ≡ oneStanding t
-  unfolding oneStanding
-  stands-once e = rw (← e) refl
+  pub with-leaf : true ≡ t .leaf → Counted 1 0
+  unfolding oneStanding oneLone isLone
+  with-leaf e = (rw (← empty-leaf t e) refl, rw (← e, and-false (eqb (count isBranch (t .branches)) 1)) refl)
 
-  pub lone-leaf : true ≡ t .leaf → 0 ≡ oneLone t
-  unfolding oneLone isLone
-  lone-leaf e = rw (← e, and-false (eqb (count isBranch (t .branches)) 1)) refl
+  module _ (b : ℕ) (f : false ≡ t .leaf) (e : b ≡ count isBranch (t .branches)) where
+    pub with-none : b ≡ 0 → Counted 0 0
+    unfolding oneStanding oneLone isLone
+    with-none z = (rw (← empty-branches t b f e, eq-eqb b 0 z) refl, rw (← f, ← e, z) refl)
 
-  pub lone-once : (r : Bool) → false ≡ t .leaf → r ≡ eqb (count isBranch (t .branches)) 1 → r ≡ true → 1 ≡ oneLone t
-  unfolding oneLone isLone
-  lone-once r f e one = rw (← f, ← e, one) refl
+    pub with-one : b ≡ 1 → Counted 1 1
+    unfolding oneStanding oneLone isLone
+    with-one z = (rw (← empty-branches t b f e, z) refl, rw (← f, ← e, z) refl)
 
-  pub lone-not : (r : Bool) → false ≡ t .leaf → r ≡ eqb (count isBranch (t .branches)) 1 → r ≡ false → 0 ≡ oneLone t
-  unfolding oneLone isLone
-  lone-not r f e other = rw (← f, ← e, other) refl
+    pub with-more : (b ≡ 0 → ⊥) → (b ≡ 1 → ⊥) → Counted 1 0
+    unfolding oneStanding oneLone isLone
+    with-more z y = (rw (← empty-branches t b f e, ne-eqb b 0 z) refl, rw (← f, ← e, ne-eqb b 1 y) refl)
+
+-- once neighbour n's branch is x: of all branches, a was its own, and m is
+pub count-then : (bs : List ℕ) (n x all a m : ℕ) → n < length bs → all ≡ count isBranch bs → a ≡ one (getD bs n 0) → m ≡ one x → all - a + m ≡ count isBranch (set bs n x)
+count-then bs n x all a m h el ea em = omega (arith, count-set bs n x h, one-within bs n)
 
 -- ---- a tree is counted anew
 
@@ -106,16 +85,11 @@ counted-there ns os t s d k a b n m x y x' y' h e en em ex ey ex' ey' ea eb g =
     let there : getD (cardOf ns os .routes) k (noEntry (rootIn (s .name))) ≡ routeIn ns os k = tab-get (routeCount ns) (routeIn ns os) k (noEntry (rootIn (s .name))) h in
     rw (← e, there, ← en, ← em, ← ex, ← ey, ← ex', ← ey', ← ea, ← eb) g
 
--- ---- one tree's row anew, and then its count
+-- ---- one tree anew: its root's place is as it was
 
-pub count-kept : (ns ns' os : List ℕ) (i : ℕ) (t : Tree) → cardOf ns' os ≡ withTrees (set (cardOf ns os .trees) i t) (cardOf ns os) → treeCount ns' ≡ treeCount ns
-unfolding withTrees
-count-kept ns ns' os i t e = sym (trees-length ns' os) ∙ ap (λ (c : Card). length (c .trees)) e ∙ simp (length-set, trees-length) refl
-
-pub changed-tree : (c d e : Card) (i : ℕ) (t s : Tree) → i < length (c .trees) → d ≡ withTrees (set (c .trees) i s) c → e ≡ recounted t (treeAt i d) d → e ≡ recounted t s (withTrees (set (c .trees) i s) c)
-changed-tree c d e i t s h g k =
-    let there : treeAt i (withTrees (set (c .trees) i s) c) ≡ s = unfold treeAt withTrees in getD-set-same (c .trees) i s (bare []) h in
-    k ∙ rw (g, there) refl
+pub place-kept : (c d : Card) (i k : ℕ) (s : Tree) → d ≡ withTrees (set (c .trees) i s) c → s .name ≡ treeAt i c .name → k ≡ routePlace (rootIn (treeAt i c .name)) c → k ≡ routePlace (rootIn (s .name)) d
+unfolding withTrees routePlace
+place-kept c d i k s e n h = rw (n, e) h
 
 -- ---- all trees of a root
 

@@ -4,7 +4,6 @@ ghost use mathlib.Core.Bool.{false};
 ghost use mathlib.Core.List.{List};
 ghost use Prim.Native.Nat.{ℕ, _≤_, _<_};
 ghost use lib.ListN.{set};
-ghost use lib.Dec.{eqb};
 ghost use Rattle.meaning.specs.Octets.{count, same};
 ghost use Rattle.meaning.specs.Wire.{rootIn};
 ghost use Rattle.meaning.specs.Card.{Tree, withTrees, withBranch, withLeaf, treeAt, isBranch, isEmpty, routePlace, treeLimit, routeLimit};
@@ -29,43 +28,48 @@ pub fn is_empty(numbers: &[u64], i: usize) -> bool
     if memory_trees::is_leaf(numbers, i) {
         return false;
     }
-    !memory_trees::any_branch(numbers, i, 16, 0, 16)
+    memory_trees::branch_count(numbers, i) == 0
 }
 
-// Whether it has one branch and no more: the second that is found ends the search.
-fn is_single(numbers: &[u64], i: usize) -> bool
-    requires { ⌜ Numbers (now numbers) × (i < treeCount (now numbers)) × (i < treeLimit) ⌝ }
-    ensures { λ r. ⌜ ((os : List ℕ) → r ≡ eqb (count isBranch (treeAt i (cardOf (now (numbers .entry)) os) .branches)) 1) ⌝ }
+// What a tree counts that has so many branches, and a leaf or none.
+fn counts_of(leaf: bool, branches: u64) -> Counts
+    ensures { λ r. ⌜ ((t : Tree) → leaf ≡ t .leaf → branches ≡ count isBranch (t .branches) → (r .standing ≡ oneStanding t) × (r .lone ≡ oneLone t))
+        × (r .standing ≤ 1) × (r .lone ≤ 1) ⌝ }
 {
-    let mut sum = 0u64;
-    let mut n = 0;
-    while n < 16 {
-        if memory_trees::branch(numbers, i, n) != 0 {
-            if sum == 1 {
-                return false;
-            }
-            sum += 1;
-        }
-        n += 1;
+    if leaf {
+        return Counts {
+            standing: 1,
+            lone: 0,
+        };
     }
-    sum == 1
-}
-
-fn one_standing(numbers: &[u64], i: usize) -> u64
-    requires { ⌜ Numbers (now numbers) × (i < treeCount (now numbers)) × (i < treeLimit) ⌝ }
-    ensures { λ r. ⌜ ((os : List ℕ) → r ≡ oneStanding (treeAt i (cardOf (now (numbers .entry)) os))) × (r ≤ 1) ⌝ }
-{
-    if is_empty(numbers, i) { 0 } else { 1 }
-}
-
-fn one_lone(numbers: &[u64], i: usize) -> u64
-    requires { ⌜ Numbers (now numbers) × (i < treeCount (now numbers)) × (i < treeLimit) ⌝ }
-    ensures { λ r. ⌜ ((os : List ℕ) → r ≡ oneLone (treeAt i (cardOf (now (numbers .entry)) os))) × (r ≤ 1) ⌝ }
-{
-    if memory_trees::is_leaf(numbers, i) {
-        return 0;
+    if branches == 0 {
+        return Counts {
+            standing: 0,
+            lone: 0,
+        };
     }
-    if is_single(numbers, i) { 1 } else { 0 }
+    if branches == 1 {
+        return Counts {
+            standing: 1,
+            lone: 1,
+        };
+    }
+    Counts {
+        standing: 1,
+        lone: 0,
+    }
+}
+
+// The same of the tree at place i.
+pub fn counts_at(numbers: &[u64], i: usize) -> Counts
+    requires { ⌜ Numbers (now numbers) × (i < treeCount (now numbers)) × (i < treeLimit) ⌝ }
+    ensures { λ r. ⌜ ((os : List ℕ) → (let t = treeAt i (cardOf (now (numbers .entry)) os) in (r .standing ≡ oneStanding t) × (r .lone ≡ oneLone t)))
+        × (r .standing ≤ 1) × (r .lone ≤ 1) ⌝ }
+{
+    counts_of(
+        memory_trees::is_leaf(numbers, i),
+        memory_trees::branch_count(numbers, i),
+    )
 }
 
 // ---- a change of one tree
@@ -77,61 +81,69 @@ fn change(n: u64, before: u64, after: u64) -> u64
     (n + after + (256 - before)) % 256
 }
 
-// The place of the root of the tree at place i.
-fn its_root(numbers: &[u64], names: &[u8], i: usize) -> usize
+// The place of the root of a tree of that name; the number of roots where it has no route.
+pub fn root_place(numbers: &[u64], names: &[u8], name: &[u8]) -> usize
+    requires { ⌜ Numbers (now numbers) × Names (now names) ⌝ }
+    ensures { λ r. ⌜ (r ≡ routePlace (rootIn (now (name .entry))) (cardOf (now (numbers .entry)) (now (names .entry)))) × (r ≤ routeLimit) ⌝ }
+{
+    memory_routes::route_place(numbers, names, wire_name::root_of(name))
+}
+
+// That of the tree at place i.
+pub fn its_root(numbers: &[u64], names: &[u8], i: usize) -> usize
     requires { ⌜ Numbers (now numbers) × Names (now names) × (i < treeCount (now numbers)) × (i < treeLimit) ⌝ }
     ensures { λ r. ⌜ (let c = cardOf (now (numbers .entry)) (now (names .entry)) in (r ≡ routePlace (rootIn (treeAt i c .name)) c) × (r ≤ routeLimit)) ⌝ }
 {
-    memory_routes::route_place(
-        numbers,
-        names,
-        wire_name::root_of(memory_trees::tree_name(names, i)),
-    )
+    root_place(numbers, names, memory_trees::tree_name(names, i))
 }
 
-// The tree at place i counted so many before: its root's entry, where there is one, counts it as it is now.
-pub fn recount(numbers: &mut [u64], names: &[u8], i: usize, standing: u64, lone: u64)
-    requires { ⌜ Numbers (now numbers) × Names (now names) × (i < treeCount (now numbers)) × (i < treeLimit) × (standing ≤ 1) × (lone ≤ 1) ⌝ }
-    ensures { λ _. ⌜ (let c = cardOf (now (numbers .entry)) (now (names .entry)) in ((t : Tree) → standing ≡ oneStanding t → lone ≡ oneLone t
-        → cardOf (now (numbers .exit)) (now (names .entry)) ≡ recounted t (treeAt i c) c)) ⌝ }
+// A tree whose root's place is k counted `before`: its root's entry, where there is one, counts it as `after`.
+pub fn recount(numbers: &mut [u64], k: usize, before: Counts, after: Counts)
+    requires { ⌜ Numbers (now numbers) × (before .standing ≤ 1) × (before .lone ≤ 1) × (after .standing ≤ 1) × (after .lone ≤ 1) ⌝ }
+    ensures { λ _. ⌜ ((os : List ℕ) (t s : Tree) → (let c = cardOf (now (numbers .entry)) os in k ≡ routePlace (rootIn (s .name)) c
+        → before .standing ≡ oneStanding t → before .lone ≡ oneLone t → after .standing ≡ oneStanding s → after .lone ≡ oneLone s
+        → cardOf (now (numbers .exit)) os ≡ recounted t s c)) ⌝ }
 {
-    let stands = one_standing(numbers, i);
-    let alone = one_lone(numbers, i);
-    if stands == standing {
-        if alone == lone {
-            return;
-        }
-    }
-    let k = its_root(numbers, names, i);
     if k < memory::route_count(numbers) {
-        let a = change(memory_routes::standing(numbers, k), standing, stands);
-        let b = change(memory_routes::lone(numbers, k), lone, alone);
+        let a = change(
+            memory_routes::standing(numbers, k),
+            before.standing,
+            after.standing,
+        );
+        let b = change(memory_routes::lone(numbers, k), before.lone, after.lone);
         memory_routes::set_counts(numbers, k, a, b);
         return;
     }
 }
 
-// Neighbour n's branch of the tree at place i is `label` from now on, and is counted so.
-pub fn change_branch(numbers: &mut [u64], names: &[u8], i: usize, n: usize, label: u64)
-    requires { ⌜ Numbers (now numbers) × Names (now names) × (i < treeCount (now numbers)) × (i < treeLimit) × (n < 16) ⌝ }
-    ensures { λ _. ⌜ (let c = cardOf (now (numbers .entry)) (now (names .entry)) in let t = withBranch n label (treeAt i c) in
-        cardOf (now (numbers .exit)) (now (names .entry)) ≡ recounted (treeAt i c) t (withTrees (set (c .trees) i t) c)) ⌝ }
+// Neighbour n's branch of the tree at place i, whose root's place is k, is `label` from now on, and is counted so.
+pub fn change_branch(numbers: &mut [u64], i: usize, k: usize, n: usize, label: u64)
+    requires { ⌜ Numbers (now numbers) × (i < treeCount (now numbers)) × (i < treeLimit) × (n < 16) ⌝ }
+    ensures { λ _. ⌜ ((os : List ℕ) → (let c = cardOf (now (numbers .entry)) os in let t = withBranch n label (treeAt i c) in
+        k ≡ routePlace (rootIn (treeAt i c .name)) c → cardOf (now (numbers .exit)) os ≡ recounted (treeAt i c) t (withTrees (set (c .trees) i t) c))) ⌝ }
 {
-    let standing = one_standing(numbers, i);
-    let lone = one_lone(numbers, i);
+    let leaf = memory_trees::is_leaf(numbers, i);
+    let branches = memory_trees::branch_count(numbers, i);
+    let others = branches - memory_trees::count_of(numbers, i, n);
     memory_trees::set_branch(numbers, i, n, label);
-    recount(numbers, names, i, standing, lone);
+    recount(
+        numbers,
+        k,
+        counts_of(leaf, branches),
+        counts_of(leaf, others + memory_trees::one(label)),
+    );
 }
 
-pub fn change_leaf(numbers: &mut [u64], names: &[u8], i: usize, leaf: bool)
-    requires { ⌜ Numbers (now numbers) × Names (now names) × (i < treeCount (now numbers)) × (i < treeLimit) ⌝ }
-    ensures { λ _. ⌜ (let c = cardOf (now (numbers .entry)) (now (names .entry)) in let t = withLeaf leaf (treeAt i c) in
-        cardOf (now (numbers .exit)) (now (names .entry)) ≡ recounted (treeAt i c) t (withTrees (set (c .trees) i t) c)) ⌝ }
+// The same of its leaf.
+pub fn change_leaf(numbers: &mut [u64], i: usize, k: usize, leaf: bool)
+    requires { ⌜ Numbers (now numbers) × (i < treeCount (now numbers)) × (i < treeLimit) ⌝ }
+    ensures { λ _. ⌜ ((os : List ℕ) → (let c = cardOf (now (numbers .entry)) os in let t = withLeaf leaf (treeAt i c) in
+        k ≡ routePlace (rootIn (treeAt i c .name)) c → cardOf (now (numbers .exit)) os ≡ recounted (treeAt i c) t (withTrees (set (c .trees) i t) c))) ⌝ }
 {
-    let standing = one_standing(numbers, i);
-    let lone = one_lone(numbers, i);
+    let branches = memory_trees::branch_count(numbers, i);
+    let before = counts_of(memory_trees::is_leaf(numbers, i), branches);
     memory_trees::set_leaf(numbers, i, leaf);
-    recount(numbers, names, i, standing, lone);
+    recount(numbers, k, before, counts_of(leaf, branches));
 }
 
 // ---- all trees of a root
@@ -177,8 +189,9 @@ pub fn work_out(numbers: &[u64], names: &[u8], root: &[u8]) -> Counts
     let mut i = 0;
     while i < k {
         if is_of_root(names, i, root) {
-            standing += one_standing(numbers, i);
-            lone += one_lone(numbers, i);
+            let t = counts_at(numbers, i);
+            standing += t.standing;
+            lone += t.lone;
         }
         i += 1;
     }

@@ -5,7 +5,7 @@ ghost use mathlib.Core.List.{List};
 ghost use mathlib.Core.Logic.{_⊎_};
 ghost use Prim.Native.Nat.{ℕ, _+_, _*_, _-_, _≤_, _<_};
 ghost use lib.ListN.{length, getD, set};
-ghost use Rattle.meaning.specs.Octets.{place, any, same};
+ghost use Rattle.meaning.specs.Octets.{pick, place, any, count, same};
 ghost use Rattle.meaning.specs.Wire.{nameLimit};
 ghost use Rattle.meaning.specs.Card.{withTrees, withBranch, withLeaf, treePlace, treeAt, isBranch, useOf, heldFor, carries, labelCount, treeLimit};
 ghost use Rattle.meaning.specs.Events.{setUse, setLabel, ended};
@@ -98,30 +98,49 @@ pub fn branches(numbers: &[u64], i: usize) -> [u64; 16]
     ]
 }
 
-fn is_other(k: usize, n: usize, but: usize) -> bool
-    ensures { λ r. ⌜ (r ≡ true → (k ≡ n → ⊥) × (k ≡ but → ⊥)) × (r ≡ false → (k ≡ n) ⊎ (k ≡ but)) ⌝ }
+// Whether x is a branch, as a number.
+pub fn one(x: u64) -> u64
+    ensures { λ r. ⌜ (r ≡ pick (isBranch x) 1 0) × (r ≤ 1) ⌝ }
 {
-    if k == n {
-        return false;
-    }
-    k != but
+    if x == 0 { 0 } else { 1 }
 }
 
-// Whether the tree has a branch of another neighbour than n and `but`. A branch that is not there takes one test.
+// How many branches the tree has. All sixteen are read, and no step hangs on which of them stand: nothing foretells that.
+pub fn branch_count(numbers: &[u64], i: usize) -> u64
+    requires { ⌜ Numbers (now numbers) × (i < treeCount (now numbers)) × (i < treeLimit) ⌝ }
+    ensures { λ r. ⌜ ((os : List ℕ) → r ≡ count isBranch (treeAt i (cardOf (now (numbers .entry)) os) .branches)) × (r ≤ 16) ⌝ }
+{
+    let mut sum = 0;
+    let mut n = 0;
+    while n < 16 {
+        sum += one(branch(numbers, i, n));
+        n += 1;
+    }
+    sum
+}
+
+// How many of them are neighbour n's: one, or none. A number above 15 is nobody's.
+pub fn count_of(numbers: &[u64], i: usize, n: usize) -> u64
+    requires { ⌜ Numbers (now numbers) × (i < treeCount (now numbers)) × (i < treeLimit) ⌝ }
+    ensures { λ r. ⌜ ((os : List ℕ) → r ≡ pick (isBranch (getD (treeAt i (cardOf (now (numbers .entry)) os) .branches) n 0)) 1 0) × (r ≤ 1) ⌝ }
+{
+    if n < 16 {
+        return one(branch(numbers, i, n));
+    }
+    0
+}
+
+// Whether the tree has a branch of another neighbour than n and `but`.
 fn any_other(numbers: &[u64], i: usize, n: usize, but: usize) -> bool
     requires { ⌜ Numbers (now numbers) × (i < treeCount (now numbers)) × (i < treeLimit) ⌝ }
     ensures { λ r. ⌜ ((os : List ℕ) → r ≡ any isBranch (set (set (treeAt i (cardOf (now (numbers .entry)) os) .branches) n 0) but 0)) ⌝ }
 {
-    let mut k = 0;
-    while k < 16 {
-        if branch(numbers, i, k) != 0 {
-            if is_other(k, n, but) {
-                return true;
-            }
-        }
-        k += 1;
+    let all = branch_count(numbers, i);
+    let apart = count_of(numbers, i, n);
+    if n == but {
+        return apart < all;
     }
-    false
+    apart + count_of(numbers, i, but) < all
 }
 
 // Whether the branch x of neighbour n is one, apart from that of neighbour `but`.

@@ -28,14 +28,11 @@ loop-holds c = (omega arith, omega arith, omega arith, omega arith, omega arith)
 is-of-root-requires : tie.Need-is-of-root-requires Inv-loop μ-loop
 is-of-root-requires c κs = search needs
 
-one-standing-requires : tie.Need-one-standing-requires Inv-loop μ-loop
-one-standing-requires c κs = search needs
+counts-at-requires : tie.Need-counts-at-requires Inv-loop μ-loop
+counts-at-requires c κs = search needs
 
 add-standing : tie.Need-add-standing Inv-loop μ-loop
 add-standing c = search needs
-
-one-lone-requires : tie.Need-one-lone-requires Inv-loop μ-loop
-one-lone-requires c κs = search needs
 
 add-lone : tie.Need-add-lone Inv-loop μ-loop
 add-lone c = search needs
@@ -55,14 +52,14 @@ loop-again c =
     let within : l .loop .i < length (card .trees) = rw trees-length (omega arith) in
     let ours = c .before .is-of-root .ensures (s .args .numbers .now) (omega arith) in (
       omega arith,
-      ⊎-elim (λ w. omega (arith, w .3, w .1 .ensures .1)) (λ w. omega (arith, w .1)) (c .if1 .came),
-      ⊎-elim (λ w. omega (arith, w .4, w .2 .ensures .1)) (λ w. omega (arith, w .2)) (c .if1 .came),
+      ⊎-elim (λ w. omega (arith, w .4, w .1 .ensures .1)) (λ w. omega (arith, w .1)) (c .if1 .came),
+      ⊎-elim (λ w. omega (arith, w .5, w .1 .ensures .2)) (λ w. omega (arith, w .2)) (c .if1 .came),
       ⊎-elim
-          (λ w. ap (λ (k : ℕ). k + total (inRoot (s .args .root .now) oneStanding) (drop (l .loop .i + 1) (card .trees))) (w .3) ∙ total-more (s .args .root .now) oneStanding card (l .loop .i) (l .loop .standing) _ (l .loop .inv .3) _ within (sym (w .0 .taken) ∙ ours) (w .1 .ensures .0 _))
+          (λ w. ap (λ (k : ℕ). k + total (inRoot (s .args .root .now) oneStanding) (drop (l .loop .i + 1) (card .trees))) (w .4) ∙ total-more (s .args .root .now) oneStanding card (l .loop .i) (l .loop .standing) _ (l .loop .inv .3) _ within (sym (w .0 .taken) ∙ ours) (w .1 .ensures .0 _ .0))
           (λ w. ap (λ (k : ℕ). k + total (inRoot (s .args .root .now) oneStanding) (drop (l .loop .i + 1) (card .trees))) (w .1) ∙ total-past (s .args .root .now) oneStanding card (l .loop .i) (l .loop .standing) _ (l .loop .inv .3) within (sym (w .0 .left) ∙ ours))
           (c .if1 .came),
       ⊎-elim
-          (λ w. ap (λ (k : ℕ). k + total (inRoot (s .args .root .now) oneLone) (drop (l .loop .i + 1) (card .trees))) (w .4) ∙ total-more (s .args .root .now) oneLone card (l .loop .i) (l .loop .lone) _ (l .loop .inv .4) _ within (sym (w .0 .taken) ∙ ours) (w .2 .ensures .0 _))
+          (λ w. ap (λ (k : ℕ). k + total (inRoot (s .args .root .now) oneLone) (drop (l .loop .i + 1) (card .trees))) (w .5) ∙ total-more (s .args .root .now) oneLone card (l .loop .i) (l .loop .lone) _ (l .loop .inv .4) _ within (sym (w .0 .taken) ∙ ours) (w .1 .ensures .0 _ .1))
           (λ w. ap (λ (k : ℕ). k + total (inRoot (s .args .root .now) oneLone) (drop (l .loop .i + 1) (card .trees))) (w .2) ∙ total-past (s .args .root .now) oneLone card (l .loop .i) (l .loop .lone) _ (l .loop .inv .4) within (sym (w .0 .left) ∙ ours))
           (c .if1 .came),
     )
@@ -84,9 +81,8 @@ work-out-spec =
     tree-count-requires
     loop-holds
     is-of-root-requires
-    one-standing-requires
+    counts-at-requires
     add-standing
-    one-lone-requires
     add-lone
     add-i
     loop-less
