@@ -3,7 +3,7 @@ ghost use mathlib.Core.Path.{_≡_};
 ghost use mathlib.Core.List.{List};
 ghost use Prim.Native.Nat.{ℕ, _+_, _*_, _≤_, _<_};
 ghost use Rattle.meaning.specs.Wire.{rootIn, recordLimit};
-ghost use Rattle.meaning.specs.Card.{withBranch, withLeaf, treeAt, routeOf, treeLimit};
+ghost use Rattle.meaning.specs.Card.{withBranch, withLeaf, treeAt, routeOf, routePlace, treeLimit};
 ghost use Rattle.meaning.specs.Events.{need, labelsShort, upstream, holder};
 ghost use Rattle.memory.specs.Sizes.{Numbers, Names};
 ghost use Rattle.memory.specs.Memory.{cardOf, treeCount};
@@ -56,6 +56,14 @@ pub fn upstream_via(via: u64) -> u64
     ensures { λ r. ⌜ (r ≡ upstream via) × (r ≤ 17) × (r ≡ 16 → ⊥) ⌝ }
 {
     if via < 16 { via } else { 17 }
+}
+
+// The upstream of the trees whose root's place is k; 17 for none.
+pub fn upstream_at(numbers: &[u64], k: usize) -> u64
+    requires { ⌜ Numbers (now numbers) ⌝ }
+    ensures { λ r. ⌜ ((os root : List ℕ) → (let c = cardOf (now (numbers .entry)) os in k ≡ routePlace root c → r ≡ upstream (routeOf root c))) × (r ≤ 17) × (r ≡ 16 → ⊥) ⌝ }
+{
+    upstream_via(memory_routes::route_at(numbers, k))
 }
 
 // The neighbour that a tree of this name, if it is not empty, holds a label for; 17 for none.

@@ -23,14 +23,15 @@ fn join_standing(
     ensures { λ r. ⌜ (let c = cardOf (now (numbers .entry)) (now (names .entry)) in Does (finish (length (now (out .entry))) c (joinOf c (treeAt i c .name)))
         (now (answer .exit)) r (now (out .entry)) (now (out .exit)) (cardOf (now (numbers .exit)) (now (names .exit)))) ⌝ }
 {
-    let u = event_tree::leaf_holder(numbers, names, i, true);
+    let k = memory_counts::its_root(numbers, names, i);
+    let u = event_tree::leaf_holder(numbers, i, k, true);
     let refusal = event_tree::standing_refusal(numbers, names, i, u, 0, out.len());
     if refusal != 0 {
         *answer = refusal;
         return 0;
     }
     let id = memory::next_id(numbers);
-    memory_counts::change_leaf(numbers, names, i, true);
+    memory_counts::change_leaf(numbers, i, k, true);
     *answer = 0;
     event_tree::settle(numbers, names, i, u, false, out, 0, id)
 }
@@ -47,7 +48,8 @@ fn join_new(
     ensures { λ r. ⌜ (let c = cardOf (now (numbers .entry)) (now (names .entry)) in Does (finish (length (now (out .entry))) c (joinOf c (now (name .entry))))
         (now (answer .exit)) r (now (out .entry)) (now (out .exit)) (cardOf (now (numbers .exit)) (now (names .exit)))) ⌝ }
 {
-    let u = event_holder::upstream_of(numbers, names, name);
+    let k = memory_counts::root_place(numbers, names, name);
+    let u = event_holder::upstream_at(numbers, k);
     let refusal = event_tree::new_refusal(numbers, u, wire_writer::record_size(name), out.len());
     if refusal != 0 {
         *answer = refusal;
@@ -56,7 +58,7 @@ fn join_new(
     let place = memory::tree_count(numbers);
     let id = memory::next_id(numbers);
     memory_rows::enter_tree(numbers, names, name);
-    memory_counts::change_leaf(numbers, names, place, true);
+    memory_counts::change_leaf(numbers, place, k, true);
     *answer = 0;
     event_tree::grow(numbers, names, place, u, out, id)
 }

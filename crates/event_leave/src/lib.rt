@@ -23,7 +23,8 @@ fn leave_standing(
         (now (answer .exit)) r (now (out .entry)) (now (out .exit)) (cardOf (now (numbers .exit)) (now (names .exit)))) ⌝ }
 {
     let empty = !memory_trees::any_branch(numbers, i, 16, 0, 16);
-    let u = event_tree::leaf_holder(numbers, names, i, false);
+    let k = memory_counts::its_root(numbers, names, i);
+    let u = event_tree::leaf_holder(numbers, i, k, false);
     if !memory_trees::is_leaf(numbers, i) {
         *answer = if event_holder::no_label_for(numbers, i, u) {
             12
@@ -38,7 +39,7 @@ fn leave_standing(
         return 0;
     }
     let id = memory::next_id(numbers);
-    memory_counts::change_leaf(numbers, names, i, false);
+    memory_counts::change_leaf(numbers, i, k, false);
     *answer = 0;
     event_tree::settle(numbers, names, i, u, empty, out, 0, id)
 }

@@ -41,14 +41,15 @@ fn map_standing(
         *answer = 10;
         return 0;
     }
-    let u = event_tree::branch_holder(numbers, names, i, n, label);
+    let k = memory_counts::its_root(numbers, names, i);
+    let u = event_tree::branch_holder(numbers, i, k, n, label);
     let refusal = event_tree::standing_refusal(numbers, names, i, u, 0, out.len());
     if refusal != 0 {
         *answer = refusal;
         return 0;
     }
     let id = memory::next_id(numbers);
-    memory_counts::change_branch(numbers, names, i, n, label);
+    memory_counts::change_branch(numbers, i, k, n, label);
     *answer = 0;
     event_tree::settle(numbers, names, i, u, false, out, 0, id)
 }
@@ -67,7 +68,8 @@ fn map_new(
     ensures { λ r. ⌜ (let c = cardOf (now (numbers .entry)) (now (names .entry)) in Does (finish (length (now (out .entry))) c (onMapping c n (now (name .entry)) label))
         (now (answer .exit)) r (now (out .entry)) (now (out .exit)) (cardOf (now (numbers .exit)) (now (names .exit)))) ⌝ }
 {
-    let u = event_tree::new_holder(numbers, names, name, n);
+    let k = memory_counts::root_place(numbers, names, name);
+    let u = event_tree::new_holder(numbers, k, n);
     let refusal = event_tree::new_refusal(numbers, u, wire_writer::record_size(name), out.len());
     if refusal != 0 {
         *answer = refusal;
@@ -76,7 +78,7 @@ fn map_new(
     let place = memory::tree_count(numbers);
     let id = memory::next_id(numbers);
     memory_rows::enter_tree(numbers, names, name);
-    memory_counts::change_branch(numbers, names, place, n, label);
+    memory_counts::change_branch(numbers, place, k, n, label);
     *answer = 0;
     event_tree::grow(numbers, names, place, u, out, id)
 }

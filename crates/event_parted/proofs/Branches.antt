@@ -5,9 +5,10 @@ use native.Mathlib.Omega.{arith}
 use mathlib.Core.Path.{_≡_, refl, sym, ap, ap₂, _∙_}
 use mathlib.Core.List.{List, [], _∷_}
 use lib.ListN.{length, drop, getD, set, drop-of-length-le}
-use lib.Seq.{drop-cons}
+use lib.Seq.{drop-cons, set-getD}
 use Rattle.meaning.specs.Card.{Route, Tree, Card, withRoutes, withTrees, withBranch, bare, treeAt}
 use Rattle.meaning.specs.Events.{recount, recounted, recountedWithout}
+use Rattle.memory_counts.proofs.Counting.{counted-still}
 use Rattle.event_parted.specs.Parted.{branchesWithout}
 
 unfoldable pub firstWithout : ℕ → ℕ → List Tree → List Tree
@@ -39,6 +40,18 @@ module _ (n : ℕ) where
   first-later zero ts d = refl
   first-later (suc i) [] d = refl
   first-later (suc i) (t ∷ ts) d = first-later i ts d
+
+-- a tree that has no branch of n loses none, and is counted as it was
+less-none : (t : Tree) (n : ℕ) → getD (t .branches) n 0 ≡ 0 → withBranch n 0 t ≡ t
+unfolding withBranch
+less-none t n z = let cleared : set (t .branches) n 0 ≡ t .branches = rw (← z) (set-getD (t .branches) n 0) in rw cleared refl
+
+same-trees : (c : Card) (i : ℕ) → withTrees (set (c .trees) i (treeAt i c)) c ≡ c
+unfolding withTrees treeAt
+same-trees c i = ap (λ (ts : List Tree). withTrees ts c) (set-getD (c .trees) i (bare []))
+
+pub none-there : (c : Card) (i n : ℕ) → getD (treeAt i c .branches) n 0 ≡ 0 → c ≡ recounted (treeAt i c) (withBranch n 0 (treeAt i c)) (withTrees (set (c .trees) i (withBranch n 0 (treeAt i c))) c)
+none-there c i n z = rw (less-none (treeAt i c) n z, same-trees c i) (counted-still (treeAt i c) (treeAt i c) c refl refl)
 
 -- i trees of the card c₀ have lost their branch, and those that are left are to be counted
 pub record Ending (n i : ℕ) (c₀ c : Card) : Type 0 where

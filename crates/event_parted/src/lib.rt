@@ -2,20 +2,33 @@
 ghost use mathlib.Core.Path.{_≡_};
 ghost use mathlib.Core.List.{List, []};
 ghost use Prim.Native.Nat.{ℕ, _+_, _<_};
-ghost use lib.ListN.{getD};
+ghost use lib.ListN.{getD, set};
 ghost use lib.Dec.{eqb};
 ghost use Rattle.meaning.specs.Octets.{pick, cut};
-ghost use Rattle.meaning.specs.Card.{noEntry, labelCount, routeLimit, withRoutes, withTrees, withLabels};
-ghost use Rattle.meaning.specs.Events.{usesWithout, recountedWithout, routesWithout, parted};
+ghost use Rattle.meaning.specs.Card.{noEntry, labelCount, routeLimit, treeLimit, treeAt, withBranch, withRoutes, withTrees, withLabels};
+ghost use Rattle.meaning.specs.Events.{usesWithout, recounted, recountedWithout, routesWithout, parted};
 ghost use Rattle.memory.specs.Sizes.{Numbers, Names};
-ghost use Rattle.memory.specs.Memory.{cardOf, routeCount};
+ghost use Rattle.memory.specs.Memory.{cardOf, routeCount, treeCount};
 ghost use Rattle.event_parted.specs.Parted.{branchesWithout, labelsWithout, isOfAt, Freed};
 use meaning::LABEL_COUNT;
 use memory::MARK_COLUMN;
 
 // ---- branches
 
-// Every tree loses neighbour n's branch, and is counted so.
+// The tree at place i loses neighbour n's branch, where it has one, and is counted so.
+fn end_branch(numbers: &mut [u64], names: &[u8], i: usize, n: usize)
+    requires { ⌜ Numbers (now numbers) × Names (now names) × (i < treeCount (now numbers)) × (i < treeLimit) × (n < 16) ⌝ }
+    ensures { λ _. ⌜ (let c = cardOf (now (numbers .entry)) (now (names .entry)) in let t = withBranch n 0 (treeAt i c) in
+        cardOf (now (numbers .exit)) (now (names .entry)) ≡ recounted (treeAt i c) t (withTrees (set (c .trees) i t) c)) ⌝ }
+{
+    if memory_trees::branch(numbers, i, n) == 0 {
+        return;
+    }
+    let k = memory_counts::its_root(numbers, names, i);
+    memory_counts::change_branch(numbers, i, k, n, 0);
+}
+
+// Every tree loses neighbour n's branch.
 pub fn end_branches(numbers: &mut [u64], names: &[u8], n: usize)
     requires { ⌜ Numbers (now numbers) × Names (now names) × (n < 16) ⌝ }
     ensures { λ _. ⌜ (let c = cardOf (now (numbers .entry)) (now (names .entry)) in cardOf (now (numbers .exit)) (now (names .entry))
@@ -24,7 +37,7 @@ pub fn end_branches(numbers: &mut [u64], names: &[u8], n: usize)
     let k = memory::tree_count(numbers);
     let mut i = 0;
     while i < k {
-        memory_counts::change_branch(numbers, names, i, n, 0);
+        end_branch(numbers, names, i, n);
         i += 1;
     }
 }

@@ -10,7 +10,7 @@ use borrow.Author.Tests.{eq-eqb, ne-eqb, eqb-true, eqb-false, le-leb, lt-leb, le
 use Rattle.meaning.specs.Octets.{pick, any, cut, _when_else_}
 use Rattle.meaning.specs.Lists.{append-nil, by-test, getD-all}
 use Rattle.meaning.specs.Wire.{Sent, records, rootIn, recordSize}
-use Rattle.meaning.specs.Card.{Route, Tree, Card, free, nobody, withRoutes, withTrees, bare, treePlace, treeOf, treeAt, stands, isBranch, isEmpty, notHeld, leadsOn, mappedTo, useOf, heldFor, freeLabels, treeLimit, routeOf}
+use Rattle.meaning.specs.Card.{Route, Tree, Card, free, nobody, withRoutes, withTrees, bare, treePlace, treeOf, treeAt, stands, isBranch, isEmpty, notHeld, leadsOn, mappedTo, useOf, heldFor, freeLabels, treeLimit, routePlace, routeOf}
 use Rattle.meaning.specs.Events.{Outcome, taken, unless, finish, Moved, still, followedBy, letGo, takeUp, moveLabel, relabel, needMove, need, labelsShort, upstream, holder, recounted, holderOf, entered, swept, treesFull, treeRefusal, enter, become}
 use Rattle.meaning_laws.specs.Standing.{not-standing}
 use Rattle.meaning_laws.specs.Counts.{recount-still}
@@ -278,6 +278,14 @@ pub entered-changed : (c d : Card) (a : List ℕ) (i : ℕ) (f : Tree → Tree) 
 entered-changed c d a i f h e =
     rw (e, new-at c (bare a) i h)
     (ap (recounted (bare a) (f (bare a))) (unfold withTrees in ap (λ (l : List Tree). withTrees l c) (rw h (set-snoc (c .trees) (bare a) (f (bare a))))))
+
+-- the place of its root is that of a tree of its name
+pub new-place : (c d : Card) (a : List ℕ) (i k : ℕ) → i ≡ length (c .trees) → d ≡ withTrees (c .trees ++ (bare a ∷ [])) c → k ≡ routePlace (rootIn a) c → k ≡ routePlace (rootIn (treeAt i d .name)) d
+new-place c d a i k h e q =
+    let its-name : bare a .name ≡ a = unfold bare in refl in
+    let name : treeAt i d .name ≡ a = ap (λ (x : Card). treeAt i x .name) e ∙ ap (λ (t : Tree). t .name) (new-at c (bare a) i h) ∙ its-name in
+    let same : routePlace (rootIn a) (withTrees (c .trees ++ (bare a ∷ [])) c) ≡ routePlace (rootIn a) c = unfold withTrees routePlace in refl in
+    rw name (q ∙ sym (ap (routePlace (rootIn a)) e ∙ same))
 
 pub snoc-length : (c : Card) (a : List ℕ) → length (withTrees (c .trees ++ (bare a ∷ [])) c .trees) ≡ length (c .trees) + 1
 unfolding withTrees

@@ -41,18 +41,14 @@ module _ (c : Card) (a : List ℕ) (n l u : ℕ) (near : n < 16) (some : 0 < l) 
   unfolding holderOf holder leadsOn notHeld withBranch bare
   new-led d = rw (← eu) (rw (set-comm (replicate 16 0) n u l 0 (λ e. d (sym e)), any-set (set (replicate 16 0) u 0) n l (rw (length-set {A = ℕ} (replicate 16 0) u 0) near) some) refl)
 
--- what the code finds for a tree t, by its name's upstream
-held-range : (c : Card) (t : Tree) (a : List ℕ) (u r : ℕ) → a ≡ t .name → u ≡ upstream (routeOf (rootIn a) c) → u ≤ 17 → (u ≡ 16 → ⊥) → r ≡ holder u t → (r ≡ holderOf c t) × (r ≤ 17) × (r ≡ 16 → ⊥)
-unfolding holderOf
-held-range c t a u r ea eu low here e =
-    let range = holder-range u t low here in
-    (e ∙ ap (λ (x : ℕ). holder x t) (eu ∙ ap (λ (b : List ℕ). upstream (routeOf (rootIn b) c)) ea), rw e (range .0), (λ z. range .1 (sym e ∙ z)))
+-- what the code finds for a tree t, whose upstream is u
 
-pub branch-held : (c : Card) (t : Tree) (n x : ℕ) (leaf : Bool) (a : List ℕ) (u r : ℕ) → a ≡ t .name → leaf ≡ t .leaf → u ≡ upstream (routeOf (rootIn a) c) → u ≤ 17 → (u ≡ 16 → ⊥) → r ≡ holder u (withLeaf leaf (withBranch n x t))
-    → (r ≡ holderOf c (withBranch n x t)) × (r ≤ 17) × (r ≡ 16 → ⊥)
-unfolding withLeaf withBranch
-branch-held c t n x leaf a u r ea el eu low here e = held-range c (withBranch n x t) a u r ea eu low here (e ∙ ap (λ (b : Bool). holder u (record { name = t .name; branches = set (t .branches) n x; leaf = b; label = t .label })) el)
+pub held-range : (t : Tree) (u r : ℕ) → u ≤ 17 → (u ≡ 16 → ⊥) → r ≡ holder u t → (r ≤ 17) × (r ≡ 16 → ⊥)
+held-range t u r low here e = let range = holder-range u t low here in (rw e (range .0), (λ z. range .1 (sym e ∙ z)))
 
-pub leaf-held : (c : Card) (t : Tree) (leaf : Bool) (a : List ℕ) (u r : ℕ) → a ≡ t .name → length (t .branches) ≡ 16 → u ≡ upstream (routeOf (rootIn a) c) → u ≤ 17 → (u ≡ 16 → ⊥) → r ≡ holder u (withLeaf leaf (withBranch 16 0 t))
-    → (r ≡ holderOf c (withLeaf leaf t)) × (r ≤ 17) × (r ≡ 16 → ⊥)
-leaf-held c t leaf a u r ea sized eu low here e = held-range c (withLeaf leaf t) a u r (ea ∙ unfold withLeaf in refl) eu low here (e ∙ ap (holder u) (with-none t leaf 0 sized))
+pub branch-held : (c : Card) (t : Tree) (n x : ℕ) (leaf : Bool) (u r : ℕ) → leaf ≡ t .leaf → u ≡ upstream (routeOf (rootIn (t .name)) c) → r ≡ holder u (withLeaf leaf (withBranch n x t)) → r ≡ holderOf c (withBranch n x t)
+unfolding withLeaf withBranch holderOf
+branch-held c t n x leaf u r el eu e = rw (← eu, ← el) e
+
+pub leaf-held : (c : Card) (t : Tree) (leaf : Bool) (u r : ℕ) → length (t .branches) ≡ 16 → u ≡ upstream (routeOf (rootIn (t .name)) c) → r ≡ holder u (withLeaf leaf (withBranch 16 0 t)) → r ≡ holderOf c (withLeaf leaf t)
+leaf-held c t leaf u r sized eu e = e ∙ ap (holder u) (with-none t leaf 0 sized) ∙ (unfold holderOf withLeaf in rw eu refl)

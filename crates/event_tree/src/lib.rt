@@ -5,8 +5,8 @@ ghost use Prim.Native.Nat.{ℕ, _+_, _*_, _≤_, _<_};
 ghost use lib.ListN.{length};
 ghost use lib.Dec.{leb, ltb};
 ghost use Rattle.meaning.specs.Octets.{_when_else_};
-ghost use Rattle.meaning.specs.Wire.{records, recordLimit};
-ghost use Rattle.meaning.specs.Card.{treeAt, withBranch, withLeaf, bare, freeLabels, treeLimit};
+ghost use Rattle.meaning.specs.Wire.{rootIn, records, recordLimit};
+ghost use Rattle.meaning.specs.Card.{treeAt, routePlace, withBranch, withLeaf, bare, freeLabels, treeLimit};
 ghost use Rattle.meaning.specs.Events.{relabel, takeUp, needMove, need, labelsShort, holderOf};
 ghost use Rattle.memory.specs.Sizes.{Numbers, Names};
 ghost use Rattle.memory.specs.Memory.{cardOf, treeCount};
@@ -16,30 +16,30 @@ use meaning::TREE_LIMIT;
 
 // ---- for whom it is to hold a label
 
-// The neighbour that the tree at place i holds a label for, once neighbour n's branch is x; 17 for none.
-pub fn branch_holder(numbers: &[u64], names: &[u8], i: usize, n: usize, x: u64) -> u64
-    requires { ⌜ Numbers (now numbers) × Names (now names) × (i < treeCount (now numbers)) × (i < treeLimit) ⌝ }
-    ensures { λ r. ⌜ (let c = cardOf (now (numbers .entry)) (now (names .entry)) in (r ≡ holderOf c (withBranch n x (treeAt i c))) × (r ≤ 17) × (r ≡ 16 → ⊥)) ⌝ }
+// The neighbour that the tree at place i, whose root's place is k, holds a label for, once neighbour n's branch is x; 17 for none.
+pub fn branch_holder(numbers: &[u64], i: usize, k: usize, n: usize, x: u64) -> u64
+    requires { ⌜ Numbers (now numbers) × (i < treeCount (now numbers)) × (i < treeLimit) ⌝ }
+    ensures { λ r. ⌜ ((os : List ℕ) → (let c = cardOf (now (numbers .entry)) os in k ≡ routePlace (rootIn (treeAt i c .name)) c → r ≡ holderOf c (withBranch n x (treeAt i c)))) × (r ≤ 17) × (r ≡ 16 → ⊥) ⌝ }
 {
-    let u = event_holder::upstream_of(numbers, names, memory_trees::tree_name(names, i));
+    let u = event_holder::upstream_at(numbers, k);
     event_holder::holder_then(numbers, i, n, x, memory_trees::is_leaf(numbers, i), u)
 }
 
 // The same, once its leaf mark is `leaf`.
-pub fn leaf_holder(numbers: &[u64], names: &[u8], i: usize, leaf: bool) -> u64
-    requires { ⌜ Numbers (now numbers) × Names (now names) × (i < treeCount (now numbers)) × (i < treeLimit) ⌝ }
-    ensures { λ r. ⌜ (let c = cardOf (now (numbers .entry)) (now (names .entry)) in (r ≡ holderOf c (withLeaf leaf (treeAt i c))) × (r ≤ 17) × (r ≡ 16 → ⊥)) ⌝ }
+pub fn leaf_holder(numbers: &[u64], i: usize, k: usize, leaf: bool) -> u64
+    requires { ⌜ Numbers (now numbers) × (i < treeCount (now numbers)) × (i < treeLimit) ⌝ }
+    ensures { λ r. ⌜ ((os : List ℕ) → (let c = cardOf (now (numbers .entry)) os in k ≡ routePlace (rootIn (treeAt i c .name)) c → r ≡ holderOf c (withLeaf leaf (treeAt i c)))) × (r ≤ 17) × (r ≡ 16 → ⊥) ⌝ }
 {
-    let u = event_holder::upstream_of(numbers, names, memory_trees::tree_name(names, i));
+    let u = event_holder::upstream_at(numbers, k);
     event_holder::holder_then(numbers, i, 16, 0, leaf, u)
 }
 
-// The neighbour that a new tree holds a label for, whose only branch is that of neighbour n; 17 for none.
-pub fn new_holder(numbers: &[u64], names: &[u8], name: &[u8], n: usize) -> u64
-    requires { ⌜ Numbers (now numbers) × Names (now names) × (n < 16) ⌝ }
-    ensures { λ r. ⌜ ((l : ℕ) → 0 < l → r ≡ holderOf (cardOf (now (numbers .entry)) (now (names .entry))) (withBranch n l (bare (now (name .entry))))) × (r ≤ 17) × (r ≡ 16 → ⊥) ⌝ }
+// The neighbour that a new tree, whose root's place is k, holds a label for, where its only branch is that of neighbour n; 17 for none.
+pub fn new_holder(numbers: &[u64], k: usize, n: usize) -> u64
+    requires { ⌜ Numbers (now numbers) × (n < 16) ⌝ }
+    ensures { λ r. ⌜ ((os a : List ℕ) (l : ℕ) → (let c = cardOf (now (numbers .entry)) os in k ≡ routePlace (rootIn a) c → 0 < l → r ≡ holderOf c (withBranch n l (bare a)))) × (r ≤ 17) × (r ≡ 16 → ⊥) ⌝ }
 {
-    let u = event_holder::upstream_of(numbers, names, name);
+    let u = event_holder::upstream_at(numbers, k);
     if u == n as u64 {
         return 17;
     }

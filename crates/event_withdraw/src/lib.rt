@@ -46,7 +46,8 @@ fn withdraw_standing(
 {
     let left = less_branch(numbers, i, n, label);
     let empty = less_empty(numbers, i, n, left);
-    let u = event_tree::branch_holder(numbers, names, i, n, left);
+    let k = memory_counts::its_root(numbers, names, i);
+    let u = event_tree::branch_holder(numbers, i, k, n, left);
     let name = memory_trees::tree_name(names, i);
     let first = wire_writer::record_size(name);
     let refusal = event_tree::standing_refusal(numbers, names, i, u, first, out.len());
@@ -63,7 +64,7 @@ fn withdraw_standing(
         label,
         name,
     );
-    memory_counts::change_branch(numbers, names, i, n, left);
+    memory_counts::change_branch(numbers, i, k, n, left);
     *answer = 0;
     event_tree::settle(numbers, names, i, u, empty, out, first, id)
 }

@@ -1,6 +1,6 @@
 use Rattle.event_mapping.proofs.Mapping.{mapped-new, mapping-new}
 use Rattle.event_tree.proofs.Found.{zero-free, count-is}
-use Rattle.event_tree.proofs.Newcomer.{new-refused, few-trees-stand, snoc-length, grow-ready, grown-done, entered-changed}
+use Rattle.event_tree.proofs.Newcomer.{new-refused, few-trees-stand, snoc-length, grow-ready, grown-done, entered-changed, new-place}
 use mathlib.Core.Path.{refl, sym, _∙_}
 use native.Mathlib.Omega.{arith}
 use Rattle.meaning.specs.Card.{withBranch}
@@ -9,6 +9,9 @@ use Rattle.memory.proofs.Memory.{trees-length}
 use borrow.Author.Needs.{needs}
 use Rattle.event_mapping.proofs.map_new.Statement.{statement}
 use Rattle.event_mapping.proofs.map_new.Tie as tie
+
+root-place-requires : tie.Need-root-place-requires
+root-place-requires c κs = search needs
 
 new-holder-requires : tie.Need-new-holder-requires
 new-holder-requires c κs = search needs
@@ -27,12 +30,13 @@ same-length-2 c = search needs
 
 returns : tie.Need-returns
 returns c =
-    let start = c .before .before .before .before .before .before .before .before .before .before .before in
+    let start = c .before .before .before .before .before .before .before .before .before .before .before .before .before in
     let the-new-holder = c .before .before .before .before .new-holder in
+    let the-root-place = c .before .before .before .before .before .before .root-place in
     let the-record-size = c .before .before .record-size in
     let card = (cardOf (start .args .numbers .now) (start .args .names .now)) in
     let last = start .pre .5 ∙ sym (trees-length _ _) in
-    let N = mapped-new card (start .args .name .now) _ _ refl last (zero-free _ _) (start .args .n) (start .args .label) (start .pre .2) (omega (arith, start .pre .3)) (the-new-holder .ensures .0 (start .args .label) (omega (arith, start .pre .3))) in
+    let N = mapped-new card (start .args .name .now) _ _ refl last (zero-free _ _) (start .args .n) (start .args .label) (start .pre .2) (omega (arith, start .pre .3)) (the-new-holder .ensures .0 _ _ (start .args .label) (the-root-place .ensures .0) (omega (arith, start .pre .3))) in
     rw (← (mapping-new card (start .args .name .now) _ refl last (start .args .n) (start .args .label))) (new-refused card _ (start .args .name .now) _ _ N (start .args .out .now) _ _ (the-record-size .ensures) (c .before .new-refusal .ensures _) (c .if1 .taken))
 
 tree-count-requires : tie.Need-tree-count-requires
@@ -43,49 +47,52 @@ next-id-requires c κs = search needs
 
 enter-tree-requires : tie.Need-enter-tree-requires
 enter-tree-requires c κs =
-    let start = c .before .before .before .before .before .before .before .before .before .before .before .before .before .before .before .before .before in
+    let start = c .before .before .before .before .before .before .before .before .before .before .before .before .before .before .before .before .before .before .before in
     let the-new-holder = c .before .before .before .before .before .before .before .before .before .before .new-holder in
+    let the-root-place = c .before .before .before .before .before .before .before .before .before .before .before .before .root-place in
     let the-record-size = c .before .before .before .before .before .before .before .before .record-size in
     let the-new-refusal = c .before .before .before .before .before .before .before .new-refusal in
     let the-if1 = c .before .before .before .before .before .before .if1 in
     let card = (cardOf (start .args .numbers .now) (start .args .names .now)) in
     let last = start .pre .5 ∙ sym (trees-length _ _) in
-    let N = mapped-new card (start .args .name .now) _ _ refl last (zero-free _ _) (start .args .n) (start .args .label) (start .pre .2) (omega (arith, start .pre .3)) (the-new-holder .ensures .0 (start .args .label) (omega (arith, start .pre .3))) in
+    let N = mapped-new card (start .args .name .now) _ _ refl last (zero-free _ _) (start .args .n) (start .args .label) (start .pre .2) (omega (arith, start .pre .3)) (the-new-holder .ensures .0 _ _ (start .args .label) (the-root-place .ensures .0) (omega (arith, start .pre .3))) in
     let few = few-trees-stand card _ (start .args .name .now) _ _ N (start .args .out .now) _ _ (the-record-size .ensures) (the-new-refusal .ensures _) (the-if1 .left) in
     (search needs, search needs, rw trees-length at few, search needs)
 
 change-branch-requires : tie.Need-change-branch-requires
 change-branch-requires c κs =
-    let start = c .before .before .before .before .before .before .before .before .before .before .before .before .before .before .before .before .before .before .before .before .before .before .before .before in
-    let the-new-holder = c .before .before .before .before .before .before .before .before .before .before .before .before .before .before .before .before .before .new-holder in
-    let the-record-size = c .before .before .before .before .before .before .before .before .before .before .before .before .before .before .before .record-size in
-    let the-new-refusal = c .before .before .before .before .before .before .before .before .before .before .before .before .before .before .new-refusal in
-    let the-if1 = c .before .before .before .before .before .before .before .before .before .before .before .before .before .if1 in
-    let the-enter-tree = c .before .before .before .before .before .before .enter-tree in
-    let the-tree-count = c .before .before .before .before .before .before .before .before .before .before .before .tree-count in
+    let start = c .before .before .before .before .before .before .before .before .before .before .before .before .before .before .before .before .before .before .before .before .before .before .before .before .before in
+    let the-new-holder = c .before .before .before .before .before .before .before .before .before .before .before .before .before .before .before .before .new-holder in
+    let the-root-place = c .before .before .before .before .before .before .before .before .before .before .before .before .before .before .before .before .before .before .root-place in
+    let the-record-size = c .before .before .before .before .before .before .before .before .before .before .before .before .before .before .record-size in
+    let the-new-refusal = c .before .before .before .before .before .before .before .before .before .before .before .before .before .new-refusal in
+    let the-if1 = c .before .before .before .before .before .before .before .before .before .before .before .before .if1 in
+    let the-enter-tree = c .before .before .before .before .before .enter-tree in
+    let the-tree-count = c .before .before .before .before .before .before .before .before .before .before .tree-count in
     let card = (cardOf (start .args .numbers .now) (start .args .names .now)) in
     let last = start .pre .5 ∙ sym (trees-length _ _) in
-    let N = mapped-new card (start .args .name .now) _ _ refl last (zero-free _ _) (start .args .n) (start .args .label) (start .pre .2) (omega (arith, start .pre .3)) (the-new-holder .ensures .0 (start .args .label) (omega (arith, start .pre .3))) in
+    let N = mapped-new card (start .args .name .now) _ _ refl last (zero-free _ _) (start .args .n) (start .args .label) (start .pre .2) (omega (arith, start .pre .3)) (the-new-holder .ensures .0 _ _ (start .args .label) (the-root-place .ensures .0) (omega (arith, start .pre .3))) in
     let few = few-trees-stand card _ (start .args .name .now) _ _ N (start .args .out .now) _ _ (the-record-size .ensures) (the-new-refusal .ensures _) (the-if1 .left) in
     let grown-by-one = count-is _ _ _ (the-enter-tree .ensures) ∙ snoc-length card (start .args .name .now) in
     let n = the-tree-count .ensures .0 ∙ sym (trees-length _ (start .args .names .now)) in
-    (search needs, search needs, omega (arith, grown-by-one, n), omega (arith, few, n), search needs)
+    (search needs, omega (arith, grown-by-one, n), omega (arith, few, n), search needs)
 
 grow-requires : tie.Need-grow-requires
 grow-requires c κs =
-    let start = c .before .before .before .before .before .before .before .before .before .before .before .before .before .before .before .before .before .before .before .before .before .before .before .before .before .before .before .before .before .before in
-    let the-tree-count = c .before .before .before .before .before .before .before .before .before .before .before .before .before .before .before .before .before .tree-count in
-    let the-new-holder = c .before .before .before .before .before .before .before .before .before .before .before .before .before .before .before .before .before .before .before .before .before .before .before .new-holder in
+    let start = c .before .before .before .before .before .before .before .before .before .before .before .before .before .before .before .before .before .before .before .before .before .before .before .before .before .before .before .before .before .before .before in
+    let the-tree-count = c .before .before .before .before .before .before .before .before .before .before .before .before .before .before .before .before .tree-count in
+    let the-new-holder = c .before .before .before .before .before .before .before .before .before .before .before .before .before .before .before .before .before .before .before .before .before .before .new-holder in
+    let the-root-place = c .before .before .before .before .before .before .before .before .before .before .before .before .before .before .before .before .before .before .before .before .before .before .before .before .root-place in
     let the-change-branch = c .before .before .before .before .before .change-branch in
-    let the-enter-tree = c .before .before .before .before .before .before .before .before .before .before .before .before .enter-tree in
-    let the-record-size = c .before .before .before .before .before .before .before .before .before .before .before .before .before .before .before .before .before .before .before .before .before .record-size in
-    let the-new-refusal = c .before .before .before .before .before .before .before .before .before .before .before .before .before .before .before .before .before .before .before .before .new-refusal in
-    let the-if1 = c .before .before .before .before .before .before .before .before .before .before .before .before .before .before .before .before .before .before .before .if1 in
+    let the-enter-tree = c .before .before .before .before .before .before .before .before .before .before .before .enter-tree in
+    let the-record-size = c .before .before .before .before .before .before .before .before .before .before .before .before .before .before .before .before .before .before .before .before .record-size in
+    let the-new-refusal = c .before .before .before .before .before .before .before .before .before .before .before .before .before .before .before .before .before .before .before .new-refusal in
+    let the-if1 = c .before .before .before .before .before .before .before .before .before .before .before .before .before .before .before .before .before .before .if1 in
     let card = (cardOf (start .args .numbers .now) (start .args .names .now)) in
     let here = the-tree-count .ensures .0 ∙ sym (start .pre .5) in
     let last = the-tree-count .ensures .0 ∙ sym (trees-length _ _) in
-    let N = mapped-new card (start .args .name .now) _ _ here last (zero-free _ _) (start .args .n) (start .args .label) (start .pre .2) (omega (arith, start .pre .3)) (the-new-holder .ensures .0 (start .args .label) (omega (arith, start .pre .3))) in
-    let changed = the-change-branch .ensures ∙ entered-changed card _ (start .args .name .now) _ (withBranch (start .args .n) (start .args .label)) last (the-enter-tree .ensures) in
+    let N = mapped-new card (start .args .name .now) _ _ here last (zero-free _ _) (start .args .n) (start .args .label) (start .pre .2) (omega (arith, start .pre .3)) (the-new-holder .ensures .0 _ _ (start .args .label) (the-root-place .ensures .0) (omega (arith, start .pre .3))) in
+    let changed = the-change-branch .ensures _ (new-place card _ (start .args .name .now) _ _ last (the-enter-tree .ensures) (the-root-place .ensures .0)) ∙ entered-changed card _ (start .args .name .now) _ (withBranch (start .args .n) (start .args .label)) last (the-enter-tree .ensures) in
     let R = grow-ready card _ (start .args .name .now) _ _ N (start .args .out .now) _ _ (the-record-size .ensures) (the-new-refusal .ensures _) (the-if1 .left) _ _ _ changed in
     let few = few-trees-stand card _ (start .args .name .now) _ _ N (start .args .out .now) _ _ (the-record-size .ensures) (the-new-refusal .ensures _) (the-if1 .left) in
     (search needs, search needs, R .0, omega (arith, few, last), search needs, search needs, R .1, R .2)
@@ -101,27 +108,29 @@ same-length-5 c = search needs
 
 returns-2 : tie.Need-returns-2
 returns-2 c =
-    let start = c .before .before .before .before .before .before .before .before .before .before .before .before .before .before .before .before .before .before .before .before .before .before .before .before .before .before .before .before .before .before .before .before .before .before .before .before .before in
-    let the-tree-count = c .before .before .before .before .before .before .before .before .before .before .before .before .before .before .before .before .before .before .before .before .before .before .before .before .tree-count in
-    let the-new-holder = c .before .before .before .before .before .before .before .before .before .before .before .before .before .before .before .before .before .before .before .before .before .before .before .before .before .before .before .before .before .before .new-holder in
+    let start = c .before .before .before .before .before .before .before .before .before .before .before .before .before .before .before .before .before .before .before .before .before .before .before .before .before .before .before .before .before .before .before .before .before .before .before .before .before .before in
+    let the-tree-count = c .before .before .before .before .before .before .before .before .before .before .before .before .before .before .before .before .before .before .before .before .before .before .before .tree-count in
+    let the-new-holder = c .before .before .before .before .before .before .before .before .before .before .before .before .before .before .before .before .before .before .before .before .before .before .before .before .before .before .before .before .before .new-holder in
+    let the-root-place = c .before .before .before .before .before .before .before .before .before .before .before .before .before .before .before .before .before .before .before .before .before .before .before .before .before .before .before .before .before .before .before .root-place in
     let the-change-branch = c .before .before .before .before .before .before .before .before .before .before .before .before .change-branch in
-    let the-enter-tree = c .before .before .before .before .before .before .before .before .before .before .before .before .before .before .before .before .before .before .before .enter-tree in
-    let the-record-size = c .before .before .before .before .before .before .before .before .before .before .before .before .before .before .before .before .before .before .before .before .before .before .before .before .before .before .before .before .record-size in
-    let the-new-refusal = c .before .before .before .before .before .before .before .before .before .before .before .before .before .before .before .before .before .before .before .before .before .before .before .before .before .before .before .new-refusal in
-    let the-if1 = c .before .before .before .before .before .before .before .before .before .before .before .before .before .before .before .before .before .before .before .before .before .before .before .before .before .before .if1 in
-    let the-next-id = c .before .before .before .before .before .before .before .before .before .before .before .before .before .before .before .before .before .before .before .before .before .before .next-id in
+    let the-enter-tree = c .before .before .before .before .before .before .before .before .before .before .before .before .before .before .before .before .before .before .enter-tree in
+    let the-record-size = c .before .before .before .before .before .before .before .before .before .before .before .before .before .before .before .before .before .before .before .before .before .before .before .before .before .before .before .record-size in
+    let the-new-refusal = c .before .before .before .before .before .before .before .before .before .before .before .before .before .before .before .before .before .before .before .before .before .before .before .before .before .before .new-refusal in
+    let the-if1 = c .before .before .before .before .before .before .before .before .before .before .before .before .before .before .before .before .before .before .before .before .before .before .before .before .before .if1 in
+    let the-next-id = c .before .before .before .before .before .before .before .before .before .before .before .before .before .before .before .before .before .before .before .before .before .next-id in
     let the-grow = c .before .before .before .before .before .before .grow in
     let card = (cardOf (start .args .numbers .now) (start .args .names .now)) in
     let here = the-tree-count .ensures .0 ∙ sym (start .pre .5) in
     let last = the-tree-count .ensures .0 ∙ sym (trees-length _ _) in
-    let N = mapped-new card (start .args .name .now) _ _ here last (zero-free _ _) (start .args .n) (start .args .label) (start .pre .2) (omega (arith, start .pre .3)) (the-new-holder .ensures .0 (start .args .label) (omega (arith, start .pre .3))) in
-    let changed = the-change-branch .ensures ∙ entered-changed card _ (start .args .name .now) _ (withBranch (start .args .n) (start .args .label)) last (the-enter-tree .ensures) in
+    let N = mapped-new card (start .args .name .now) _ _ here last (zero-free _ _) (start .args .n) (start .args .label) (start .pre .2) (omega (arith, start .pre .3)) (the-new-holder .ensures .0 _ _ (start .args .label) (the-root-place .ensures .0) (omega (arith, start .pre .3))) in
+    let changed = the-change-branch .ensures _ (new-place card _ (start .args .name .now) _ _ last (the-enter-tree .ensures) (the-root-place .ensures .0)) ∙ entered-changed card _ (start .args .name .now) _ (withBranch (start .args .n) (start .args .label)) last (the-enter-tree .ensures) in
     rw (← (mapping-new card (start .args .name .now) _ here last (start .args .n) (start .args .label))) (grown-done card _ (start .args .name .now) _ _ N (start .args .out .now) _ _ (the-record-size .ensures) (the-new-refusal .ensures _) (the-if1 .left) _ _ _ _ _ (the-next-id .ensures _) changed (the-grow .ensures))
 
 pub map-new-spec : {M : Type 1} → statement M
 map-new-spec =
     tie.close
     (tie.spec
+    root-place-requires
     new-holder-requires
     record-size-requires
     new-refusal-requires

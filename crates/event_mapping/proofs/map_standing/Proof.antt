@@ -27,6 +27,9 @@ returns c =
     let within : start .args .i < length (card .trees) = rw trees-length (start .pre .2) in
     mapping-other card _ (start .args .i) (start .pre .6) within _ _ _ (sym (c .before .other-label .ensures _) ∙ c .if1 .taken)
 
+its-root-requires : tie.Need-its-root-requires
+its-root-requires c κs = search needs
+
 branch-holder-requires : tie.Need-branch-holder-requires
 branch-holder-requires c κs = search needs
 
@@ -41,13 +44,14 @@ same-length-3 c = search needs
 
 returns-2 : tie.Need-returns-2
 returns-2 c =
-    let start = c .before .before .before .before .before .before .before .before .before .before .before .before .before in
+    let start = c .before .before .before .before .before .before .before .before .before .before .before .before .before .before .before in
     let the-branch-holder = c .before .before .before .before .branch-holder in
-    let the-other-label = c .before .before .before .before .before .before .before .before .other-label in
-    let the-if1 = c .before .before .before .before .before .before .before .if1 in
+    let the-its-root = c .before .before .before .before .before .before .its-root in
+    let the-other-label = c .before .before .before .before .before .before .before .before .before .before .other-label in
+    let the-if1 = c .before .before .before .before .before .before .before .before .before .if1 in
     let card = (cardOf (start .args .numbers .now) (start .args .names .now)) in
     let within : start .args .i < length (card .trees) = rw trees-length (start .pre .2) in
-    let S = branch-stands card (start .args .i) (start .pre .6) within _ (start .args .n) (start .args .label) (the-branch-holder .ensures .0) in
+    let S = branch-stands card (start .args .i) (start .pre .6) within _ (start .args .n) (start .args .label) (the-branch-holder .ensures .0 _ (the-its-root .ensures .0)) in
     rw (mapping-standing card _ (start .args .i) (start .pre .6) within _ _ (sym (the-other-label .ensures _) ∙ the-if1 .left))
     (standing-refused card [] _ _ _ S _ 0 _ (no-records _) (c .before .standing-refusal .ensures) (c .if2 .taken))
 
@@ -59,15 +63,16 @@ change-branch-requires c κs = search needs
 
 settle-requires : tie.Need-settle-requires
 settle-requires c κs =
-    let start = c .before .before .before .before .before .before .before .before .before .before .before .before .before .before .before .before .before .before .before .before .before .before .before in
-    let the-branch-holder = c .before .before .before .before .before .before .before .before .before .before .before .before .before .before .branch-holder in
-    let the-standing-refusal = c .before .before .before .before .before .before .before .before .before .before .before .standing-refusal in
-    let the-if2 = c .before .before .before .before .before .before .before .before .before .before .if2 in
+    let start = c .before .before .before .before .before .before .before .before .before .before .before .before .before .before .before .before .before .before .before .before .before .before .before .before in
+    let the-branch-holder = c .before .before .before .before .before .before .before .before .before .before .before .before .before .branch-holder in
+    let the-its-root = c .before .before .before .before .before .before .before .before .before .before .before .before .before .before .before .its-root in
+    let the-standing-refusal = c .before .before .before .before .before .before .before .before .before .before .standing-refusal in
+    let the-if2 = c .before .before .before .before .before .before .before .before .before .if2 in
     let the-change-branch = c .before .before .before .before .before .change-branch in
     let card = (cardOf (start .args .numbers .now) (start .args .names .now)) in
     let within : start .args .i < length (card .trees) = rw trees-length (start .pre .2) in
-    let S = branch-stands card (start .args .i) (start .pre .6) within _ (start .args .n) (start .args .label) (the-branch-holder .ensures .0) in
-    let R = settle-ready card [] _ _ _ S (start .args .out .now) 0 _ (no-records _) (the-standing-refusal .ensures) (the-if2 .left) _ _ (the-change-branch .ensures) in
+    let S = branch-stands card (start .args .i) (start .pre .6) within _ (start .args .n) (start .args .label) (the-branch-holder .ensures .0 _ (the-its-root .ensures .0)) in
+    let R = settle-ready card [] _ _ _ S (start .args .out .now) 0 _ (no-records _) (the-standing-refusal .ensures) (the-if2 .left) _ _ (the-change-branch .ensures _ (the-its-root .ensures .0)) in
     (search needs, search needs, R .0, search needs, search needs, search needs, R .1, R .2)
 
 same-length-4 : tie.Need-same-length-4
@@ -81,22 +86,23 @@ same-length-6 c = search needs
 
 returns-3 : tie.Need-returns-3
 returns-3 c =
-    let start = c .before .before .before .before .before .before .before .before .before .before .before .before .before .before .before .before .before .before .before .before .before .before .before .before .before .before .before .before .before .before in
-    let the-branch-holder = c .before .before .before .before .before .before .before .before .before .before .before .before .before .before .before .before .before .before .before .before .before .branch-holder in
-    let the-other-label = c .before .before .before .before .before .before .before .before .before .before .before .before .before .before .before .before .before .before .before .before .before .before .before .before .before .other-label in
-    let the-if1 = c .before .before .before .before .before .before .before .before .before .before .before .before .before .before .before .before .before .before .before .before .before .before .before .before .if1 in
-    let the-standing-refusal = c .before .before .before .before .before .before .before .before .before .before .before .before .before .before .before .before .before .before .standing-refusal in
-    let the-if2 = c .before .before .before .before .before .before .before .before .before .before .before .before .before .before .before .before .before .if2 in
-    let the-next-id = c .before .before .before .before .before .before .before .before .before .before .before .before .before .before .before .next-id in
+    let start = c .before .before .before .before .before .before .before .before .before .before .before .before .before .before .before .before .before .before .before .before .before .before .before .before .before .before .before .before .before .before .before in
+    let the-branch-holder = c .before .before .before .before .before .before .before .before .before .before .before .before .before .before .before .before .before .before .before .before .branch-holder in
+    let the-its-root = c .before .before .before .before .before .before .before .before .before .before .before .before .before .before .before .before .before .before .before .before .before .before .its-root in
+    let the-other-label = c .before .before .before .before .before .before .before .before .before .before .before .before .before .before .before .before .before .before .before .before .before .before .before .before .before .before .other-label in
+    let the-if1 = c .before .before .before .before .before .before .before .before .before .before .before .before .before .before .before .before .before .before .before .before .before .before .before .before .before .if1 in
+    let the-standing-refusal = c .before .before .before .before .before .before .before .before .before .before .before .before .before .before .before .before .before .standing-refusal in
+    let the-if2 = c .before .before .before .before .before .before .before .before .before .before .before .before .before .before .before .before .if2 in
+    let the-next-id = c .before .before .before .before .before .before .before .before .before .before .before .before .before .before .next-id in
     let the-change-branch = c .before .before .before .before .before .before .before .before .before .before .before .before .change-branch in
     let the-settle = c .before .before .before .before .before .before .settle in
     let card = (cardOf (start .args .numbers .now) (start .args .names .now)) in
     let within : start .args .i < length (card .trees) = rw trees-length (start .pre .2) in
-    let S = branch-stands card (start .args .i) (start .pre .6) within _ (start .args .n) (start .args .label) (the-branch-holder .ensures .0) in
+    let S = branch-stands card (start .args .i) (start .pre .6) within _ (start .args .n) (start .args .label) (the-branch-holder .ensures .0 _ (the-its-root .ensures .0)) in
     let filled = branch-left (treeAt (start .args .i) card) (start .args .n) (start .args .label) (rw (branches-length _ _ _ (start .pre .2)) (start .pre .4)) (λ z. omega (arith, start .pre .5)) in
     rw (mapping-standing card _ (start .args .i) (start .pre .6) within _ _ (sym (the-other-label .ensures _) ∙ the-if1 .left))
     (standing-taken card [] _ _ _ S (start .args .out .now) 0 _ (no-records _) (the-standing-refusal .ensures) (the-if2 .left) _ _ _
-    (standing-ends card [] _ _ _ S (start .args .out .now) _ _ _ _ _ _ (the-next-id .ensures _) (the-change-branch .ensures) filled (the-settle .ensures)))
+    (standing-ends card [] _ _ _ S (start .args .out .now) _ _ _ _ _ _ (the-next-id .ensures _) (the-change-branch .ensures _ (the-its-root .ensures .0)) filled (the-settle .ensures)))
 
 pub map-standing-spec : {M : Type 1} → statement M
 map-standing-spec =
@@ -105,6 +111,7 @@ map-standing-spec =
     other-label-requires
     same-length
     returns
+    its-root-requires
     branch-holder-requires
     standing-refusal-requires
     same-length-2

@@ -21,8 +21,8 @@ tree-count-requires c κs = search needs
 loop-holds : tie.Need-loop-holds Inv-loop μ-loop
 loop-holds c = (omega arith, refl, ending-none _ _)
 
-change-branch-requires : tie.Need-change-branch-requires Inv-loop μ-loop
-change-branch-requires c κs =
+end-branch-requires : tie.Need-end-branch-requires Inv-loop μ-loop
+end-branch-requires c κs =
     let s = c .before .before .before .before .before .before .before in
     let v = c .before .before .loop .inv in
     let many = sym (trees-length _ (s .args .names .now)) ∙ ending-many _ _ _ _ (v .2) ∙ trees-length (s .args .numbers .now) (s .args .names .now) in
@@ -39,7 +39,7 @@ loop-again c =
     let s = c .before .before .before .before .before .before .before .before .before .before in
     let v = c .before .before .before .before .before .loop .inv in
     let h : c .before .before .before .before .before .loop .i < length (cardOf (s .args .numbers .now) (s .args .names .now) .trees) = rw trees-length (omega (arith, c .before .before .before .before .before .before .tree-count .ensures .0)) in
-    (omega arith, c .before .numbers .given ∙ v .1, ending-more _ _ _ _ _ h (v .2) (c .before .before .change-branch .ensures))
+    (omega arith, c .before .numbers .given ∙ v .1, ending-more _ _ _ _ _ h (v .2) (c .before .before .end-branch .ensures))
 
 same-length : tie.Need-same-length Inv-loop μ-loop
 same-length c = c .before .loop .inv .1
@@ -59,7 +59,7 @@ end-branches-spec =
     μ-loop
     tree-count-requires
     loop-holds
-    change-branch-requires
+    end-branch-requires
     add-i
     loop-less
     loop-again

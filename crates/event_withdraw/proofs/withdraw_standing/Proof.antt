@@ -20,6 +20,9 @@ less-branch-requires c κs = search needs
 less-empty-requires : tie.Need-less-empty-requires
 less-empty-requires c κs = search needs
 
+its-root-requires : tie.Need-its-root-requires
+its-root-requires c κs = search needs
+
 branch-holder-requires : tie.Need-branch-holder-requires
 branch-holder-requires c κs = search needs
 
@@ -40,15 +43,16 @@ same-length-2 c = search needs
 
 returns : tie.Need-returns
 returns c =
-    let start = c .before .before .before .before .before .before .before .before .before .before .before .before .before .before .before .before in
-    let the-less-empty = c .before .before .before .before .before .before .before .before .before .less-empty in
+    let start = c .before .before .before .before .before .before .before .before .before .before .before .before .before .before .before .before .before .before in
+    let the-less-empty = c .before .before .before .before .before .before .before .before .before .before .before .less-empty in
     let the-branch-holder = c .before .before .before .before .before .before .branch-holder in
+    let the-its-root = c .before .before .before .before .before .before .before .before .its-root in
     let the-tree-name = c .before .before .before .before .tree-name in
     let the-record-size = c .before .before .before .record-size in
-    let the-less-branch = c .before .before .before .before .before .before .before .before .before .before .before .less-branch in
+    let the-less-branch = c .before .before .before .before .before .before .before .before .before .before .before .before .before .less-branch in
     let card = (cardOf (start .args .numbers .now) (start .args .names .now)) in
     let within : start .args .i < length (card .trees) = rw trees-length (start .pre .2) in
-    let S = branch-stands card (start .args .i) (start .pre .5) within _ (start .args .n) _ (the-branch-holder .ensures .0) in
+    let S = branch-stands card (start .args .i) (start .pre .5) within _ (start .args .n) _ (the-branch-holder .ensures .0 _ (the-its-root .ensures .0)) in
     let its-name = the-tree-name .ensures .0 _ (start .pre .2) in
     let long = the-record-size .ensures ∙ ap (λ (l : List ℕ). recordSize l) its-name ∙ release-size card _ (start .args .i) _ (start .args .n) (start .args .label) S (start .args .out .now) in
     let becomes = sym (withdraw-standing card _ (start .args .i) (start .pre .5) within (start .args .n) (start .args .label)) ∙ ap (become card (tell (start .args .n) release (treeAt (start .args .i) card .name) (start .args .label) ∷ [])) (sym (the-less-branch .ensures _)) in
@@ -59,43 +63,47 @@ next-id-requires c κs = search needs
 
 send-requires : tie.Need-send-requires
 send-requires c κs =
-    let start = c .before .before .before .before .before .before .before .before .before .before .before .before .before .before .before .before .before .before .before in
-    let the-less-empty = c .before .before .before .before .before .before .before .before .before .before .before .before .less-empty in
+    let start = c .before .before .before .before .before .before .before .before .before .before .before .before .before .before .before .before .before .before .before .before .before in
+    let the-less-empty = c .before .before .before .before .before .before .before .before .before .before .before .before .before .before .less-empty in
     let the-branch-holder = c .before .before .before .before .before .before .before .before .before .branch-holder in
+    let the-its-root = c .before .before .before .before .before .before .before .before .before .before .before .its-root in
     let the-tree-name = c .before .before .before .before .before .before .before .tree-name in
     let the-record-size = c .before .before .before .before .before .before .record-size in
     let the-standing-refusal = c .before .before .before .before .standing-refusal in
     let the-if1 = c .before .before .before .if1 in
     let card = (cardOf (start .args .numbers .now) (start .args .names .now)) in
     let within : start .args .i < length (card .trees) = rw trees-length (start .pre .2) in
-    let S = branch-stands card (start .args .i) (start .pre .5) within _ (start .args .n) _ (the-branch-holder .ensures .0) in
+    let S = branch-stands card (start .args .i) (start .pre .5) within _ (start .args .n) _ (the-branch-holder .ensures .0 _ (the-its-root .ensures .0)) in
     let its-name = the-tree-name .ensures .0 _ (start .pre .2) in
     let long = the-record-size .ensures ∙ ap (λ (l : List ℕ). recordSize l) its-name ∙ release-size card _ (start .args .i) _ (start .args .n) (start .args .label) S (start .args .out .now) in
     let fits = first-fits card _ _ _ _ S (start .args .out .now) _ _ long (the-standing-refusal .ensures) (the-if1 .left) in
     (omega (arith, fits, the-record-size .ensures), omega (arith, the-tree-name .ensures .1))
 
 change-branch-requires : tie.Need-change-branch-requires
-change-branch-requires c κs = let start = c .before .before .before .before .before .before .before .before .before .before .before .before .before .before .before .before .before .before .before .before .before .before .before .before in (start .pre .0, start .pre .1, start .pre .2, start .pre .3, start .pre .4)
+change-branch-requires c κs =
+    let start = c .before .before .before .before .before .before .before .before .before .before .before .before .before .before .before .before .before .before .before .before .before .before .before .before .before in
+    (start .pre .0, start .pre .2, start .pre .3, start .pre .4)
 
 settle-requires : tie.Need-settle-requires
 settle-requires c κs =
-    let start = c .before .before .before .before .before .before .before .before .before .before .before .before .before .before .before .before .before .before .before .before .before .before .before .before .before .before .before .before .before .before in
-    let the-less-empty = c .before .before .before .before .before .before .before .before .before .before .before .before .before .before .before .before .before .before .before .before .before .before .before .less-empty in
-    let the-branch-holder = c .before .before .before .before .before .before .before .before .before .before .before .before .before .before .before .before .before .before .before .before .branch-holder in
-    let the-tree-name = c .before .before .before .before .before .before .before .before .before .before .before .before .before .before .before .before .before .before .tree-name in
-    let the-record-size = c .before .before .before .before .before .before .before .before .before .before .before .before .before .before .before .before .before .record-size in
-    let the-less-branch = c .before .before .before .before .before .before .before .before .before .before .before .before .before .before .before .before .before .before .before .before .before .before .before .before .before .less-branch in
-    let the-standing-refusal = c .before .before .before .before .before .before .before .before .before .before .before .before .before .before .before .standing-refusal in
-    let the-if1 = c .before .before .before .before .before .before .before .before .before .before .before .before .before .before .if1 in
+    let start = c .before .before .before .before .before .before .before .before .before .before .before .before .before .before .before .before .before .before .before .before .before .before .before .before .before .before .before .before .before .before .before in
+    let the-less-empty = c .before .before .before .before .before .before .before .before .before .before .before .before .before .before .before .before .before .before .before .before .before .before .before .before .less-empty in
+    let the-branch-holder = c .before .before .before .before .before .before .before .before .before .before .before .before .before .before .before .before .before .before .before .branch-holder in
+    let the-its-root = c .before .before .before .before .before .before .before .before .before .before .before .before .before .before .before .before .before .before .before .before .before .its-root in
+    let the-tree-name = c .before .before .before .before .before .before .before .before .before .before .before .before .before .before .before .before .before .tree-name in
+    let the-record-size = c .before .before .before .before .before .before .before .before .before .before .before .before .before .before .before .before .record-size in
+    let the-less-branch = c .before .before .before .before .before .before .before .before .before .before .before .before .before .before .before .before .before .before .before .before .before .before .before .before .before .before .less-branch in
+    let the-standing-refusal = c .before .before .before .before .before .before .before .before .before .before .before .before .before .before .standing-refusal in
+    let the-if1 = c .before .before .before .before .before .before .before .before .before .before .before .before .before .if1 in
     let the-change-branch = c .before .before .before .before .before .change-branch in
-    let the-send = c .before .before .before .before .before .before .before .before .before .before .send in
+    let the-send = c .before .before .before .before .before .before .before .before .before .send in
     let card = (cardOf (start .args .numbers .now) (start .args .names .now)) in
     let within : start .args .i < length (card .trees) = rw trees-length (start .pre .2) in
-    let S = branch-stands card (start .args .i) (start .pre .5) within _ (start .args .n) _ (the-branch-holder .ensures .0) in
+    let S = branch-stands card (start .args .i) (start .pre .5) within _ (start .args .n) _ (the-branch-holder .ensures .0 _ (the-its-root .ensures .0)) in
     let its-name = the-tree-name .ensures .0 _ (start .pre .2) in
     let long = the-record-size .ensures ∙ ap (λ (l : List ℕ). recordSize l) its-name ∙ release-size card _ (start .args .i) _ (start .args .n) (start .args .label) S (start .args .out .now) in
     let becomes = sym (withdraw-standing card _ (start .args .i) (start .pre .5) within (start .args .n) (start .args .label)) ∙ ap (become card (tell (start .args .n) release (treeAt (start .args .i) card .name) (start .args .label) ∷ [])) (sym (the-less-branch .ensures _)) in
-    let R = settle-ready card _ _ _ _ S (start .args .out .now) _ _ long (the-standing-refusal .ensures) (the-if1 .left) _ _ (the-change-branch .ensures) in
+    let R = settle-ready card _ _ _ _ S (start .args .out .now) _ _ long (the-standing-refusal .ensures) (the-if1 .left) _ _ (the-change-branch .ensures _ (the-its-root .ensures .0)) in
     let fits = first-fits card _ _ _ _ S (start .args .out .now) _ _ long (the-standing-refusal .ensures) (the-if1 .left) in
     let kept = sent-length (start .args .out .now) _ _ _ _ _ _ (omega (arith, fits, the-record-size .ensures)) (the-send .ensures .1) in
     (search needs, search needs, R .0, search needs, search needs, search needs, R .1, rw kept (R .2))
@@ -111,21 +119,22 @@ same-length-5 c = search needs
 
 returns-2 : tie.Need-returns-2
 returns-2 c =
-    let start = c .before .before .before .before .before .before .before .before .before .before .before .before .before .before .before .before .before .before .before .before .before .before .before .before .before .before .before .before .before .before .before .before .before .before .before .before .before in
-    let the-less-empty = c .before .before .before .before .before .before .before .before .before .before .before .before .before .before .before .before .before .before .before .before .before .before .before .before .before .before .before .before .before .before .less-empty in
-    let the-branch-holder = c .before .before .before .before .before .before .before .before .before .before .before .before .before .before .before .before .before .before .before .before .before .before .before .before .before .before .before .branch-holder in
-    let the-tree-name = c .before .before .before .before .before .before .before .before .before .before .before .before .before .before .before .before .before .before .before .before .before .before .before .before .before .tree-name in
-    let the-record-size = c .before .before .before .before .before .before .before .before .before .before .before .before .before .before .before .before .before .before .before .before .before .before .before .before .record-size in
-    let the-less-branch = c .before .before .before .before .before .before .before .before .before .before .before .before .before .before .before .before .before .before .before .before .before .before .before .before .before .before .before .before .before .before .before .before .less-branch in
-    let the-standing-refusal = c .before .before .before .before .before .before .before .before .before .before .before .before .before .before .before .before .before .before .before .before .before .before .standing-refusal in
-    let the-if1 = c .before .before .before .before .before .before .before .before .before .before .before .before .before .before .before .before .before .before .before .before .before .if1 in
-    let the-send = c .before .before .before .before .before .before .before .before .before .before .before .before .before .before .before .before .before .send in
-    let the-next-id = c .before .before .before .before .before .before .before .before .before .before .before .before .before .before .before .before .before .before .before .next-id in
+    let start = c .before .before .before .before .before .before .before .before .before .before .before .before .before .before .before .before .before .before .before .before .before .before .before .before .before .before .before .before .before .before .before .before .before .before .before .before .before .before in
+    let the-less-empty = c .before .before .before .before .before .before .before .before .before .before .before .before .before .before .before .before .before .before .before .before .before .before .before .before .before .before .before .before .before .before .before .less-empty in
+    let the-branch-holder = c .before .before .before .before .before .before .before .before .before .before .before .before .before .before .before .before .before .before .before .before .before .before .before .before .before .before .branch-holder in
+    let the-its-root = c .before .before .before .before .before .before .before .before .before .before .before .before .before .before .before .before .before .before .before .before .before .before .before .before .before .before .before .before .its-root in
+    let the-tree-name = c .before .before .before .before .before .before .before .before .before .before .before .before .before .before .before .before .before .before .before .before .before .before .before .before .tree-name in
+    let the-record-size = c .before .before .before .before .before .before .before .before .before .before .before .before .before .before .before .before .before .before .before .before .before .before .before .record-size in
+    let the-less-branch = c .before .before .before .before .before .before .before .before .before .before .before .before .before .before .before .before .before .before .before .before .before .before .before .before .before .before .before .before .before .before .before .before .before .less-branch in
+    let the-standing-refusal = c .before .before .before .before .before .before .before .before .before .before .before .before .before .before .before .before .before .before .before .before .before .standing-refusal in
+    let the-if1 = c .before .before .before .before .before .before .before .before .before .before .before .before .before .before .before .before .before .before .before .before .if1 in
+    let the-send = c .before .before .before .before .before .before .before .before .before .before .before .before .before .before .before .before .send in
+    let the-next-id = c .before .before .before .before .before .before .before .before .before .before .before .before .before .before .before .before .before .before .next-id in
     let the-change-branch = c .before .before .before .before .before .before .before .before .before .before .before .before .change-branch in
     let the-settle = c .before .before .before .before .before .before .settle in
     let card = (cardOf (start .args .numbers .now) (start .args .names .now)) in
     let within : start .args .i < length (card .trees) = rw trees-length (start .pre .2) in
-    let S = branch-stands card (start .args .i) (start .pre .5) within _ (start .args .n) _ (the-branch-holder .ensures .0) in
+    let S = branch-stands card (start .args .i) (start .pre .5) within _ (start .args .n) _ (the-branch-holder .ensures .0 _ (the-its-root .ensures .0)) in
     let its-name = the-tree-name .ensures .0 _ (start .pre .2) in
     let long = the-record-size .ensures ∙ ap (λ (l : List ℕ). recordSize l) its-name ∙ release-size card _ (start .args .i) _ (start .args .n) (start .args .label) S (start .args .out .now) in
     let becomes = sym (withdraw-standing card _ (start .args .i) (start .pre .5) within (start .args .n) (start .args .label)) ∙ ap (become card (tell (start .args .n) release (treeAt (start .args .i) card .name) (start .args .label) ∷ [])) (sym (the-less-branch .ensures _)) in
@@ -133,7 +142,7 @@ returns-2 c =
     let fits = rw sized at (first-fits card _ _ _ _ S (start .args .out .now) _ _ long (the-standing-refusal .ensures) (the-if1 .left)) in
     let sent-it = rw its-name at (the-send .ensures .1) in
     rw becomes (standing-taken card _ _ _ _ S (start .args .out .now) _ _ long (the-standing-refusal .ensures) (the-if1 .left) _ _ _
-    (withdraw-ends card _ (start .args .i) _ (start .args .n) (start .args .label) S (start .args .out .now) _ _ _ _ _ _ _ _ _ (the-next-id .ensures _) fits (the-send .ensures .0) sent-it sized (the-change-branch .ensures) (the-less-empty .ensures _) (the-settle .ensures)))
+    (withdraw-ends card _ (start .args .i) _ (start .args .n) (start .args .label) S (start .args .out .now) _ _ _ _ _ _ _ _ _ (the-next-id .ensures _) fits (the-send .ensures .0) sent-it sized (the-change-branch .ensures _ (the-its-root .ensures .0)) (the-less-empty .ensures _) (the-settle .ensures)))
 
 pub withdraw-standing-spec : {M : Type 1} → statement M
 withdraw-standing-spec =
@@ -141,6 +150,7 @@ withdraw-standing-spec =
     (tie.spec
     less-branch-requires
     less-empty-requires
+    its-root-requires
     branch-holder-requires
     tree-name-requires
     record-size-requires

@@ -1,5 +1,5 @@
 -- `save_counts::work_out_all` meets its contract: the invariant is that the first i trees are counted. Assumes nothing.
-use Rattle.save_counts.proofs.Entries.{Working, working-none, working-many, working-more, working-all, nothing-stands, nothing-lone}
+use Rattle.save_counts.proofs.Entries.{Working, working-none, working-many, working-more, working-all}
 use Rattle.memory.proofs.Memory.{trees-length, treeCount-le}
 use Rattle.memory.specs.Memory.{cardOf}
 use borrow.Author.Needs.{needs}
@@ -22,13 +22,13 @@ tree-count-requires c κs = search needs
 loop-holds : tie.Need-loop-holds Inv-loop μ-loop
 loop-holds c = (omega arith, refl, working-none _ (c .before .before .before .before .pre .3))
 
-recount-requires : tie.Need-recount-requires Inv-loop μ-loop
-recount-requires c κs =
+count-tree-requires : tie.Need-count-tree-requires Inv-loop μ-loop
+count-tree-requires c κs =
     let s = c .before .before .before .before .before .before .before in
     let v = c .before .before .loop .inv in
     let many = sym (trees-length _ (s .args .names .now)) ∙ working-many _ _ _ (v .2) ∙ trees-length (s .args .numbers .now) (s .args .names .now) in
     let n = c .before .before .before .tree-count .ensures in
-    (v .1 ∙ s .pre .0, s .pre .1, omega (arith, many, n .0), omega (arith, treeCount-le (s .args .numbers .now), n .0), omega arith, omega arith)
+    (v .1 ∙ s .pre .0, s .pre .1, omega (arith, many, n .0), omega (arith, treeCount-le (s .args .numbers .now), n .0))
 
 add-i : tie.Need-add-i Inv-loop μ-loop
 add-i c = search needs
@@ -42,7 +42,7 @@ loop-again c =
     let v = c .before .before .before .before .before .loop .inv in
     let n = c .before .before .before .before .before .before .tree-count .ensures in
     let h : c .before .before .before .before .before .loop .i < length (cardOf (s .args .numbers .now) (s .args .names .now) .trees) = rw trees-length (omega (arith, n .0)) in
-    (omega arith, c .before .numbers .given ∙ v .1, working-more _ _ _ (v .2) _ h (rw trees-length (treeCount-le _)) (s .pre .2) (c .before .before .recount .ensures _ nothing-stands nothing-lone))
+    (omega arith, c .before .numbers .given ∙ v .1, working-more _ _ _ (v .2) _ h (rw trees-length (treeCount-le _)) (s .pre .2) (c .before .before .count-tree .ensures))
 
 same-length : tie.Need-same-length Inv-loop μ-loop
 same-length c = c .before .loop .inv .1
@@ -60,7 +60,7 @@ work-out-all-spec =
     μ-loop
     tree-count-requires
     loop-holds
-    recount-requires
+    count-tree-requires
     add-i
     loop-less
     loop-again
