@@ -1,11 +1,10 @@
 -- What is read of the trees in the memory, and what a change of one leaves, as laws of the card that it denotes. Assumes nothing.
-use Prim.Native.Nat.{ℕ, zero, suc, _+_, _*_, _-_, _≤_, _<_}
-use native.Mathlib.Numerals.{add-one}
+use Prim.Native.Nat.{ℕ, _+_, _*_, _-_, _≤_, _<_}
 use native.Mathlib.Omega.{arith}
 use mathlib.Core.Path.{_≡_, refl, sym, ap, _∙_}
 use mathlib.Core.Bool.{Bool, true, false, not}
 use mathlib.Core.List.{List}
-use lib.ListN.{length, drop, getD, set, length-set, drop-of-length-le}
+use lib.ListN.{length, drop, getD, set, length-set}
 use lib.Seq.{getD-set-same, getD-set-other, drop-cons}
 use lib.Dec.{eqb}
 use borrow.Author.Tests.{lt-ltb, eq-eqb, ne-eqb}
@@ -14,7 +13,7 @@ use Rattle.meaning.specs.Lists.{by-test, positive}
 use Rattle.meaning.specs.Card.{Tree, withTrees, withBranch, withLeaf, withLabel, treeAt, isBranch, named, treePlace, withLabels, mappedTo, useOf, heldFor, carries, treeLimit, labelCount}
 use Rattle.meaning.specs.Events.{setLabel, setUse, ended}
 use Rattle.octets.specs.Part.{tab}
-use Rattle.octets.proofs.Tab.{tab-length, tab-get, tab-ext, tab-set, place-start, place-hit, place-miss, place-none}
+use Rattle.octets.proofs.Tab.{tab-length, tab-get, tab-ext, tab-set, place-start, place-past, place-hit, place-none}
 use Rattle.memory.specs.Sizes.{nameSpace, ownColumn, rowWidth, rowColumn, branchColumn, markColumn, labelNumbers, Numbers}
 use Rattle.memory.specs.Memory.{treeName, baseIn, treeCount, isFreeAt, markAt, markUse, markPlace, isMappedAt, labelIn, ownPlace, carriesAt, ownLabel, treeIn, cardOf, Relabelled}
 use Rattle.memory.proofs.Memory.{treeCount-le, base-range, own-kept, tree-with, tree-same, agree-refl, agree-set, tree-at}
@@ -59,23 +58,9 @@ module _ (ns os : List ℕ) (i : ℕ) (h : i < treeCount ns) where
 -- ---- the branches but one, from the front
 
 module _ (bs : List ℕ) (but n : ℕ) where
-  unbranched : n < length bs → getD (set bs but 0) n 0 ≡ 0 → any isBranch (drop n (set bs but 0)) ≡ any isBranch (drop (n + 1) (set bs but 0))
-  unfolding any isBranch
-  unbranched h e = rw (drop-cons (set bs but 0) n 0 (rw length-set h), e, add-one n) refl
-
-  pub others-but : n < length bs → n ≡ but → any isBranch (drop n (set bs but 0)) ≡ any isBranch (drop (n + 1) (set bs but 0))
-  others-but h e = unbranched h (rw (← e) (getD-set-same bs n 0 0 h))
-
-  pub others-miss : (r : ℕ) → n < length bs → (n ≡ but → ⊥) → r ≡ getD bs n 0 → r ≡ 0 → any isBranch (drop n (set bs but 0)) ≡ any isBranch (drop (n + 1) (set bs but 0))
-  others-miss r h ne e z = unbranched h (getD-set-other bs but n 0 0 ne ∙ sym e ∙ z)
-
   pub others-hit : (r : ℕ) → n < length bs → (n ≡ but → ⊥) → r ≡ getD bs n 0 → (r ≡ 0 → ⊥) → any isBranch (drop n (set bs but 0)) ≡ true
   unfolding any isBranch
   others-hit r h ne e z = rw (drop-cons (set bs but 0) n 0 (rw length-set h), getD-set-other bs but n 0 0 ne, ← e, lt-ltb 0 r (positive r z)) refl
-
-  pub others-none : length bs ≤ n → any isBranch (drop n (set bs but 0)) ≡ false
-  unfolding any
-  others-none h = rw (drop-of-length-le (set bs but 0) {i = n} (rw length-set h)) refl
 
 -- ---- trees by name
 
@@ -150,11 +135,6 @@ module _ (ns os : List ℕ) (i : ℕ) (h : i < treeCount ns) where
 
 -- ---- the tree that carries a label
 
--- k elements that do not pass
-place-past {ℓ} : {A : Type ℓ} (t : A → Bool) (n : ℕ) (f : ℕ → A) (k : ℕ) → k ≤ n → ((j : ℕ) → j < k → t (f j) ≡ false) → place t (tab n f) ≡ k + place t (drop k (tab n f))
-place-past t n f zero h g = place-start t (tab n f)
-place-past t n f (suc k) h g = place-past t n f k (omega arith) (λ j l. g j (omega arith)) ∙ place-miss t n f k (omega arith) (g k (omega arith)) ∙ rw (add-one k) refl
-
 module _ (ns os : List ℕ) (label p : ℕ) (h : p < labelCount) (e : label ≡ baseIn ns + p) where
   carries-this : (i : ℕ) → ownPlace ns i ≡ p → carriesAt ns i p ≡ true → carries label (treeIn ns os i) ≡ true
   unfolding carries treeIn
@@ -174,13 +154,13 @@ module _ (ns os : List ℕ) (label p : ℕ) (h : p < labelCount) (e : label ≡ 
   pub carrier-named : (n i : ℕ) → n ≡ treeCount ns → i < n → isMappedAt ns p ≡ true → markPlace (markAt ns p) ≡ i → ownPlace ns i ≡ p → Carrier i
   unfolding cardOf
   carrier-named n i en lt m q o =
-      rw (← en) (sym (place-past (carries label) n (treeIn ns os) i (omega arith)
-      (λ j l. carries-not j (λ _ c. omega (arith, carried-out ns j p c .2)))
+      rw (← en) (sym (place-start (carries label) (tab n (treeIn ns os)) ∙ place-past (carries label) n (treeIn ns os) 0 i (omega arith) (omega arith)
+      (λ j _ l. carries-not j (λ _ c. omega (arith, carried-out ns j p c .2)))
       ∙ place-hit (carries label) n (treeIn ns os) i lt (carries-this i o (carried-in ns i p h m q))))
 
   carrier-none : (n : ℕ) → n ≡ treeCount ns → ((i : ℕ) → i < n → ownPlace ns i ≡ p → carriesAt ns i p ≡ true → ⊥) → Carrier n
   unfolding cardOf
-  carrier-none n en f = rw (← en) (sym (place-past (carries label) n (treeIn ns os) n (omega arith) (λ j l. carries-not j (f j l)) ∙ place-none (carries label) n (treeIn ns os) n (omega arith) (omega arith)))
+  carrier-none n en f = rw (← en) (sym (place-start (carries label) (tab n (treeIn ns os)) ∙ place-past (carries label) n (treeIn ns os) 0 n (omega arith) (omega arith) (λ j _ l. carries-not j (f j l)) ∙ place-none (carries label) n (treeIn ns os) n (omega arith) (omega arith)))
 
   -- none, where the label is not mapped, or its mark names no tree, or one that has another for its own
   pub carrier-unmapped : (n : ℕ) → n ≡ treeCount ns → isMappedAt ns p ≡ false → Carrier n

@@ -174,7 +174,7 @@ pub fn set_text(names: &mut [u8], at: usize, text: &[u8])
     names[at] = text.len() as u8;
     let f = at + 1;
     let e = f + text.len();
-    octets::copy(&mut names[f..e], text);
+    octets::copy_text(&mut names[f..e], text);
 }
 
 // ---- rows

@@ -1,5 +1,6 @@
 // Routes in the card's memory: what is asked of them, and how they come and go.
 ghost use mathlib.Core.Path.{_≡_};
+ghost use mathlib.Core.Bool.{false};
 ghost use mathlib.Core.List.{List, [], _∷_, _++_};
 ghost use Prim.Native.Nat.{ℕ, _+_, _*_, _-_, _≤_, _<_};
 ghost use lib.ListN.{length, set};
@@ -44,15 +45,21 @@ pub fn lone(numbers: &[u64], i: usize) -> u64
     numbers[ROUTE_COLUMN + i] / 65536 % 256
 }
 
-// Whether the root at place i, whose space begins at a, is that one.
-fn is_root(names: &[u8], i: usize, a: usize, root: &[u8]) -> bool
-    requires { ⌜ Names (now names) × (i < routeLimit) × (a ≡ rootNames + i * rootSpace) ⌝ }
-    ensures { λ r. ⌜ r ≡ same (rootName (now (names .entry)) i) (now (root .entry)) ⌝ }
+// The first place from i on and before n whose root may be that one; n where none may. A loop that calls nothing is a quick one.
+fn next_like(names: &[u8], i: usize, n: usize, root: &[u8]) -> usize
+    requires { ⌜ Names (now names) × (i ≤ n) × (n ≤ routeLimit) ⌝ }
+    ensures { λ r. ⌜ (i ≤ r) × (r ≤ n) × ((j : ℕ) → i ≤ j → j < r → same (rootName (now (names .entry)) j) (now (root .entry)) ≡ false) ⌝ }
 {
-    if memory::may_be(names, ROOT_LIMIT, a, root) {
-        return octets::equal(root_name(names, i), root);
+    let mut a = ROOT_NAMES + i * ROOT_SPACE;
+    let mut k = i;
+    while k < n {
+        if memory::may_be(names, ROOT_LIMIT, a, root) {
+            return k;
+        }
+        a += ROOT_SPACE;
+        k += 1;
     }
-    false
+    n
 }
 
 pub fn route_place(numbers: &[u64], names: &[u8], root: &[u8]) -> usize
@@ -60,14 +67,16 @@ pub fn route_place(numbers: &[u64], names: &[u8], root: &[u8]) -> usize
     ensures { λ r. ⌜ (r ≡ routePlace (now (root .entry)) (cardOf (now (numbers .entry)) (now (names .entry)))) × (r ≤ routeCount (now (numbers .entry))) × (r ≤ routeLimit) ⌝ }
 {
     let n = memory::route_count(numbers);
-    let mut a = ROOT_NAMES;
     let mut i = 0;
     while i < n {
-        if is_root(names, i, a, root) {
-            return i;
+        let k = next_like(names, i, n, root);
+        if n <= k {
+            return n;
         }
-        a += ROOT_SPACE;
-        i += 1;
+        if octets::equal(root_name(names, k), root) {
+            return k;
+        }
+        i = k + 1;
     }
     n
 }

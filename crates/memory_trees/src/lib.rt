@@ -174,15 +174,21 @@ pub fn tree_name(names: &[u8], i: usize) -> &[u8]
     memory::text(names, NAME_LIMIT, i * NAME_SPACE)
 }
 
-// Whether the tree at place i, whose name's space begins at a, has that name.
-fn is_named(names: &[u8], i: usize, a: usize, name: &[u8]) -> bool
-    requires { ⌜ Names (now names) × (i < treeLimit) × (a ≡ i * nameSpace) ⌝ }
-    ensures { λ r. ⌜ r ≡ same (treeName (now (names .entry)) i) (now (name .entry)) ⌝ }
+// The first place from i on and before n whose tree may have that name; n where none may. A loop that calls nothing is a quick one.
+fn next_like(names: &[u8], i: usize, n: usize, name: &[u8]) -> usize
+    requires { ⌜ Names (now names) × (i ≤ n) × (n ≤ treeLimit) ⌝ }
+    ensures { λ r. ⌜ (i ≤ r) × (r ≤ n) × ((j : ℕ) → i ≤ j → j < r → same (treeName (now (names .entry)) j) (now (name .entry)) ≡ false) ⌝ }
 {
-    if memory::may_be(names, NAME_LIMIT, a, name) {
-        return octets::equal(tree_name(names, i), name);
+    let mut a = i * NAME_SPACE;
+    let mut k = i;
+    while k < n {
+        if memory::may_be(names, NAME_LIMIT, a, name) {
+            return k;
+        }
+        a += NAME_SPACE;
+        k += 1;
     }
-    false
+    n
 }
 
 // The place of the tree of that name; the number of trees where it does not stand.
@@ -191,14 +197,16 @@ pub fn tree_place(numbers: &[u64], names: &[u8], name: &[u8]) -> usize
     ensures { λ r. ⌜ (r ≡ treePlace (now (name .entry)) (cardOf (now (numbers .entry)) (now (names .entry)))) × (r ≤ treeCount (now (numbers .entry))) × (r ≤ treeLimit) ⌝ }
 {
     let n = memory::tree_count(numbers);
-    let mut a = 0;
     let mut i = 0;
     while i < n {
-        if is_named(names, i, a, name) {
-            return i;
+        let k = next_like(names, i, n, name);
+        if n <= k {
+            return n;
         }
-        a += NAME_SPACE;
-        i += 1;
+        if octets::equal(tree_name(names, k), name) {
+            return k;
+        }
+        i = k + 1;
     }
     n
 }

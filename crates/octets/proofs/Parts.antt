@@ -6,8 +6,10 @@ use native.Mathlib.Omega.{arith}
 use mathlib.Core.Path.{_≡_, refl, sym, ap, ap₂, _∙_}
 use mathlib.Core.List.{List, [], _∷_, _++_, append-assoc}
 use lib.ListN.{length, take, drop, getD, set, length-append, length-drop, List·getD-append, drop-of-length-le}
-use lib.Seq.{sets, sets-eq, take-at, drop-at, drop-drop, length-take-le, take-all, getD-take, getD-drop, getD-append-add, take-add, ext-getD}
-use Rattle.meaning.specs.Lists.{append-nil}
+use lib.Seq.{drop-cons, sets, sets-eq, take-at, drop-at, drop-drop, length-take-le, take-all, getD-take, getD-drop, getD-append-add, take-add, ext-getD}
+use lib.Dec.{ltb}
+use borrow.Author.Tests.{ltb-true, ltb-false}
+use Rattle.meaning.specs.Lists.{append-nil, by-test}
 use Rattle.octets.specs.Part.{mid, shifted}
 
 module _ {ℓ} {A : Type ℓ} where
@@ -183,3 +185,51 @@ copied-more s e from to i k h l p =
     ap (λ (x : List ℕ). mid (to + i) k x (take k (drop (from + i) x))) p
     ∙ mid-mid to i k (to + i) (i + k) s ys (take k (drop (from + i) (mid to i s ys))) (omega arith) y refl refl
     ∙ ap (mid to (i + k) s) (ap (λ (x : List ℕ). ys ++ x) z ∙ sym (take-add i k (drop from s)))
+
+-- ---- a text by eights
+
+first-of : (s : List ℕ) (i j k : ℕ) → j ≡ i + 1 → i < length s → take (suc k) (drop i s) ≡ getD s i 0 ∷ take k (drop j s)
+first-of s i j k e h = rw (drop-cons s i 0 h, e, add-one i) refl
+
+eight-of : (s : List ℕ) (i : ℕ) → i + 8 ≤ length s
+    → (getD s i 0 ∷ getD s (i + 1) 0 ∷ getD s (i + 2) 0 ∷ getD s (i + 3) 0 ∷ getD s (i + 4) 0 ∷ getD s (i + 5) 0 ∷ getD s (i + 6) 0 ∷ getD s (i + 7) 0 ∷ []) ≡ take 8 (drop i s)
+eight-of s i h =
+    sym
+    (rw (first-of s i (i + 1) 7 refl (omega arith), first-of s (i + 1) (i + 2) 6 (omega arith) (omega arith), first-of s (i + 2) (i + 3) 5 (omega arith) (omega arith), first-of s (i + 3) (i + 4) 4 (omega arith) (omega arith), first-of s (i + 4) (i + 5) 3 (omega arith) (omega arith), first-of s (i + 5) (i + 6) 2 (omega arith) (omega arith), first-of s (i + 6) (i + 7) 1 (omega arith) (omega arith), first-of s (i + 7) (i + 8) 0 (omega arith) (omega arith))
+    refl)
+
+pub eight-laid : (d e src : List ℕ) (i n : ℕ) → n ≡ 8 → i + 8 ≤ length src
+    → e ≡ getD src i 0 ∷ getD src (i + 1) 0 ∷ getD src (i + 2) 0 ∷ getD src (i + 3) 0 ∷ getD src (i + 4) 0 ∷ getD src (i + 5) 0 ∷ getD src (i + 6) 0 ∷ getD src (i + 7) 0 ∷ []
+    → mid i n d e ≡ mid i 8 d (take 8 (drop i src))
+eight-laid d e src i n q h is = let all : e ≡ take 8 (drop i src) = is ∙ eight-of src i h in rw (q, all) refl
+
+-- d is src as far as place m
+pub record Laid (m : ℕ) (src d : List ℕ) : Type 0 where
+  pub long : length d ≡ length src
+  pub at : (j : ℕ) → j < m → getD d j 0 ≡ getD src j 0
+
+pub laid-none : (src d : List ℕ) → length src ≡ length d → Laid 0 src d
+laid-none src d e = record { long = sym e; at = λ j h. absurd (not-suc-le-zero h) }
+
+-- eight more from place i on, which is no place behind m
+pub laid-more : (m i : ℕ) (src d e : List ℕ) → Laid m src d → i ≤ m → i + 8 ≤ length src → e ≡ mid i 8 d (take 8 (drop i src)) → Laid (i + 8) src e
+laid-more m i src d e l le h is =
+    let eight : length (take 8 (drop i src)) ≡ 8 = length-take-le 8 (drop i src) (simp length-drop (omega arith)) in
+    let near : i + 8 ≤ length d = omega (arith, l .long) in
+    record {
+      long = ap length is ∙ mid-length i 8 d (take 8 (drop i src)) near eight ∙ l .long;
+      at = λ j k. by-test (ltb j i)
+          (λ t. let b = ltb-true j i t in ap (λ (x : List ℕ). getD x j 0) is ∙ mid-before i 8 d (take 8 (drop i src)) 0 j (omega arith) b ∙ l .at j (omega arith))
+          (λ t.
+          let b = ltb-false j i t in
+          let q : j ≡ i + (j - i) = omega arith in
+          ap (λ (x : List ℕ). getD x j 0) is
+          ∙ ap (λ (n : ℕ). getD (mid i 8 d (take 8 (drop i src))) n 0) q
+          ∙ mid-in i 8 d (take 8 (drop i src)) 0 (j - i) (omega arith) (omega (arith, eight))
+          ∙ getD-take 8 (drop i src) (j - i) 0 (omega arith)
+          ∙ getD-drop i src (j - i) 0
+          ∙ ap (λ (n : ℕ). getD src n 0) (sym q));
+    }
+
+pub laid-all : (m : ℕ) (src d : List ℕ) → Laid m src d → length src ≤ m → d ≡ src
+laid-all m src d l h = ext-getD 0 d src (l .long) (λ j k. l .at j (omega (arith, l .long)))

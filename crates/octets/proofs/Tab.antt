@@ -8,10 +8,16 @@ use mathlib.Core.Bool.{Bool, true, false}
 use mathlib.Core.List.{List, [], _∷_, _++_}
 use lib.ListN.{length, take, drop, getD, set, length-set, drop-of-length-le, length-append, length-take, length-drop, List·getD-append}
 use lib.Seq.{getD-at, getD-take, getD-drop, getD-append-add, length-take-le, drop-cons, drop-length, ext-getD, getD-set-same, getD-set-other}
-use lib.Dec.{ltb, eqb}
-use borrow.Author.Tests.{ltb-true, ltb-false, eqb-true, eqb-false}
+use lib.Dec.{ltb, leb, eqb}
+use borrow.Author.Tests.{ltb-true, ltb-false, leb-true, leb-false, eqb-true, eqb-false}
 use Rattle.meaning.specs.Octets.{place, count, put, cut}
+use Rattle.meaning.specs.Lists.{by-test}
 use Rattle.octets.specs.Part.{tab}
+
+-- ---- a search that found none from place i to place k, and none at k
+
+pub none-more : (t : ℕ → Bool) (i k : ℕ) → ((j : ℕ) → i ≤ j → j < k → t j ≡ false) → t k ≡ false → (j : ℕ) → i ≤ j → j < k + 1 → t j ≡ false
+none-more t i k g e j a b = by-test (ltb j k) (λ c. g j a (ltb-true j k c)) (λ c. let q : j ≡ k = omega (arith, ltb-false j k c) in rw q e)
 
 -- ---- `tab`
 
@@ -98,6 +104,14 @@ module _ {ℓ} {A : Type ℓ} where
   pub place-miss : (t : A → Bool) (n : ℕ) (f : ℕ → A) (i : ℕ) → i < n → t (f i) ≡ false → i + place t (drop i (tab n f)) ≡ i + 1 + place t (drop (i + 1) (tab n f))
   unfolding place
   place-miss t n f i h e = rw (drop-cons (tab n f) i (f i) (rw tab-length h), tab-get n f i (f i) h, e, add-one i) (omega arith)
+
+  -- none of those from place i to place k passes
+  pub place-past : (t : A → Bool) (n : ℕ) (f : ℕ → A) (i k : ℕ) → i ≤ k → k ≤ n → ((j : ℕ) → i ≤ j → j < k → t (f j) ≡ false) → i + place t (drop i (tab n f)) ≡ k + place t (drop k (tab n f))
+  place-past t n f i zero le h g = let q : i ≡ 0 = omega arith in rw q refl
+  place-past t n f i (suc k) le h g =
+      by-test (leb i k)
+      (λ c. let low = leb-true i k c in place-past t n f i k low (omega arith) (λ j a b. g j a (omega arith)) ∙ place-miss t n f k (omega arith) (g k low (omega arith)) ∙ rw (add-one k) refl)
+      (λ c. let q : i ≡ suc k = omega (arith, leb-false i k c) in rw q refl)
 
   pub place-none : (t : A → Bool) (n : ℕ) (f : ℕ → A) (i : ℕ) → n ≤ i → i ≤ n → i + place t (drop i (tab n f)) ≡ n
   unfolding place

@@ -80,9 +80,9 @@ fn read_spaces(octets: &[u8], at: usize, out: &mut [u8]) -> usize
     let b = a + 2;
     let e = b + opaque.len();
     put_element_head(&mut out[0..4], root.len());
-    octets::copy(&mut out[4..a], root);
+    octets::copy_text(&mut out[4..a], root);
     put_two(&mut out[a..b], opaque.len());
-    octets::copy(&mut out[b..e], opaque);
+    octets::copy_text(&mut out[b..e], opaque);
     e
 }
 
@@ -93,7 +93,7 @@ fn read_whole(octets: &[u8], at: usize, out: &mut [u8]) -> usize
 {
     let name = spaced(octets, at, NAME_LIMIT);
     let n = name.len();
-    octets::copy(&mut out[0..n], name);
+    octets::copy_text(&mut out[0..n], name);
     n
 }
 

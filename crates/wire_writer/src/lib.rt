@@ -97,7 +97,7 @@ pub fn put_record(out: &mut [u8], at: usize, to: u64, kind: u64, label: u64, nam
     let a = at + 16;
     put_record_head(&mut out[at..a], to, kind, id, name.len() as u64);
     let b = a + name.len();
-    octets::copy(&mut out[a..b], name);
+    octets::copy_text(&mut out[a..b], name);
     let e = b + 8;
     put_label_tlv(&mut out[b..e], label);
 }

@@ -19,17 +19,17 @@ add-f c = search needs
 add-e : tie.Need-add-e
 add-e c = search needs
 
-sub-copy : tie.Need-sub-copy
-sub-copy c = search needs
+sub-copy-text : tie.Need-sub-copy-text
+sub-copy-text c = search needs
 
-part-copy-start : tie.Need-part-copy-start
-part-copy-start c = search needs
+part-copy-text-start : tie.Need-part-copy-text-start
+part-copy-text-start c = search needs
 
-part-copy-end : tie.Need-part-copy-end
-part-copy-end c = search needs
+part-copy-text-end : tie.Need-part-copy-text-end
+part-copy-text-end c = search needs
 
-copy-requires : tie.Need-copy-requires
-copy-requires c κs = search needs
+copy-text-requires : tie.Need-copy-text-requires
+copy-text-requires c κs = search needs
 
 same-length : tie.Need-same-length
 same-length c = c .before .names .given .1 ∙ simp length-set
@@ -37,7 +37,7 @@ same-length c = c .before .names .given .1 ∙ simp length-set
 returns : tie.Need-returns
 returns c =
     let s = c .before .before .before .before .before .before in
-    text-written (s .args .at) (s .args .at + 1 + length (s .args .text .now) - (s .args .at + 1)) _ _ _ (s .pre .0) (omega arith) (c .before .before .copy .ensures)
+    text-written (s .args .at) (s .args .at + 1 + length (s .args .text .now) - (s .args .at + 1)) _ _ _ (s .pre .0) (omega arith) (c .before .before .copy-text .ensures)
 
 pub set-text-spec : {M : Type 1} → statement M
 set-text-spec =
@@ -47,9 +47,9 @@ set-text-spec =
     slice-write-names
     add-f
     add-e
-    sub-copy
-    part-copy-start
-    part-copy-end
-    copy-requires
+    sub-copy-text
+    part-copy-text-start
+    part-copy-text-end
+    copy-text-requires
     same-length
     returns)

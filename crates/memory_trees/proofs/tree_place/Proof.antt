@@ -1,4 +1,4 @@
-use Prim.Native.Nat.{_+_, _*_, _-_, _≤_}
+use Prim.Native.Nat.{_+_, _-_, _≤_}
 use native.Mathlib.Omega.{arith}
 use mathlib.Core.Path.{_≡_, refl, sym, _∙_}
 use lib.ListN.{drop}
@@ -6,35 +6,50 @@ use borrow.Author.Needs.{needs}
 use Rattle.meaning.specs.Octets.{place}
 use Rattle.meaning.specs.Card.{named, treePlace}
 use Rattle.octets.specs.Part.{tab}
-use Rattle.octets.proofs.Tab.{place-hit, place-miss, place-none}
-use Rattle.memory.specs.Sizes.{nameSpace}
+use Rattle.octets.proofs.Tab.{place-past, place-hit, place-miss, place-none}
 use Rattle.memory.specs.Memory.{cardOf, treeIn}
 use Rattle.memory.proofs.Trees.{trees-start, named-at}
 use Rattle.memory_trees.proofs.tree_place.Statement.{statement}
 use Rattle.memory_trees.proofs.tree_place.Tie as tie
 
 abbrev Inv-loop : tie.InvT-loop
-Inv-loop numbers names name n a₀ i₀ a i = (i ≤ n) × (a ≡ i * nameSpace) × (treePlace name (cardOf numbers names) ≡ i + place (named name) (drop i (tab n (treeIn numbers names))))
+Inv-loop numbers names name n i₀ i = (i ≤ n) × (treePlace name (cardOf numbers names) ≡ i + place (named name) (drop i (tab n (treeIn numbers names))))
 
 abbrev μ-loop : tie.MeasureT-loop
-μ-loop numbers names name n a₀ i₀ a i = n - i
+μ-loop numbers names name n i₀ i = n - i
 
 tree-count-requires : tie.Need-tree-count-requires Inv-loop μ-loop
 tree-count-requires c κs = search needs
 
 loop-holds : tie.Need-loop-holds Inv-loop μ-loop
-loop-holds c = (omega arith, omega arith, trees-start _ _ _ _ (c .tree-count .ensures .0))
+loop-holds c = (omega arith, trees-start _ _ _ _ (c .tree-count .ensures .0))
 
-is-named-requires : tie.Need-is-named-requires Inv-loop μ-loop
-is-named-requires c κs = search needs
+next-like-requires : tie.Need-next-like-requires Inv-loop μ-loop
+next-like-requires c κs = search needs
 
+-- the loop's own fact, at the place to which the search has gone
 returns : tie.Need-returns Inv-loop μ-loop
 returns c =
-    let l = c .before .before in
-    (sym (l .before .loop .inv .2 ∙ place-hit _ _ _ _ (l .loop-test .taken) (named-at _ _ _ _ _ refl ∙ sym (c .before .is-named .ensures) ∙ c .if1 .taken)), omega arith, omega arith)
+    let the-loop = c .before .before .before .loop in
+    let the-next-like = c .before .next-like in
+    let past = the-loop .inv .1 ∙ place-past _ _ _ _ _ (the-next-like .ensures .0) (the-next-like .ensures .1) (λ j a b. named-at _ _ _ j _ refl ∙ the-next-like .ensures .2 j a b) in
+    (sym (past ∙ place-none _ _ _ _ (c .if1 .taken) (the-next-like .ensures .1)), omega arith, omega arith)
 
-add-a : tie.Need-add-a Inv-loop μ-loop
-add-a c = search needs
+tree-name-requires : tie.Need-tree-name-requires Inv-loop μ-loop
+tree-name-requires c κs = search needs
+
+equal-requires : tie.Need-equal-requires Inv-loop μ-loop
+equal-requires c κs = search needs
+
+returns-2 : tie.Need-returns-2 Inv-loop μ-loop
+returns-2 c =
+    let the-loop = c .before .before .before .before .before .before .loop in
+    let the-next-like = c .before .before .before .before .next-like in
+    let the-if1 = c .before .before .before .if1 in
+    let the-tree-name = c .before .before .tree-name in
+    let the-equal = c .before .equal in
+    let past = the-loop .inv .1 ∙ place-past _ _ _ _ _ (the-next-like .ensures .0) (the-next-like .ensures .1) (λ j a b. named-at _ _ _ j _ refl ∙ the-next-like .ensures .2 j a b) in
+    (sym (past ∙ place-hit _ _ _ _ (omega (arith, the-if1 .left)) (named-at _ _ _ _ _ (the-tree-name .ensures .2) ∙ sym (the-equal .ensures) ∙ c .if2 .taken)), omega arith, omega arith)
 
 add-i : tie.Need-add-i Inv-loop μ-loop
 add-i c = search needs
@@ -44,11 +59,16 @@ loop-less c = search needs
 
 loop-again : tie.Need-loop-again Inv-loop μ-loop
 loop-again c =
-    let l = c .before .before in
-    (omega arith, omega arith, l .before .loop .inv .2 ∙ place-miss _ _ _ _ (l .loop-test .taken) (named-at _ _ _ _ _ refl ∙ sym (c .before .is-named .ensures) ∙ c .if1 .left))
+    let the-loop = c .before .before .before .before .before .before .loop in
+    let the-next-like = c .before .before .before .before .next-like in
+    let the-if1 = c .before .before .before .if1 in
+    let the-tree-name = c .before .before .tree-name in
+    let the-equal = c .before .equal in
+    let past = the-loop .inv .1 ∙ place-past _ _ _ _ _ (the-next-like .ensures .0) (the-next-like .ensures .1) (λ j a b. named-at _ _ _ j _ refl ∙ the-next-like .ensures .2 j a b) in
+    (omega arith, past ∙ place-miss _ _ _ _ (omega (arith, the-if1 .left)) (named-at _ _ _ _ _ (the-tree-name .ensures .2) ∙ sym (the-equal .ensures) ∙ c .if2 .left))
 
-returns-2 : tie.Need-returns-2 Inv-loop μ-loop
-returns-2 c = (sym (c .before .loop .inv .2 ∙ place-none _ _ _ _ (c .loop-test .left) (c .before .loop .inv .0)), omega arith, omega arith)
+returns-3 : tie.Need-returns-3 Inv-loop μ-loop
+returns-3 c = (sym (c .before .loop .inv .1 ∙ place-none _ _ _ _ (c .loop-test .left) (c .before .loop .inv .0)), omega arith, omega arith)
 
 pub tree-place-spec : {M : Type 1} → statement M
 tree-place-spec =
@@ -58,10 +78,12 @@ tree-place-spec =
     μ-loop
     tree-count-requires
     loop-holds
-    is-named-requires
+    next-like-requires
     returns
-    add-a
+    tree-name-requires
+    equal-requires
+    returns-2
     add-i
     loop-less
     loop-again
-    returns-2)
+    returns-3)

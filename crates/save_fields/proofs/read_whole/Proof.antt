@@ -8,32 +8,32 @@ use Rattle.save_fields.proofs.read_whole.Tie as tie
 spaced-requires : tie.Need-spaced-requires
 spaced-requires c κs = search needs
 
-sub-copy : tie.Need-sub-copy
-sub-copy c = search needs
+sub-copy-text : tie.Need-sub-copy-text
+sub-copy-text c = search needs
 
-part-copy-start : tie.Need-part-copy-start
-part-copy-start c = search needs
+part-copy-text-start : tie.Need-part-copy-text-start
+part-copy-text-start c = search needs
 
-part-copy-end : tie.Need-part-copy-end
-part-copy-end c = search needs
+part-copy-text-end : tie.Need-part-copy-text-end
+part-copy-text-end c = search needs
 
-copy-requires : tie.Need-copy-requires
-copy-requires c κs = search needs
+copy-text-requires : tie.Need-copy-text-requires
+copy-text-requires c κs = search needs
 
 same-length : tie.Need-same-length
 same-length c = search needs
 
 returns : tie.Need-returns
-returns c = (whole-in (c .before .before .before .before .before .before .before .args .octets .now) _ (c .before .before .before .before .before .before .before .args .out .now) _ (c .before .before .before .before .before .before .before .args .at) (c .before .before .before .before .before .before .before .pre) (c .before .before .before .before .spaced .ensures .1) (c .before .before .copy .ensures) (c .before .before .before .before .spaced .ensures .0), c .before .before .before .before .spaced .ensures .1)
+returns c = (whole-in (c .before .before .before .before .before .before .before .args .octets .now) _ (c .before .before .before .before .before .before .before .args .out .now) _ (c .before .before .before .before .before .before .before .args .at) (c .before .before .before .before .before .before .before .pre) (c .before .before .before .before .spaced .ensures .1) (c .before .before .copy-text .ensures) (c .before .before .before .before .spaced .ensures .0), c .before .before .before .before .spaced .ensures .1)
 
 pub read-whole-spec : {M : Type 1} → statement M
 read-whole-spec =
     tie.close
     (tie.spec
     spaced-requires
-    sub-copy
-    part-copy-start
-    part-copy-end
-    copy-requires
+    sub-copy-text
+    part-copy-text-start
+    part-copy-text-end
+    copy-text-requires
     same-length
     returns)

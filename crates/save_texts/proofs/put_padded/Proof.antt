@@ -11,26 +11,26 @@ clear-requires c κs = search needs
 fitting-requires : tie.Need-fitting-requires
 fitting-requires c κs = search needs
 
-sub-copy : tie.Need-sub-copy
-sub-copy c = search needs
+sub-copy-text : tie.Need-sub-copy-text
+sub-copy-text c = search needs
 
-part-copy-start : tie.Need-part-copy-start
-part-copy-start c = search needs
+part-copy-text-start : tie.Need-part-copy-text-start
+part-copy-text-start c = search needs
 
-part-copy-end : tie.Need-part-copy-end
-part-copy-end c = search needs
+part-copy-text-end : tie.Need-part-copy-text-end
+part-copy-text-end c = search needs
 
-sub-copy-2 : tie.Need-sub-copy-2
-sub-copy-2 c = search needs
+sub-copy-text-2 : tie.Need-sub-copy-text-2
+sub-copy-text-2 c = search needs
 
-part-copy-start-2 : tie.Need-part-copy-start-2
-part-copy-start-2 c = search needs
+part-copy-text-start-2 : tie.Need-part-copy-text-start-2
+part-copy-text-start-2 c = search needs
 
-part-copy-end-2 : tie.Need-part-copy-end-2
-part-copy-end-2 c = search needs
+part-copy-text-end-2 : tie.Need-part-copy-text-end-2
+part-copy-text-end-2 c = search needs
 
-copy-requires : tie.Need-copy-requires
-copy-requires c κs = search needs
+copy-text-requires : tie.Need-copy-text-requires
+copy-text-requires c κs = search needs
 
 same-length : tie.Need-same-length
 same-length c = search needs
@@ -39,7 +39,7 @@ returns : tie.Need-returns
 returns c =
     let f = c .before .before .before .before .before in
     let s = f .before .before .before .before .before .before .before in
-    padded-put (s .args .out .now) _ _ _ _ _ (s .pre) (f .before .before .before .clear .ensures) (f .fitting .ensures .0) (c .before .before .copy .ensures)
+    padded-put (s .args .out .now) _ _ _ _ _ (s .pre) (f .before .before .before .clear .ensures) (f .fitting .ensures .0) (c .before .before .copy-text .ensures)
 
 pub put-padded-spec : {M : Type 1} → statement M
 put-padded-spec =
@@ -47,12 +47,12 @@ put-padded-spec =
     (tie.spec
     clear-requires
     fitting-requires
-    sub-copy
-    part-copy-start
-    part-copy-end
-    sub-copy-2
-    part-copy-start-2
-    part-copy-end-2
-    copy-requires
+    sub-copy-text
+    part-copy-text-start
+    part-copy-text-end
+    sub-copy-text-2
+    part-copy-text-start-2
+    part-copy-text-end-2
+    copy-text-requires
     same-length
     returns)

@@ -22,17 +22,17 @@ put-record-head-requires c κs = search needs
 add-b : tie.Need-add-b
 add-b c = search needs
 
-sub-copy : tie.Need-sub-copy
-sub-copy c = search needs
+sub-copy-text : tie.Need-sub-copy-text
+sub-copy-text c = search needs
 
-part-copy-start : tie.Need-part-copy-start
-part-copy-start c = search needs
+part-copy-text-start : tie.Need-part-copy-text-start
+part-copy-text-start c = search needs
 
-part-copy-end : tie.Need-part-copy-end
-part-copy-end c = search needs
+part-copy-text-end : tie.Need-part-copy-text-end
+part-copy-text-end c = search needs
 
-copy-requires : tie.Need-copy-requires
-copy-requires c κs = search needs
+copy-text-requires : tie.Need-copy-text-requires
+copy-text-requires c κs = search needs
 
 add-e : tie.Need-add-e
 add-e c = search needs
@@ -59,7 +59,7 @@ returns c =
     let h = m .before .before .before .before in
     let s = h .before .before .before .before in
     let a = s .args in
-    put-three (a .id) (a .to) (a .kind) (a .label) (a .at) (a .out .now) _ _ _ (a .name .now) (s .pre .0) (h .put-record-head .ensures) (m .copy .ensures) (l .put-label-tlv .ensures)
+    put-three (a .id) (a .to) (a .kind) (a .label) (a .at) (a .out .now) _ _ _ (a .name .now) (s .pre .0) (h .put-record-head .ensures) (m .copy-text .ensures) (l .put-label-tlv .ensures)
 
 pub put-record-spec : {M : Type 1} → statement M
 put-record-spec =
@@ -71,10 +71,10 @@ put-record-spec =
     part-put-record-head-end
     put-record-head-requires
     add-b
-    sub-copy
-    part-copy-start
-    part-copy-end
-    copy-requires
+    sub-copy-text
+    part-copy-text-start
+    part-copy-text-end
+    copy-text-requires
     add-e
     sub-put-label-tlv
     part-put-label-tlv-start
