@@ -1,5 +1,5 @@
 -- Labels that lead nowhere, given up one tree after the other; and the whole of a loss. Assumes nothing.
-use Prim.Native.Nat.{ℕ, zero, suc, _+_, _-_, _≤_, _<_}
+use Prim.Native.Nat.{ℕ, zero, suc, _+_, _*_, _-_, _≤_, _<_}
 use native.Mathlib.Nat.{add-zero, add-suc, suc-add, zero-add, le-refl}
 use native.Mathlib.Numerals.{add-one}
 use native.Mathlib.Omega.{arith}
@@ -7,11 +7,13 @@ use mathlib.Core.Path.{_≡_, refl, sym, ap, ap₂, _∙_, subst}
 use mathlib.Core.Bool.{true, false}
 use mathlib.Core.List.{List}
 use lib.ListN.{length}
+use lib.Dec.{eqb, ltb}
+use borrow.Author.Tests.{ltb-true, ltb-false, le-ltb}
 use Rattle.meaning.specs.Lists.{by-test, picked}
-use Rattle.meaning.specs.Wire.{records, idsAfter}
-use Rattle.meaning.specs.Card.{Card, withNext, treeAt, leadsOn, heldFor}
+use Rattle.meaning.specs.Wire.{records, idsAfter, nameLimit, recordLimit}
+use Rattle.meaning.specs.Card.{Tree, Card, withNext, withBranch, treeAt, leadsOn, heldFor}
 use Rattle.meaning.specs.Events.{Moved, still, followedBy, letGo, holder, finish, parted, shed, shedFrom, sweptBelow, part}
-use Rattle.meaning_laws.specs.Losses.{parted-size, loss-size}
+use Rattle.meaning_laws.specs.Losses.{lossSize, parted-size, loss-size}
 use Rattle.meaning.specs.Calls.{Does}
 use Rattle.octets.specs.Part.{mid}
 use Rattle.memory.specs.Memory.{cardOf, treeCount}
@@ -22,6 +24,7 @@ use Rattle.event_move.proofs.Records.{wrote-nothing, wrote-then, then-length}
 use Rattle.event_move.proofs.Alike.{let-go-stays}
 use Rattle.event_move.proofs.Trees.{still-then, then-then, then-still, then-same}
 use Rattle.event_move.proofs.Steps.{as-many, let-go-none}
+use Rattle.event_roots.proofs.Roots.{sum-most}
 use Rattle.event_tree.specs.End.{Ended}
 use Rattle.event_tree.proofs.Ends.{does-short, does-ended}
 use Rattle.event_lost.specs.Lost.{lostTo, lossAll}
@@ -156,11 +159,27 @@ lost-ends ns os n id d e f g s s' end next ei ed w ef eg =
       ends = w .ends ∙ ap (λ (m : Moved). 0 + length (records id (m .sent))) same;
     })
 
-module _ (ns os : List ℕ) (n k : ℕ) (ek : k ≡ lossAll n (cardOf ns os)) (s : List ℕ) where
-  pub lost-short : length s < k → Does (finish (length s) (cardOf ns os) (part (cardOf ns os) n)) 16 0 s s (cardOf ns os)
-  unfolding part
-  lost-short h = does-short (cardOf ns os) _ _ s (omega (arith, loss-written ns os n (cardOf ns os .next)))
+-- room for a record of each tree is room for all
+loss-most : (n : ℕ) (c : Card) (t : Tree) → length (t .name) ≤ nameLimit → lossSize n c t ≤ recordLimit
+unfolding lossSize
+loss-most n c t h =
+    by-test (eqb (heldFor c t) n)
+    (λ a. rw a (omega arith))
+    (λ a. by-test (leadsOn (heldFor c t) (withBranch n 0 t))
+    (λ b. rw (a, b) (omega arith))
+    (λ b. by-test (eqb (t .label) 0) (λ d. rw (a, b, d) (omega arith)) (λ d. rw (a, b, d) (omega arith))))
 
-  pub lost-done : k ≤ length s → (s' : List ℕ) (e : Card) (end : ℕ) → Ended (lostTo (cardOf ns os) n) (cardOf ns os .next) 0 s s' e end → Does (finish (length s) (cardOf ns os) (part (cardOf ns os) n)) 0 end s s' e
+pub loss-room : (ns os : List ℕ) (n k room : ℕ) → k ≡ treeCount ns → k * recordLimit ≤ room → false ≡ ltb room (lossAll n (cardOf ns os))
+unfolding lossAll
+loss-room ns os n k room e h =
+    let many : length (cardOf ns os .trees) ≡ k = trees-length ns os ∙ sym e in
+    sym (le-ltb room _ (rw many (omega (arith, sum-most (lossSize n (cardOf ns os)) recordLimit ns os k (loss-most n (cardOf ns os)) (omega arith)))))
+
+module _ (ns os : List ℕ) (n : ℕ) (s : List ℕ) where
+  pub lost-short : ltb (length s) (lossAll n (cardOf ns os)) ≡ true → Does (finish (length s) (cardOf ns os) (part (cardOf ns os) n)) 16 0 s s (cardOf ns os)
   unfolding part
-  lost-done h s' e end w = does-ended (cardOf ns os) _ _ s s' e end (omega (arith, loss-written ns os n (cardOf ns os .next))) (unfold lostTo in w)
+  lost-short h = does-short (cardOf ns os) _ _ s (omega (arith, ltb-true (length s) (lossAll n (cardOf ns os)) h, loss-written ns os n (cardOf ns os .next)))
+
+  pub lost-done : ltb (length s) (lossAll n (cardOf ns os)) ≡ false → (s' : List ℕ) (e : Card) (end : ℕ) → Ended (lostTo (cardOf ns os) n) (cardOf ns os .next) 0 s s' e end → Does (finish (length s) (cardOf ns os) (part (cardOf ns os) n)) 0 end s s' e
+  unfolding part
+  lost-done h s' e end w = does-ended (cardOf ns os) _ _ s s' e end (omega (arith, ltb-false (length s) (lossAll n (cardOf ns os)) h, loss-written ns os n (cardOf ns os .next))) (unfold lostTo in w)

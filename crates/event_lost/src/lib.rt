@@ -4,6 +4,7 @@ ghost use mathlib.Core.Path.{_≡_};
 ghost use mathlib.Core.List.{List};
 ghost use Prim.Native.Nat.{ℕ, _+_, _*_, _≤_, _<_};
 ghost use lib.ListN.{length};
+ghost use lib.Dec.{ltb};
 ghost use Rattle.meaning.specs.Wire.{records, recordLimit};
 ghost use Rattle.meaning.specs.Card.{treeAt, treeLimit};
 ghost use Rattle.meaning.specs.Events.{finish, swept, shed, shedFrom, sweptBelow, part};
@@ -15,6 +16,7 @@ ghost use Rattle.event_holder.specs.Move.{Wrote};
 ghost use Rattle.event_tree.specs.End.{Ended};
 ghost use Rattle.event_lost.specs.Lost.{lostTo, lossAll};
 use event_move::Written;
+use meaning::RECORD_LIMIT;
 
 // ---- how much it writes
 
@@ -50,6 +52,17 @@ fn loss_size(numbers: &[u64], names: &[u8], n: usize) -> usize
         i += 1;
     }
     sum
+}
+
+// 16. Where there is room for a record of each tree that stands, none of them need be looked at.
+fn is_short(numbers: &[u64], names: &[u8], n: usize, room: usize) -> bool
+    requires { ⌜ Numbers (now numbers) × Names (now names) × (n < 16) ⌝ }
+    ensures { λ r. ⌜ r ≡ ltb room (lossAll n (cardOf (now (numbers .entry)) (now (names .entry)))) ⌝ }
+{
+    if memory::tree_count(numbers) * RECORD_LIMIT <= room {
+        return false;
+    }
+    room < loss_size(numbers, names, n)
 }
 
 // ---- labels that lead nowhere
@@ -148,7 +161,7 @@ pub fn lose(
     ensures { λ r. ⌜ (let c = cardOf (now (numbers .entry)) (now (names .entry)) in Does (finish (length (now (out .entry))) c (part c n))
         (now (answer .exit)) r (now (out .entry)) (now (out .exit)) (cardOf (now (numbers .exit)) (now (names .exit)))) ⌝ }
 {
-    if out.len() < loss_size(numbers, names, n) {
+    if is_short(numbers, names, n, out.len()) {
         *answer = 16;
         return 0;
     }

@@ -1,15 +1,23 @@
 -- The trees of a root, one after the other: what the loops know after i of them. Assumes nothing.
-use Prim.Native.Nat.{ℕ, _+_, _-_, _≤_, _<_}
+use Prim.Native.Nat.{ℕ, zero, suc, _+_, _*_, _-_, _≤_, _<_}
+use native.Mathlib.Nat.{zero-mul, suc-mul, add-le-add}
+use native.Mathlib.Numerals.{add-one}
 use native.Mathlib.Omega.{arith}
 use mathlib.Core.Path.{_≡_, refl, sym, ap, ap₂, _∙_}
 use mathlib.Core.Bool.{true, false}
 use mathlib.Core.List.{List}
 use lib.ListN.{length}
-use Rattle.meaning.specs.Wire.{records}
-use Rattle.meaning.specs.Card.{Tree, Card, treeAt, freeLabels}
-use Rattle.meaning.specs.Events.{still, moveLabel, needMove, holder, ofRoot, moveOne, moveFrom, moveAll, needOne, sumFrom, needAll}
-use Rattle.memory.specs.Memory.{cardOf, treeCount}
-use Rattle.memory.proofs.Memory.{trees-length}
+use lib.Dec.{eqb, ltb}
+use borrow.Author.Tests.{ltb-false, le-ltb, lt-ltb}
+use Rattle.meaning.specs.Octets.{_when_else_}
+use Rattle.meaning.specs.Lists.{by-test}
+use Rattle.meaning.specs.Wire.{records, nameLimit, recordLimit}
+use Rattle.meaning.specs.Card.{Tree, Card, nobody, treeAt, freeLabels}
+use Rattle.meaning.specs.Events.{still, moveLabel, needMove, labelsShort, holder, ofRoot, moveOne, moveFrom, moveAll, needOne, sumFrom, needAll}
+use Rattle.memory.specs.Sizes.{nameSpace}
+use Rattle.memory.specs.Memory.{cardOf, treeCount, treeName}
+use Rattle.memory.proofs.Memory.{trees-length, text-le}
+use Rattle.memory.proofs.Trees.{name-at}
 use Rattle.event_holder.specs.Move.{Wrote, moveSize, sizeOne, sizeAll}
 use Rattle.event_move.proofs.Records.{wrote-nothing, wrote-then}
 use Rattle.event_move.proofs.Trees.{one-many, one-size, first-more, first-none, first-later, sum-more, sum-none, sum-le}
@@ -57,6 +65,64 @@ sum-done f ns os n i sum e le ge s =
 
 pub sum-next : (f : Tree → ℕ) (c : Card) (i sum x : ℕ) → sum ≡ sumFrom f i 0 c → x ≡ f (treeAt i c) → sum + x ≡ sumFrom f (i + 1) 0 c
 sum-next f c i sum x e k = ap₂ _+_ e k ∙ sym (sum-more f i c)
+
+-- ---- what all trees take at most
+
+-- a name in the memory is within its limit
+pub sum-most : (f : Tree → ℕ) (b : ℕ) (ns os : List ℕ) (n : ℕ) → ((t : Tree) → length (t .name) ≤ nameLimit → f t ≤ b) → n ≤ treeCount ns → sumFrom f n 0 (cardOf ns os) ≤ n * b
+sum-most f b ns os zero most h = rw (zero-mul b, sum-none f (cardOf ns os)) (omega arith)
+sum-most f b ns os (suc n) most h =
+    let short : length (treeAt n (cardOf ns os) .name) ≤ nameLimit = rw (name-at ns os n (omega arith)) (unfold treeName in text-le nameLimit (n * nameSpace) os) in
+    rw (suc-mul n b, ← add-one n, sum-more f n (cardOf ns os)) (add-le-add (sum-most f b ns os n most (omega arith)) (most (treeAt n (cardOf ns os)) short))
+
+module _ (root : List ℕ) (u : ℕ) where
+  need-most : (t : Tree) → length (t .name) ≤ nameLimit → needOne root u t ≤ 1
+  unfolding needOne needMove
+  need-most t h =
+      by-test (ofRoot root t)
+      (λ e. rw e (by-test (eqb (holder u t) nobody) (λ k. rw k (omega arith)) (λ k. rw k (omega arith))))
+      (λ e. rw e (omega arith))
+
+  size-most : (t : Tree) → length (t .name) ≤ nameLimit → sizeOne root u t ≤ 2 * recordLimit
+  unfolding sizeOne moveSize needMove
+  size-most t h =
+      by-test (ofRoot root t)
+      (λ e. by-test (eqb (t .label) 0)
+      (λ a. by-test (eqb (holder u t) nobody) (λ b. rw (e, a, b) (omega arith)) (λ b. rw (e, a, b) (omega arith)))
+      (λ a. by-test (eqb (holder u t) nobody) (λ b. rw (e, a, b) (omega arith)) (λ b. rw (e, a, b) (omega arith))))
+      (λ e. rw e (omega arith))
+
+  pub plenty : (ns os : List ℕ) (n room : ℕ) → n ≡ treeCount ns → n * (2 * recordLimit) ≤ room → labelsShort (cardOf ns os) n ≡ false
+      → (needAll root u (cardOf ns os) ≤ freeLabels (cardOf ns os)) × (sizeAll root u (cardOf ns os) ≤ room)
+  unfolding needAll sizeAll labelsShort
+  plenty ns os n room e h few =
+      let enough = ltb-false (freeLabels (cardOf ns os)) n few in
+      let many : length (cardOf ns os .trees) ≡ n = trees-length ns os ∙ sym e in
+      rw many (omega (arith, sum-most (needOne root u) 1 ns os n need-most (omega arith)), omega (arith, sum-most (sizeOne root u) (2 * recordLimit) ns os n size-most (omega arith)))
+
+-- ---- 12 and 16 for a move of them all
+
+module _ (root : List ℕ) (u : ℕ) (c : Card) (room : ℕ) where
+  abbrev Refusal : ℕ
+  Refusal = 12 when labelsShort c (needAll root u c) else 16 when ltb room (sizeAll root u c) else 0
+
+  pub moves-freely : needAll root u c ≤ freeLabels c → sizeAll root u c ≤ room → 0 ≡ Refusal
+  unfolding labelsShort _when_else_
+  moves-freely n s = rw (le-ltb (freeLabels c) (needAll root u c) n, le-ltb room (sizeAll root u c) s) refl
+
+  module _ (k : ℕ) (ek : k ≡ needAll root u c) where
+    pub moves-short : labelsShort c k ≡ true → 12 ≡ Refusal
+    unfolding _when_else_
+    moves-short e = rw (← ek, e) refl
+
+    module _ (s : ℕ) (few : labelsShort c k ≡ false) (es : s ≡ sizeAll root u c) where
+      pub moves-tight : room < s → 16 ≡ Refusal
+      unfolding _when_else_
+      moves-tight h = rw (← ek, few, ← es, lt-ltb room s h) refl
+
+      pub moves-well : s ≤ room → 0 ≡ Refusal
+      unfolding _when_else_
+      moves-well h = rw (← ek, few, ← es, le-ltb room s h) refl
 
 -- one of them and those before it
 sum-part : (f : Tree → ℕ) (c : Card) (i n : ℕ) → i < n → sumFrom f i 0 c + f (treeAt i c) ≤ sumFrom f n 0 c

@@ -3,13 +3,17 @@ ghost use mathlib.Core.Path.{_≡_};
 ghost use mathlib.Core.List.{List};
 ghost use Prim.Native.Nat.{ℕ, _+_, _≤_, _<_, _*_};
 ghost use lib.ListN.{length};
+ghost use lib.Dec.{ltb};
+ghost use mathlib.Core.Bool.{true};
+ghost use Rattle.meaning.specs.Octets.{_when_else_};
 ghost use Rattle.meaning.specs.Wire.{records, recordLimit};
 ghost use Rattle.meaning.specs.Card.{Card, treeAt, freeLabels, sentLimit, treeLimit};
-ghost use Rattle.meaning.specs.Events.{needOne, needAll, moveOne, moveAll};
+ghost use Rattle.meaning.specs.Events.{labelsShort, needOne, needAll, moveOne, moveAll};
 ghost use Rattle.memory.specs.Sizes.{Numbers, Names};
 ghost use Rattle.memory.specs.Memory.{cardOf, treeCount};
 ghost use Rattle.event_holder.specs.Move.{Wrote, sizeOne, sizeAll};
 use event_move::Written;
+use meaning::RECORD_LIMIT;
 
 // What a move takes: how many free labels, and how many octets its records have.
 pub struct Takes {
@@ -63,6 +67,34 @@ pub fn need_all(numbers: &[u64], names: &[u8], root: &[u8], u: u64) -> usize
 {
     let t = take_all(numbers, names, root, u);
     t.labels
+}
+
+// Whether there are labels and room for a move of as many trees as stand: then none of them need be looked at.
+fn is_plenty(numbers: &[u64], room: usize) -> bool
+    requires { ⌜ Numbers (now numbers) ⌝ }
+    ensures { λ r. ⌜ (r ≡ true → (os root : List ℕ) (u : ℕ) → (let c = cardOf (now (numbers .entry)) os in (needAll root u c ≤ freeLabels c) × (sizeAll root u c ≤ room))) ⌝ }
+{
+    let n = memory::tree_count(numbers);
+    if room < n * (2 * RECORD_LIMIT) {
+        return false;
+    }
+    !memory_labels::labels_short(numbers, n)
+}
+
+// 12 and 16 for a move of all trees of a root.
+pub fn move_refusal(numbers: &[u64], names: &[u8], root: &[u8], u: u64, room: usize) -> u32
+    requires { ⌜ Numbers (now numbers) × Names (now names) ⌝ }
+    ensures { λ r. ⌜ (let c = cardOf (now (numbers .entry)) (now (names .entry)) in r ≡ 12 when labelsShort c (needAll (now (root .entry)) u c) else 16 when ltb room (sizeAll (now (root .entry)) u c) else 0) ⌝ }
+{
+    if is_plenty(numbers, room) {
+        return 0;
+    }
+    let t = take_all(numbers, names, root, u);
+    let octets = t.octets;
+    if memory_labels::labels_short(numbers, t.labels) {
+        return 12;
+    }
+    if room < octets { 16 } else { 0 }
 }
 
 fn move_one(

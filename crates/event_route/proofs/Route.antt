@@ -109,8 +109,12 @@ module _ (c : Card) (via standing lone : ℕ) where
 pub few-quick : (c : Card) (r : List ℕ) (via : ℕ) → quickNo c r via ≡ true → labelsFew c r via ≡ true
 few-quick c r via e = rw e refl
 
-pub few-walk : (c : Card) (r : List ℕ) (via u k : ℕ) (b : Bool) → quickNo c r via ≡ false → u ≡ upstream via → k ≡ needAll r u c → labelsShort c k ≡ b → labelsFew c r via ≡ b
-few-walk c r via u k b q eu ek e = rw q (unfold runsOut in sym (ap (labelsShort c) (ek ∙ ap (λ (v : ℕ). needAll r v c) eu)) ∙ e)
+-- where the counts refuse nothing, what a move of all trees is refused by
+pub few-walk : (c : Card) (r : List ℕ) (via u k room : ℕ) → routesFull c r via ≡ false → quickNo c r via ≡ false → u ≡ upstream via
+    → k ≡ 12 when labelsShort c (needAll r u c) else 16 when ltb room (sizeAll r u c) else 0
+    → k ≡ 15 when routesFull c r via else 12 when labelsFew c r via else 16 when ltb room (sizeAll r (upstream via) c) else 0
+unfolding runsOut _when_else_
+few-walk c r via u k room full quick eu e = rw (full, quick, ← eu) e
 
 -- ---- the order by its cases
 
@@ -197,13 +201,6 @@ moved-ends c d e r via u standing lone id s s' end next ei eu es el w q =
     entry = record { root = r; via = via; standing = standing; lone = lone }
 
 -- ---- small tests
-
-module _ (c : Card) (r : List ℕ) (via u n k : ℕ) (eu : u ≡ upstream via) where
-  pub room-short : k ≡ sizeAll r u c → n < k → ltb n (sizeAll r (upstream via) c) ≡ true
-  room-short ek h = lt-ltb n (sizeAll r (upstream via) c) (rw (← eu, ← ek) h)
-
-  pub room-enough : k ≡ sizeAll r u c → k ≤ n → ltb n (sizeAll r (upstream via) c) ≡ false
-  room-enough ek h = le-ltb n (sizeAll r (upstream via) c) (rw (← eu, ← ek) h)
 
 -- a root's entry that goes is there
 pub stands-below : (ns os : List ℕ) (r : List ℕ) (i via : ℕ) → i ≡ routePlace r (cardOf ns os) → i ≤ routeCount ns

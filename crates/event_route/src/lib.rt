@@ -57,8 +57,8 @@ fn surely_short(numbers: &[u64], via: u64, standing: u64, lone: u64) -> bool
     memory_labels::labels_short(numbers, (standing - lone) as usize)
 }
 
-// 15, 12 and 16 for a route that is another than the old one. The walk for 16 adds up the labels too, so that no order runs out of them,
-// whatever the counts are.
+// 15, 12 and 16 for a route that is another than the old one. Behind the counts the labels are asked once more, so that no order runs out
+// of them, whatever the counts are.
 fn route_refusal(
     numbers: &[u64],
     names: &[u8],
@@ -81,15 +81,7 @@ fn route_refusal(
     if surely_short(numbers, via, standing, lone) {
         return 12;
     }
-    let t = event_roots::take_all(numbers, names, root, u);
-    let octets = t.octets;
-    if memory_labels::labels_short(numbers, t.labels) {
-        return 12;
-    }
-    if room < octets {
-        return 16;
-    }
-    0
+    event_roots::move_refusal(numbers, names, root, u, room)
 }
 
 // The root's entry, whose place is i: anew, or gone where there is no route.
