@@ -4,13 +4,13 @@ use native.Mathlib.Omega.{arith}
 use mathlib.Core.Path.{_≡_, refl, sym, ap, _∙_}
 use mathlib.Core.Bool.{Bool, true, false, not}
 use mathlib.Core.List.{List}
-use lib.ListN.{length, drop, getD, set, length-set}
-use lib.Seq.{getD-set-same, getD-set-other, drop-cons}
+use lib.ListN.{length, drop, getD, set}
+use lib.Seq.{getD-set-same, getD-set-other}
 use lib.Dec.{eqb}
-use borrow.Author.Tests.{lt-ltb, eq-eqb, ne-eqb}
-use Rattle.meaning.specs.Octets.{any, place, same}
-use Rattle.meaning.specs.Lists.{by-test, positive}
-use Rattle.meaning.specs.Card.{Tree, withTrees, withBranch, withLeaf, withLabel, treeAt, isBranch, named, treePlace, withLabels, mappedTo, useOf, heldFor, carries, treeLimit, labelCount}
+use borrow.Author.Tests.{eq-eqb, ne-eqb}
+use Rattle.meaning.specs.Octets.{place, same}
+use Rattle.meaning.specs.Lists.{by-test}
+use Rattle.meaning.specs.Card.{Tree, withTrees, withBranch, withLeaf, withLabel, treeAt, named, treePlace, withLabels, mappedTo, useOf, heldFor, carries, treeLimit, labelCount}
 use Rattle.meaning.specs.Events.{setLabel, setUse, ended}
 use Rattle.octets.specs.Part.{tab}
 use Rattle.octets.proofs.Tab.{tab-length, tab-get, tab-ext, tab-set, place-start, place-past, place-hit, place-none}
@@ -54,13 +54,6 @@ module _ (ns os : List ℕ) (i : ℕ) (h : i < treeCount ns) where
   pub name-at : treeAt i (cardOf ns os) .name ≡ treeName os i
   unfolding treeIn
   name-at = ap (λ (t : Tree). t .name) (tree-at ns os i h)
-
--- ---- the branches but one, from the front
-
-module _ (bs : List ℕ) (but n : ℕ) where
-  pub others-hit : (r : ℕ) → n < length bs → (n ≡ but → ⊥) → r ≡ getD bs n 0 → (r ≡ 0 → ⊥) → any isBranch (drop n (set bs but 0)) ≡ true
-  unfolding any isBranch
-  others-hit r h ne e z = rw (drop-cons (set bs but 0) n 0 (rw length-set h), getD-set-other bs but n 0 0 ne, ← e, lt-ltb 0 r (positive r z)) refl
 
 -- ---- trees by name
 

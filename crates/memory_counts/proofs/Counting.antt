@@ -21,7 +21,7 @@ use Rattle.memory.specs.Sizes.{nameSpace}
 use Rattle.memory.specs.Memory.{upTo, textAt, treeName, cardOf, routeCount, treeCount, routeIn}
 use Rattle.memory.proofs.Memory.{trees-length}
 use Rattle.memory.proofs.Marks.{never}
-use Rattle.memory.proofs.Trees.{name-at}
+use Rattle.memory.proofs.Trees.{branches-length, name-at}
 use Rattle.memory_trees.proofs.Others.{one, count-set, one-within}
 
 -- ---- whether a tree is empty
@@ -36,6 +36,15 @@ empty-branches t b f e =
     by-test (any isBranch (t .branches))
     (λ some. rw (← f, some) (ne-eqb b 0 (λ z. let no : true ≡ false = sym some ∙ count-any isBranch (t .branches) (sym e ∙ z) in absurd (never (sym no)))))
     (λ none. rw (← f, none) (eq-eqb b 0 (e ∙ any-count isBranch (t .branches) none)))
+
+module _ (ns os : List ℕ) (i : ℕ) (h : i < treeCount ns) where
+  pub empty-row : (r : Bool) → r ≡ any isBranch (set (set (treeAt i (cardOf ns os) .branches) 16 0) 16 0) → false ≡ treeAt i (cardOf ns os) .leaf → not r ≡ isEmpty (treeAt i (cardOf ns os))
+  unfolding isEmpty
+  empty-row r e f =
+      let bs : List ℕ = treeAt i (cardOf ns os) .branches in
+      let long : length bs ≡ 16 = branches-length ns os i h in
+      let same : set (set bs 16 0) 16 0 ≡ bs = ap (λ (l : List ℕ). set l 16 0) (set-out bs 16 0 (omega arith)) ∙ set-out bs 16 0 (omega arith) in
+      rw (← f, e, same) (by-test (any isBranch bs) (λ t. rw t refl) (λ t. rw t refl))
 
 -- ---- what one tree counts
 

@@ -28,7 +28,7 @@ pub fn is_empty(numbers: &[u64], i: usize) -> bool
     if memory_trees::is_leaf(numbers, i) {
         return false;
     }
-    memory_trees::branch_count(numbers, i) == 0
+    !memory_trees::any_branch(numbers, i, 16, 0, 16)
 }
 
 // What a tree counts that has so many branches, and a leaf or none.

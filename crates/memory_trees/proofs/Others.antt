@@ -1,4 +1,4 @@
--- The branches of a tree but those of two neighbours, by their number. Assumes nothing.
+-- The branches of a tree: how many, and whether one stands beside those of two neighbours. Assumes nothing.
 use Prim.Native.Nat.{ℕ, zero, suc, _+_, _≤_, _<_}
 use native.Mathlib.Nat.{not-suc-le-zero, le-of-suc-le-suc}
 use native.Mathlib.Numerals.{add-one}
@@ -9,12 +9,11 @@ use mathlib.Core.List.{List, [], _∷_}
 use mathlib.Core.Logic.{_⊎_, ⊎-elim}
 use lib.ListN.{length, drop, getD, set, length-set, drop-of-length-le}
 use lib.Seq.{getD-set-same, getD-set-other, set-out, set-set, drop-cons}
-use lib.Dec.{leb, ltb}
-use borrow.Author.Tests.{leb-true, leb-false, lt-ltb, le-ltb}
+use lib.Dec.{eqb, leb}
+use borrow.Author.Tests.{eqb-true, eqb-false, leb-true, leb-false, lt-ltb}
 use Rattle.meaning.specs.Octets.{pick, any, count}
-use Rattle.meaning.specs.Lists.{by-test, any-count, count-any, getD-out, positive}
+use Rattle.meaning.specs.Lists.{by-test, getD-out, positive}
 use Rattle.meaning.specs.Card.{isBranch}
-use Rattle.memory.proofs.Trees.{others-hit}
 
 -- ---- how many there are
 
@@ -73,6 +72,27 @@ count-clear bs n =
 pub one-within : (bs : List ℕ) (n : ℕ) → one (getD bs n 0) ≤ count isBranch bs
 one-within bs n = omega (arith, count-clear bs n)
 
+-- ---- the branches but one, from the front
+
+module _ (bs : List ℕ) (but n : ℕ) where
+  unbranched : n < length bs → getD (set bs but 0) n 0 ≡ 0 → any isBranch (drop n (set bs but 0)) ≡ any isBranch (drop (n + 1) (set bs but 0))
+  unfolding any isBranch
+  unbranched h e = rw (drop-cons (set bs but 0) n 0 (rw length-set h), e, add-one n) refl
+
+  pub others-but : n < length bs → n ≡ but → any isBranch (drop n (set bs but 0)) ≡ any isBranch (drop (n + 1) (set bs but 0))
+  others-but h e = unbranched h (rw (← e) (getD-set-same bs n 0 0 h))
+
+  pub others-miss : (r : ℕ) → n < length bs → (n ≡ but → ⊥) → r ≡ getD bs n 0 → r ≡ 0 → any isBranch (drop n (set bs but 0)) ≡ any isBranch (drop (n + 1) (set bs but 0))
+  others-miss r h ne e z = unbranched h (getD-set-other bs but n 0 0 ne ∙ sym e ∙ z)
+
+  pub others-hit : (r : ℕ) → n < length bs → (n ≡ but → ⊥) → r ≡ getD bs n 0 → (r ≡ 0 → ⊥) → any isBranch (drop n (set bs but 0)) ≡ true
+  unfolding any isBranch
+  others-hit r h ne e z = rw (drop-cons (set bs but 0) n 0 (rw length-set h), getD-set-other bs but n 0 0 ne, ← e, lt-ltb 0 r (positive r z)) refl
+
+  pub others-none : length bs ≤ n → any isBranch (drop n (set bs but 0)) ≡ false
+  unfolding any
+  others-none h = rw (drop-of-length-le (set bs but 0) {i = n} (rw length-set h)) refl
+
 -- ---- but those of two neighbours
 
 -- what passes behind some place passes
@@ -83,28 +103,31 @@ any-behind t (suc n) [] e = e
 any-behind t (suc n) (x ∷ l) e = by-test (t x) (λ h. rw h refl) (λ h. rw h (any-behind t n l e))
 
 module _ (bs : List ℕ) (n but : ℕ) where
-  cleared : (n ≡ but) → 0 ≡ one (getD (set bs n 0) but 0)
-  cleared q =
-      one-none (getD (set bs n 0) but 0)
-      (by-test (leb (length bs) n)
-      (λ t. getD-out (set bs n 0) but 0 (rw length-set (let out = leb-true (length bs) n t in omega arith)))
-      (λ t. rw (← q) (getD-set-same bs n 0 0 (leb-false (length bs) n t))))
+  -- from place k on
+  abbrev Rest : ℕ → Bool
+  Rest k = any isBranch (drop k (set (set bs n 0) but 0))
 
-  some-left : (apart : ℕ) → apart + count isBranch (set (set bs n 0) but 0) ≡ count isBranch bs → ltb apart (count isBranch bs) ≡ any isBranch (set (set bs n 0) but 0)
-  some-left apart e =
-      let left : List ℕ = set (set bs n 0) but 0 in
-      by-test (any isBranch left)
-      (λ t. rw t (lt-ltb apart (count isBranch bs) (omega (arith, positive (count isBranch left) (λ z. let no : true ≡ false = sym t ∙ count-any isBranch left z in let z′ : _≡_ {A = ℕ} 0 1 = cc in omega arith)))))
-      (λ t. rw t (le-ltb apart (count isBranch bs) (omega (arith, any-count isBranch left t))))
+  pub other-hit : (k r : ℕ) → k < length bs → r ≡ getD bs k 0 → (r ≡ 0 → ⊥) → (k ≡ n → ⊥) → (k ≡ but → ⊥) → Rest k ≡ true
+  other-hit k r h e z kn kb = others-hit (set bs n 0) but k r (rw length-set h) kb (e ∙ sym (getD-set-other bs n k 0 0 kn)) z
 
-  pub other-than-one : (a all : ℕ) → n ≡ but → a ≡ one (getD bs n 0) → all ≡ count isBranch bs → ltb a all ≡ any isBranch (set (set bs n 0) but 0)
-  other-than-one a all q ea el =
-      rw (el) (some-left a (omega (arith, count-clear bs n, count-clear (set bs n 0) but, cleared q)))
+  zero-then : (k : ℕ) → k < length bs → getD (set bs n 0) k 0 ≡ 0 → Rest k ≡ Rest (k + 1)
+  zero-then k h z =
+      by-test (eqb k but)
+      (λ t. others-but (set bs n 0) but k (rw length-set h) (eqb-true k but t))
+      (λ t. others-miss (set bs n 0) but k 0 (rw length-set h) (eqb-false k but t) (sym z) refl)
 
-  pub other-than-two : (a b all : ℕ) → (n ≡ but → ⊥) → a ≡ one (getD bs n 0) → b ≡ one (getD bs but 0) → all ≡ count isBranch bs → ltb (a + b) all ≡ any isBranch (set (set bs n 0) but 0)
-  other-than-two a b all ne ea eb el =
-      let there : one (getD (set bs n 0) but 0) ≡ one (getD bs but 0) = ap one (getD-set-other bs n but 0 0 (λ q. ne (sym q))) in
-      rw (el) (some-left (a + b) (omega (arith, count-clear bs n, count-clear (set bs n 0) but, there)))
+  pub other-zero : (k r : ℕ) → k < length bs → r ≡ getD bs k 0 → r ≡ 0 → Rest k ≡ Rest (k + 1)
+  other-zero k r h e z =
+      zero-then k h
+      (by-test (eqb k n)
+      (λ t. let q : k ≡ n = eqb-true k n t in rw (← q) (getD-set-same bs k 0 0 h))
+      (λ t. getD-set-other bs n k 0 0 (eqb-false k n t) ∙ sym e ∙ z))
+
+  pub other-not : (k : ℕ) → k < length bs → (k ≡ n) ⊎ (k ≡ but) → Rest k ≡ Rest (k + 1)
+  other-not k h =
+      ⊎-elim
+      (λ q. zero-then k h (rw (← q) (getD-set-same bs k 0 0 h)))
+      (λ q. others-but (set bs n 0) but k (rw length-set h) q)
 
   -- once neighbour n's branch is x
   pub one-leads : (x : ℕ) → (x ≡ 0 → ⊥) → n < length bs → (n ≡ but → ⊥) → any isBranch (set (set bs n x) but 0) ≡ true

@@ -130,17 +130,30 @@ pub fn count_of(numbers: &[u64], i: usize, n: usize) -> u64
     0
 }
 
-// Whether the tree has a branch of another neighbour than n and `but`.
+fn is_other(k: usize, n: usize, but: usize) -> bool
+    ensures { λ r. ⌜ (r ≡ true → (k ≡ n → ⊥) × (k ≡ but → ⊥)) × (r ≡ false → (k ≡ n) ⊎ (k ≡ but)) ⌝ }
+{
+    if k == n {
+        return false;
+    }
+    k != but
+}
+
+// Whether the tree has a branch of another neighbour than n and `but`. Most have one of a low number, and the first ends the search.
 fn any_other(numbers: &[u64], i: usize, n: usize, but: usize) -> bool
     requires { ⌜ Numbers (now numbers) × (i < treeCount (now numbers)) × (i < treeLimit) ⌝ }
     ensures { λ r. ⌜ ((os : List ℕ) → r ≡ any isBranch (set (set (treeAt i (cardOf (now (numbers .entry)) os) .branches) n 0) but 0)) ⌝ }
 {
-    let all = branch_count(numbers, i);
-    let apart = count_of(numbers, i, n);
-    if n == but {
-        return apart < all;
+    let mut k = 0;
+    while k < 16 {
+        if branch(numbers, i, k) != 0 {
+            if is_other(k, n, but) {
+                return true;
+            }
+        }
+        k += 1;
     }
-    apart + count_of(numbers, i, but) < all
+    false
 }
 
 // Whether the branch x of neighbour n is one, apart from that of neighbour `but`.

@@ -1,5 +1,5 @@
+use Rattle.memory_counts.proofs.Counting.{empty-leaf, empty-row}
 use mathlib.Core.Path.{sym, _∙_}
-use Rattle.memory_counts.proofs.Counting.{empty-leaf, empty-branches}
 use borrow.Author.Needs.{needs}
 use Rattle.memory_counts.proofs.is_empty.Statement.{statement}
 use Rattle.memory_counts.proofs.is_empty.Tie as tie
@@ -10,11 +10,11 @@ is-leaf-requires c κs = search needs
 returns : tie.Need-returns
 returns c = λ os. empty-leaf _ (sym (c .if1 .taken) ∙ c .before .is-leaf .ensures os)
 
-branch-count-requires : tie.Need-branch-count-requires
-branch-count-requires c κs = search needs
+any-branch-requires : tie.Need-any-branch-requires
+any-branch-requires c κs = search needs
 
 returns-2 : tie.Need-returns-2
-returns-2 c = λ os. empty-branches _ _ (sym (c .before .if1 .left) ∙ c .before .before .is-leaf .ensures os) (c .branch-count .ensures .0 os)
+returns-2 c = λ os. empty-row _ os _ (c .before .before .before .before .pre .1) _ (c .any-branch .ensures os) (sym (c .before .if1 .left) ∙ c .before .before .is-leaf .ensures os)
 
 pub is-empty-spec : {M : Type 1} → statement M
-is-empty-spec = tie.close (tie.spec is-leaf-requires returns branch-count-requires returns-2)
+is-empty-spec = tie.close (tie.spec is-leaf-requires returns any-branch-requires returns-2)
