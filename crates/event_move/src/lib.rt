@@ -105,6 +105,7 @@ pub fn take_up(
     give(numbers, names, i, u, out, at, id)
 }
 
+// What is handed back is made anew: a copy of both numbers at once would wait for the two that were just written.
 pub fn move_label(
     numbers: &mut [u64],
     names: &mut [u8],
@@ -123,7 +124,8 @@ pub fn move_label(
     let w = let_go(numbers, names, i, out, at, id);
     let end = w.at;
     let next = w.id;
-    take_up(numbers, names, i, u, out, end, next)
+    let v = take_up(numbers, names, i, u, out, end, next);
+    Written { at: v.at, id: v.id }
 }
 
 // From now on the tree at place i holds a label for u, or none where u is 17.

@@ -62,7 +62,7 @@ fn next_like(names: &[u8], i: usize, n: usize, root: &[u8]) -> usize
     n
 }
 
-pub fn route_place(numbers: &[u64], names: &[u8], root: &[u8]) -> usize
+fn search(numbers: &[u64], names: &[u8], root: &[u8]) -> usize
     requires { ⌜ Numbers (now numbers) × Names (now names) ⌝ }
     ensures { λ r. ⌜ (r ≡ routePlace (now (root .entry)) (cardOf (now (numbers .entry)) (now (names .entry)))) × (r ≤ routeCount (now (numbers .entry))) × (r ≤ routeLimit) ⌝ }
 {
@@ -79,6 +79,16 @@ pub fn route_place(numbers: &[u64], names: &[u8], root: &[u8]) -> usize
         i = k + 1;
     }
     n
+}
+
+// The part from the front to the end is lent on, and not the slice itself: compiled, a slice is two words that the caller has just
+// written, and a copy of both at once would wait for them.
+pub fn route_place(numbers: &[u64], names: &[u8], root: &[u8]) -> usize
+    requires { ⌜ Numbers (now numbers) × Names (now names) ⌝ }
+    ensures { λ r. ⌜ (r ≡ routePlace (now (root .entry)) (cardOf (now (numbers .entry)) (now (names .entry)))) × (r ≤ routeCount (now (numbers .entry))) × (r ≤ routeLimit) ⌝ }
+{
+    let n = root.len();
+    search(numbers, names, &root[..n])
 }
 
 // The route of the root whose place is i: 0 to 15 a neighbour, 16 this node, 17 no route.

@@ -204,8 +204,7 @@ fn next_like(names: &[u8], i: usize, n: usize, name: &[u8]) -> usize
     n
 }
 
-// The place of the tree of that name; the number of trees where it does not stand.
-pub fn tree_place(numbers: &[u64], names: &[u8], name: &[u8]) -> usize
+fn search(numbers: &[u64], names: &[u8], name: &[u8]) -> usize
     requires { ⌜ Numbers (now numbers) × Names (now names) ⌝ }
     ensures { λ r. ⌜ (r ≡ treePlace (now (name .entry)) (cardOf (now (numbers .entry)) (now (names .entry)))) × (r ≤ treeCount (now (numbers .entry))) × (r ≤ treeLimit) ⌝ }
 {
@@ -222,6 +221,16 @@ pub fn tree_place(numbers: &[u64], names: &[u8], name: &[u8]) -> usize
         i = k + 1;
     }
     n
+}
+
+// The place of the tree of that name; the number of trees where it does not stand. The part from the front to the end is lent on, as in
+// `memory_routes::route_place`.
+pub fn tree_place(numbers: &[u64], names: &[u8], name: &[u8]) -> usize
+    requires { ⌜ Numbers (now numbers) × Names (now names) ⌝ }
+    ensures { λ r. ⌜ (r ≡ treePlace (now (name .entry)) (cardOf (now (numbers .entry)) (now (names .entry)))) × (r ≤ treeCount (now (numbers .entry))) × (r ≤ treeLimit) ⌝ }
+{
+    let n = name.len();
+    search(numbers, names, &name[..n])
 }
 
 pub fn set_branch(numbers: &mut [u64], i: usize, n: usize, label: u64)
