@@ -11,7 +11,7 @@ use lib.Dec.{eqb, ltb}
 use borrow.Author.Tests.{ltb-true, ltb-false}
 use Rattle.meaning.specs.Octets.{pick, place, count, any, same, put, cut}
 use Rattle.meaning.specs.Wire.{rootIn}
-use Rattle.meaning.specs.Card.{Route, Tree, Card, noRoute, noEntry, withBranch, withLabel, isFor, routePlace, bare, isBranch, isEmpty, isLone}
+use Rattle.meaning.specs.Card.{Route, Tree, Card, noRoute, noEntry, withBranch, withLabel, isFor, routePlace, bare, isBranch, isEmpty, isLone, treeLimit}
 use Rattle.meaning.specs.Events.{ofRoot, total, inRoot, oneStanding, oneLone, workedOut, entryOf, changed, recountedFor, recount, entryWith, routesWith, treeWithout, treesWithout, recountedWithout, routesWithout}
 use Rattle.meaning.specs.Lists.{by-test, picked, getD-same, getD-out, place-finds, same-eq, same-refl, found-put, found-cut, other-put, other-cut, any-count}
 use Rattle.meaning_laws.specs.Counts.{plains, plain-count, plain-place, plain-length, recount-plain, without-plain, changed-true, standing-most, lone-most, Counted}
@@ -183,7 +183,7 @@ module _ (get : Route → ℕ) (w : Tree → ℕ) (T : Tally get w) where
       (λ e. let sum′ : m + 0 ≡ n + 0 = rw e at sums in rw e (its ∙ omega arith))
 
   -- the trees ts become us by the tree t becoming s
-  pub one-true : (t s : Tree) (rs : List Route) (q : List ℕ) (ts us : List Tree) → t .name ≡ s .name → length ts ≤ 64
+  pub one-true : (t s : Tree) (rs : List Route) (q : List ℕ) (ts us : List Tree) → t .name ≡ s .name → length ts ≤ treeLimit
       → ((q : List ℕ) → total (inRoot q w) us + inRoot q w t ≡ total (inRoot q w) ts + inRoot q w s)
       → get (found q (workedOut ts (noEntry q)) rs) ≡ total (inRoot q w) ts
       → get (found q (workedOut us (noEntry q)) (recount t s rs)) ≡ total (inRoot q w) us
@@ -252,7 +252,7 @@ module _ (get : Route → ℕ) (w : Tree → ℕ) (T : Tally get w) where
   without-total n c q (t ∷ ts) = ap₂ _+_ (within-label q _ (withBranch n 0 t)) (without-total n c q ts)
 
   -- the trees us are those without n's branches
-  pub lost-true : (n : ℕ) (c : Card) (q : List ℕ) (us : List Tree) → count (isFor q) (c .routes) ≤ 1 → length (c .trees) ≤ 64 → total (inRoot q w) us ≡ total (inRoot q w) (treesWithout n c (c .trees))
+  pub lost-true : (n : ℕ) (c : Card) (q : List ℕ) (us : List Tree) → count (isFor q) (c .routes) ≤ 1 → length (c .trees) ≤ treeLimit → total (inRoot q w) us ≡ total (inRoot q w) (treesWithout n c (c .trees))
       → get (entryOf q c) ≡ total (inRoot q w) (c .trees)
       → get (found q (workedOut us (noEntry q)) (routesWithout n (recountedWithout n (c .trees) (c .routes)))) ≡ total (inRoot q w) us
   lost-true n c q us once few still its =

@@ -40,7 +40,7 @@ module _ (r : List ℕ) (f : Tree → ℕ) (most : (t : Tree) → f t ≤ 1) whe
   total-most (t ∷ ts) = by-test (ofRoot r t) (λ k. rw k (omega (arith, most t, total-most ts))) (λ k. rw k (omega (arith, total-most ts)))
 
 -- a tree that counted nothing before, while the count is far from going round
-changed-up : (n x : ℕ) → n ≤ 64 → x ≤ 1 → changed n 0 x ≡ n + x
+changed-up : (n x : ℕ) → n ≤ treeLimit → x ≤ 1 → changed n 0 x ≡ n + x
 unfolding changed
 changed-up n x h k = by-test (eqb 0 x) (λ e. rw e (let z : 0 ≡ x = eqb-true 0 x e in omega arith)) (λ e. rw e (omega arith))
 
@@ -78,7 +78,7 @@ module _ (s : Tree) where
       (λ k. ap (set rs (place (isFor r) rs)) (sym (counting-own _ (place-finds (isFor r) rs (noEntry r) (ltb-true _ _ k)))) ∙ sym one)
       (λ k. let out = ltb-false (place (isFor r) rs) (length rs) k in set-out rs _ _ out ∙ sym (one ∙ set-out rs _ _ out))
 
-  module _ (ts : List Tree) (few : length ts ≤ 64) where
+  module _ (ts : List Tree) (few : length ts ≤ treeLimit) where
     own-more : (x : Route) → x .root ≡ rootIn (s .name) → (f : Tree → ℕ) → ((t : Tree) → f t ≤ 1) → changed (total (inRoot (x .root) f) ts) 0 (f s) ≡ total (inRoot (x .root) f) (ts ++ (s ∷ []))
     own-more x e f most =
         let own : inRoot (x .root) f s ≡ f s = unfold inRoot ofRoot in rw (e, same-refl (rootIn (s .name))) refl in
@@ -141,7 +141,7 @@ module _ (i : ℕ) (c₀ c : Card) (w : Working i c₀ c) where
   working-more c' h few once s =
       let ts : List Tree = take i (c₀ .trees) in
       let t : Tree = getD (c₀ .trees) i (bare []) in
-      let few-before : length ts ≤ 64 = omega (arith, length-take-le i (c₀ .trees) (omega arith)) in
+      let few-before : length ts ≤ treeLimit = omega (arith, length-take-le i (c₀ .trees) (omega arith)) in
       let more : ts ++ (t ∷ []) ≡ take (i + 1) (c₀ .trees) = rw (add-one i) (sym (take-suc (c₀ .trees) i (bare []) h)) in
       let step : recount nothing (treeAt i c) (c .routes) ≡ allWorkedOut (take (i + 1) (c₀ .trees)) (c₀ .routes) =
       rw (its-tree, its-routes) (recount-is t (allWorkedOut ts (c₀ .routes)) (worked-once ts (c₀ .routes) ∙ once) ∙ all-counting t ts few-before (c₀ .routes) ∙ ap (λ (l : List Tree). allWorkedOut l (c₀ .routes)) more) in
