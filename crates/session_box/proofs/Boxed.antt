@@ -9,7 +9,7 @@ use Rattle.bench_input.specs.Kept.{Keeps}
 use Rattle.bench_input.specs.Input.{Stand, nextNumber, ended, longer}
 use Rattle.bench_input.proofs.Input.{keeps-none}
 use Rattle.session_replies.specs.Done.{Box, BoxReply, boxReply, BoxSays}
-use Rattle.session_lines.specs.Four.{boxOf}
+use Rattle.session_replies.specs.Four.{boxOf}
 use Rattle.session_box.specs.Input.{boxLeft, Stands}
 
 pub ended-stands : (s : Stand Box) {number n next r : ℕ} {box : Box} {c : Card} {streams : List Stream} {line text : List ℕ} {kept : ℕ} → Stands s number box line kept → n ≡ nextNumber number

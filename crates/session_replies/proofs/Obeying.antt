@@ -1,10 +1,9 @@
 -- Laws by which what is written and left is what is done. Assumes nothing.
-use Prim.Native.Nat.{ℕ, _-_, _*_, _≤_, min}
+use Prim.Native.Nat.{ℕ, _*_, _≤_, _<_, min}
 use native.Mathlib.Omega.{arith}
 use mathlib.Core.Path.{_≡_, refl, _∙_}
 use mathlib.Core.List.{List}
-use lib.ListN.{length, take, drop, length-drop}
-use lib.Seq.{length-take-le}
+use lib.ListN.{length, take, set}
 use borrow.Author.Tests.{ltb-false}
 use Rattle.meaning.specs.Octets.{_when_else_}
 use Rattle.meaning.specs.Lists.{by-test}
@@ -15,22 +14,32 @@ use Rattle.meaning.specs.Calls.{Hands}
 use lib.Dec.{ltb}
 use Rattle.session.specs.Stream.{Stream}
 use Rattle.session.specs.Session.{afterLoss}
+use Rattle.session.specs.Lent.{streamOf}
 use Rattle.session.specs.Pack.{messagesTo, packed, packRefusal, packedBy, pack}
-use Rattle.bench_words.specs.Words.{ascii, part, octetsOf, Puts}
-use Rattle.bench_verbs.specs.Line.{Said, orderOf}
-use Rattle.bench_lines.specs.Text.{eventLine, textSpace}
-use Rattle.bench_replies.specs.Reply.{eventRoom, replyTo, Says, Answers}
+use Rattle.bench_words.specs.Words.{Puts}
+use Rattle.bench_verbs.specs.Line.{Said}
+use Rattle.bench_lines.specs.Text.{eventLine}
+use Rattle.bench_replies.specs.Reply.{eventRoom, replyTo, Says}
 use Rattle.bench_replies.proofs.Reply.{decoded}
-use Rattle.session_orders.specs.Asks.{Lies, meant, InLine}
-use Rattle.session_orders.specs.declared.Ask.{Ask}
+use Rattle.session_orders.specs.Told.{Told, streamCount}
 use Rattle.session_turns.specs.Turns.{turns, TurnsSay}
-use Rattle.session_replies.specs.Done.{packRoom, own, doneBy, Obeys}
+use Rattle.session_replies.specs.Done.{packRoom, own, doneBy, Box, streamAt, boxAfter, BoxSays}
+use Rattle.session_replies.specs.Four.{numbersOf, bufferOf, four, boxOf, boxOn}
+use Rattle.session_replies.proofs.Four.{four-at}
 
--- ---- octets
+-- ---- octets, on the n-th stream
 
-pub turns-decoded : (n room : ℕ) (c : Card) (s : Stream) {ys before after : List ℕ} {k r : ℕ} {text : List ℕ} {c′ : Card} {s′ : Stream} → Puts ys before after k
-    → TurnsSay (turns n room c s (take k after)) r text c′ s′ → TurnsSay (turns n room c s ys) r text c′ s′
-turns-decoded n room c s p h = rw (decoded p) at h
+pub says-turns : (n neighbour room : ℕ) (c : Card) (ns os o s b ns′ os′ : List ℕ) {text : List ℕ} {r : ℕ} {c′ : Card} → n < streamCount → four ns′ os′ ≡ set (four ns os) n (streamOf s b)
+    → TurnsSay (turns neighbour room c (streamOf (numbersOf ns n) (bufferOf os n)) o) r text c′ (streamOf s b)
+    → (number : ℕ) → BoxSays (boxOn n number (boxOf room c (four ns os)) (Told.octets neighbour o)) r text c′ room (four ns′ os′)
+unfolding boxOn boxAfter streamAt doneBy
+says-turns n neighbour room c ns os o s b ns′ os′ h e t number =
+    rw (four-at ns os n h)
+    (record { short = t .short; line = t .line; leaves = t .leaves; next = refl; all = e ∙ rw (t .streams) refl })
+
+pub says-decoded : (n neighbour : ℕ) (b : Box) {ys before after : List ℕ} {k r room : ℕ} {text : List ℕ} {c : Card} {streams : List Stream} → Puts ys before after k
+    → ((number : ℕ) → BoxSays (boxOn n number b (Told.octets neighbour (take k after))) r text c room streams) → (number : ℕ) → BoxSays (boxOn n number b (Told.octets neighbour ys)) r text c room streams
+says-decoded n neighbour b p h number = rw (decoded p) at (h number)
 
 -- ---- the writer
 
@@ -60,31 +69,11 @@ module _ (n room : ℕ) {id os before after part : List ℕ} {l whole k a : ℕ}
 pub loss-left : (f : ℕ → Out) (s s′ : Stream) {l m a : ℕ} {part : List ℕ} {card : Card} → l ≡ m → Hands (f l) a part card → s′ ≡ afterLoss a s → s′ ≡ afterLoss (f m .answer) s
 loss-left f s s′ e h p = p ∙ rw (h .answers, e) refl
 
--- ---- an order, by its variant
-
-pub lies : (l : List ℕ) (r a : Ask) → InLine l r → r ≡ a → InLine l a
-lies l r a h e = rw e at h
-
-pub short : (l : List ℕ) (s e : ℕ) → Lies l s e → length (part s e l) ≤ 8192
-short l s e h = let n = length-take-le (e - s) (drop s l) (simp length-drop (omega arith)) in omega arith
-
-module _ (number room : ℕ) (c : Card) (s : Stream) (l : List ℕ) (a : Ask) where
-  pub obeys-bench : {r next : ℕ} {text : List ℕ} {c′ : Card} → a ≡ Ask.Bench → Answers (replyTo number room c (orderOf l)) r text c′ next → Obeys (doneBy number room c s (meant l a)) r text c′ next s
-  unfolding meant doneBy
-  obeys-bench q h = rw q (record { short = omega (arith, h .says .short); line = h .says .line; leaves = h .says .leaves; next = h .next; streams = refl })
-
-  pub obeys-octets : (n x e : ℕ) {r : ℕ} {text : List ℕ} {c′ : Card} {s′ : Stream} → a ≡ Ask.Octets n x e → TurnsSay (turns n room c s (octetsOf (part x e l))) r text c′ s′
-      → Obeys (doneBy number room c s (meant l a)) r text c′ room s′
-  unfolding meant doneBy
-  obeys-octets n x e q h = rw q (record { short = h .short; line = h .line; leaves = h .leaves; next = refl; streams = h .streams })
-
-  pub obeys-pack : (n x e : ℕ) {r : ℕ} {text : List ℕ} → a ≡ Ask.Pack n x e → r ≤ textSpace
-      → take r text ≡ eventLine (ascii "pack") (pack own n (packRoom room) (octetsOf (part x e l)) .answer) (pack own n (packRoom room) (octetsOf (part x e l)) .octets)
-      → Obeys (doneBy number room c s (meant l a)) r text c room s
-  unfolding meant doneBy
-  obeys-pack n x e q h g = rw q (record { short = omega (arith, h); line = g; leaves = refl; next = refl; streams = refl })
-
-  pub obeys-lost : (n : ℕ) {r : ℕ} {text : List ℕ} {c′ : Card} {s′ : Stream} → a ≡ Ask.Lost n → Says (replyTo number room c (Said.lost n)) r text c′
-      → s′ ≡ afterLoss (event (eventRoom room) c (lost n) .answer) s → Obeys (doneBy number room c s (meant l a)) r text c′ room s′
-  unfolding meant doneBy
-  obeys-lost n q h g = rw q (record { short = omega (arith, h .short); line = h .line; leaves = h .leaves; next = refl; streams = g })
+pub says-loss : (n room : ℕ) (c : Card) (ns os s ns′ : List ℕ) {text : List ℕ} {r : ℕ} {c′ : Card} → n < streamCount → four ns′ os ≡ set (four ns os) n (streamOf s (bufferOf os n))
+    → ((number : ℕ) → Says (replyTo number room c (Said.lost n)) r text c′)
+    → streamOf s (bufferOf os n) ≡ afterLoss (event (eventRoom room) c (lost n) .answer) (streamOf (numbersOf ns n) (bufferOf os n))
+    → (number : ℕ) → BoxSays (boxOn n number (boxOf room c (four ns os)) (Told.lost n)) r text c′ room (four ns′ os)
+unfolding boxOn boxAfter streamAt doneBy
+says-loss n room c ns os s ns′ h e t l number =
+    rw (four-at ns os n h)
+    (record { short = omega (arith, t number .short); line = t number .line; leaves = t number .leaves; next = refl; all = e ∙ rw l refl })

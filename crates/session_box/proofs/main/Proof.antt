@@ -4,10 +4,13 @@ use Rattle.session_box.proofs.main.Statement.{statement}
 use Rattle.session_box.proofs.main.Tie as tie
 
 abbrev Inv-loop : tie.InvT-loop
-Inv-loop numbers₀ names₀ s0₀ b0₀ s1₀ b1₀ s2₀ b2₀ s3₀ b3₀ line₀ text₀ state₀ turns₀ numbers names s0 b0 s1 b1 s2 b2 s3 b3 line text state turns = Unit {0}
+Inv-loop numbers₀ names₀ streams₀ buffers₀ line₀ text₀ state₀ turns₀ numbers names streams buffers line text state turns = Unit {0}
 
 abbrev μ-loop : tie.MeasureT-loop
-μ-loop numbers₀ names₀ s0₀ b0₀ s1₀ b1₀ s2₀ b2₀ s3₀ b3₀ line₀ text₀ state₀ turns₀ numbers names s0 b0 s1 b1 s2 b2 s3 b3 line text state turns = turns
+μ-loop numbers₀ names₀ streams₀ buffers₀ line₀ text₀ state₀ turns₀ numbers names streams buffers line text state turns = turns
+
+blank-requires : tie.Need-blank-requires Inv-loop μ-loop
+blank-requires c κs = search needs
 
 start-requires : tie.Need-start-requires Inv-loop μ-loop
 start-requires c κs = search needs
@@ -39,6 +42,7 @@ main-spec =
     (tie.spec
     Inv-loop
     μ-loop
+    blank-requires
     start-requires
     loop-holds
     step-requires

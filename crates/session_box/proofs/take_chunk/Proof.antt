@@ -8,20 +8,20 @@ use Rattle.card.specs.Table.{cardOf}
 use Rattle.bench_input.specs.Input.{Stand, afterAll}
 use Rattle.bench_input.proofs.Input.{after-none, after-next}
 use Rattle.session_replies.specs.Done.{Box}
-use Rattle.session_lines.specs.Four.{four, boxOf}
+use Rattle.session_replies.specs.Four.{four, boxOf}
 use Rattle.session_box.specs.Input.{boxLeft, Stands}
 use borrow.Author.Needs.{needs}
 use Rattle.session_box.proofs.take_chunk.Statement.{statement}
 use Rattle.session_box.proofs.take_chunk.Tie as tie
 
 abbrev Inv-loop : tie.InvT-loop
-Inv-loop numbers₀ names₀ s0₀ b0₀ s1₀ b1₀ s2₀ b2₀ s3₀ b3₀ line₀ text₀ chunk state₀ i₀ numbers names s0 b0 s1 b1 s2 b2 s3 b3 line text state i =
+Inv-loop numbers₀ names₀ streams₀ buffers₀ line₀ text₀ chunk state₀ i₀ numbers names streams buffers line text state i =
     (i ≤ length chunk) × (length line ≡ length line₀) × (length text ≡ length text₀)
-    × ((s : Stand Box) → Stands s (state₀ .number) (boxOf (state₀ .room) (cardOf numbers₀ names₀) (four s0₀ b0₀ s1₀ b1₀ s2₀ b2₀ s3₀ b3₀)) line₀ (state₀ .kept)
-    → Stands (afterAll boxLeft s (take i chunk)) (state .number) (boxOf (state .room) (cardOf numbers names) (four s0 b0 s1 b1 s2 b2 s3 b3)) line (state .kept))
+    × ((s : Stand Box) → Stands s (state₀ .number) (boxOf (state₀ .room) (cardOf numbers₀ names₀) (four streams₀ buffers₀)) line₀ (state₀ .kept)
+    → Stands (afterAll boxLeft s (take i chunk)) (state .number) (boxOf (state .room) (cardOf numbers names) (four streams buffers)) line (state .kept))
 
 abbrev μ-loop : tie.MeasureT-loop
-μ-loop numbers₀ names₀ s0₀ b0₀ s1₀ b1₀ s2₀ b2₀ s3₀ b3₀ line₀ text₀ chunk state₀ i₀ numbers names s0 b0 s1 b1 s2 b2 s3 b3 line text state i = length chunk - i
+μ-loop numbers₀ names₀ streams₀ buffers₀ line₀ text₀ chunk state₀ i₀ numbers names streams buffers line text state i = length chunk - i
 
 loop-holds : tie.Need-loop-holds Inv-loop μ-loop
 loop-holds c = (omega arith, refl, refl, λ s h. rw (after-none boxLeft s) h)
@@ -33,22 +33,22 @@ take-octet-requires : tie.Need-take-octet-requires Inv-loop μ-loop
 take-octet-requires c κs = search needs
 
 add-i : tie.Need-add-i Inv-loop μ-loop
-add-i c = let t = c .before .before .before .before .before .before .before .before .before .before .before .before .before .before .before .before .before .before .loop-test .taken in let good = c .before .before .before .before .before .before .before .before .before .before .before .before .before .before .before .before .before .before .before .before .before .before .before .good in search needs
+add-i c = let t = c .before .before .before .before .before .before .before .before .before .before .before .before .loop-test .taken in let good = c .before .before .before .before .before .before .before .before .before .before .before .before .before .before .before .before .before .good in search needs
 
 loop-less : tie.Need-loop-less Inv-loop μ-loop
-loop-less c = let t = c .before .before .before .before .before .before .before .before .before .before .before .before .before .before .before .before .before .before .loop-test .taken in omega (arith, t)
+loop-less c = let t = c .before .before .before .before .before .before .before .before .before .before .before .before .loop-test .taken in omega (arith, t)
 
 loop-again : tie.Need-loop-again Inv-loop μ-loop
 loop-again c =
-    let at-loop = c .before .before .before .before .before .before .before .before .before .before .before .before .before .before .before .before .before .before .before in
-    let start = c .before .before .before .before .before .before .before .before .before .before .before .before .before .before .before .before .before .before .before .before .before .before .before in
+    let at-loop = c .before .before .before .before .before .before .before .before .before .before .before .before .before in
+    let start = c .before .before .before .before .before .before .before .before .before .before .before .before .before .before .before .before .before in
     let chunk = start .args .chunk .now in
     let i = at-loop .loop .i in
-    let h : i < length chunk = c .before .before .before .before .before .before .before .before .before .before .before .before .before .before .before .before .before .before .loop-test .taken in
+    let h : i < length chunk = c .before .before .before .before .before .before .before .before .before .before .before .before .loop-test .taken in
     let inv = at-loop .loop .inv in (
       omega (arith, h),
-      omega (arith, inv .1, c .before .before .before .before .take-octet .kept .1 .1 .1 .1 .1 .1 .1 .1 .1 .1 .0),
-      omega (arith, inv .2, c .before .before .before .before .take-octet .kept .1 .1 .1 .1 .1 .1 .1 .1 .1 .1 .1 .0),
+      omega (arith, inv .1, c .before .before .before .before .take-octet .kept .1 .1 .1 .1 .0),
+      omega (arith, inv .2, c .before .before .before .before .take-octet .kept .1 .1 .1 .1 .1 .0),
       λ s k. rw (sym (after-next boxLeft s chunk i h)) (c .before .before .before .before .take-octet .ensures _ (at-loop .loop .inv .3 s k)),
     )
 

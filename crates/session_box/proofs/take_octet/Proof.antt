@@ -17,7 +17,7 @@ same-length-2 : tie.Need-same-length-2
 same-length-2 c = search needs
 
 returns : tie.Need-returns
-returns c = λ s h. rw (after-end boxLeft s _ (c .before .before .before .before .before .before .before .before .before .before .before .before .before .before .before .if1 .taken)) (c .before .before .end-line .ensures s h)
+returns c = λ s h. rw (after-end boxLeft s _ (c .before .before .before .before .before .before .before .before .before .if1 .taken)) (c .before .before .end-line .ensures s h)
 
 keep-requires : tie.Need-keep-requires
 keep-requires c κs = search needs

@@ -9,22 +9,22 @@ use borrow.Author.Needs.{needs}
 use Rattle.session_lines.proofs.reply.Statement.{statement}
 use Rattle.session_lines.proofs.reply.Tie as tie
 
-slice-aggregate-answer-line : tie.Need-slice-aggregate-answer-line
-slice-aggregate-answer-line c =
-    let start = c .before .before .before .before .before .before .before .before .before .before .before .before .before .before in
+slice-aggregate-answer : tie.Need-slice-aggregate-answer
+slice-aggregate-answer c =
+    let start = c .before .before .before .before .before .before .before .before in
     sym (length-take-le (start .args .kept) (start .args .line .now) (omega arith))
 
-answer-line-requires : tie.Need-answer-line-requires
-answer-line-requires c κs = search needs
+answer-requires : tie.Need-answer-requires
+answer-requires c κs = search needs
 
 same-length : tie.Need-same-length
 same-length c = search needs
 
 returns : tie.Need-returns
 returns c =
-    let start = c .before .before .before .before .before .before .before .before .before .before .before .before .before .before .before .before .before .before in (
-      c .before .before .answer-line .ensures .short,
-      λ o p e. rw (sym (keeps-line (start .args .line .now) (start .args .kept) o (c .before .before .before .before .before .before .before .before .before .before .before .before .before .before .before .if1 .taken) p)) (c .before .before .answer-line .ensures),
+    let start = c .before .before .before .before .before .before .before .before .before .before .before .before in (
+      c .before .before .answer .ensures .short,
+      λ o p e. rw (sym (keeps-line (start .args .line .now) (start .args .kept) o (c .before .before .before .before .before .before .before .before .before .if1 .taken) p)) (c .before .before .answer .ensures),
     )
 
 slice-aggregate-put-count : tie.Need-slice-aggregate-put-count
@@ -41,15 +41,15 @@ unfolding ascii
 returns-2 c =
     let start = c .before .before .before .before .before .before .before .before in (
       omega arith,
-      λ o p e. says-bad _ _ _ _ _ o (too-long (start .args .line .now) (start .args .kept) o (c .before .before .before .before .before .if1 .left) p e) (omega arith) (c .before .before .put-count .ensures .0),
+      λ o p e. says-bad _ _ _ _ o (too-long (start .args .line .now) (start .args .kept) o (c .before .before .before .before .before .if1 .left) p e) (omega arith) (c .before .before .put-count .ensures .0),
     )
 
 pub reply-spec : {M : Type 1} → statement M
 reply-spec =
     tie.close
     (tie.spec
-    slice-aggregate-answer-line
-    answer-line-requires
+    slice-aggregate-answer
+    answer-requires
     same-length
     returns
     slice-aggregate-put-count

@@ -1,0 +1,37 @@
+-- The box that lent memory denotes, and what an order makes of it. Assumes nothing.
+use Prim.Native.Nat.{ℕ, _*_}
+use mathlib.Core.List.{List}
+use lib.ListN.{take, drop}
+use Rattle.meaning.specs.Card.{Card}
+use Rattle.octets.specs.Part.{tab}
+use Rattle.session.specs.Session.{streamRoom}
+use Rattle.session.specs.Stream.{Stream}
+use Rattle.session.specs.Lent.{streamNumbers, streamOf}
+use Rattle.session_orders.specs.Told.{Told, streamCount}
+use Rattle.session_replies.specs.Done.{doneBy, Box, BoxReply, streamAt, boxAfter}
+
+-- ---- the memory of four streams: their numbers one after the other, and their buffers
+
+abbrev pub boxNumbers : ℕ
+boxNumbers = streamCount * streamNumbers
+
+abbrev pub boxRoom : ℕ
+boxRoom = streamCount * streamRoom
+
+abbrev pub numbersOf : List ℕ → ℕ → List ℕ
+numbersOf ns n = take streamNumbers (drop (n * streamNumbers) ns)
+
+abbrev pub bufferOf : List ℕ → ℕ → List ℕ
+bufferOf os n = take streamRoom (drop (n * streamRoom) os)
+
+-- the streams that it denotes
+unfoldable pub four : List ℕ → List ℕ → List Stream
+four ns os = tab streamCount (λ n. streamOf (numbersOf ns n) (bufferOf os n))
+
+abbrev pub boxOf : ℕ → Card → List Stream → Box
+boxOf room c streams = record { card = c; room = room; streams = streams }
+
+-- ---- an order obeyed on the n-th stream
+
+unfoldable pub boxOn : ℕ → ℕ → Box → Told → BoxReply
+boxOn n number b told = boxAfter (doneBy number (b .room) (b .card) (streamAt b n) told) n (b .streams)
