@@ -1,5 +1,6 @@
 -- The box that lent memory denotes, and what an order makes of it. Assumes nothing.
 use Prim.Native.Nat.{ℕ, _*_}
+use mathlib.Core.Bool.{Bool, true, false}
 use mathlib.Core.List.{List}
 use lib.ListN.{take, drop}
 use Rattle.meaning.specs.Card.{Card}
@@ -8,6 +9,7 @@ use Rattle.session.specs.Session.{streamRoom}
 use Rattle.session.specs.Stream.{Stream}
 use Rattle.session.specs.Lent.{streamNumbers, streamOf}
 use Rattle.session_orders.specs.Told.{Told, streamCount}
+use Rattle.session_orders.specs.declared.Ask.{Ask}
 use Rattle.session_replies.specs.Done.{doneBy, Box, BoxReply, streamAt, boxAfter}
 
 -- ---- the memory of four streams: their numbers one after the other, and their buffers
@@ -32,6 +34,12 @@ abbrev pub boxOf : ℕ → Card → List Stream → Box
 boxOf room c streams = record { card = c; room = room; streams = streams }
 
 -- ---- an order obeyed on the n-th stream
+
+unfoldable pub isOwn : Ask → Bool
+isOwn Ask.Bench = false
+isOwn (Ask.Octets n s e) = true
+isOwn (Ask.Pack n s e) = true
+isOwn (Ask.Lost n) = true
 
 unfoldable pub boxOn : ℕ → ℕ → Box → Told → BoxReply
 boxOn n number b told = boxAfter (doneBy number (b .room) (b .card) (streamAt b n) told) n (b .streams)

@@ -1,6 +1,7 @@
 // What the orders that the session box has of its own are answered with: each is obeyed, on the stream that it is about, and the line that
 // tells of it is written to the front of a lent text.
 ghost use mathlib.Core.Path.{_≡_};
+ghost use mathlib.Core.Bool.{true};
 ghost use mathlib.Core.List.{List};
 ghost use Prim.Native.Nat.{ℕ, _≤_, _<_, _*_};
 ghost use lib.ListN.{length, take};
@@ -15,15 +16,17 @@ ghost use Rattle.bench_words.specs.Words.{ascii, octetsOf};
 ghost use Rattle.bench_verbs.specs.Line.{Said};
 ghost use Rattle.bench_lines.specs.Text.{eventLine, textSpace};
 ghost use Rattle.bench_replies.specs.Reply.{eventRoom, replyTo, Says};
-ghost use Rattle.session_orders.specs.Told.{Told, streamCount};
+ghost use Rattle.session_orders.specs.Told.{Told, streamCount, streamFor};
+ghost use Rattle.session_orders.specs.Asks.{meant, InLine};
 ghost use Rattle.session_turns.specs.Turns.{turnsSpace};
 ghost use Rattle.session_replies.specs.Done.{own, packRoom, BoxSays};
-ghost use Rattle.session_replies.specs.Four.{boxNumbers, boxRoom, numbersOf, four, boxOf, boxOn};
+ghost use Rattle.session_replies.specs.Four.{isOwn, boxNumbers, boxRoom, numbersOf, four, boxOf, boxOn};
 use card::NUMBER_COUNT;
 use card::OCTET_COUNT;
 use meaning::SENT_LIMIT;
 use session::STREAM_NUMBERS;
 use session::STREAM_ROOM;
+use session_orders::Ask;
 
 // The memory of four streams, as `boxNumbers` and `boxRoom` in specs/Four.antt.
 pub const BOX_NUMBERS: usize = 4 * STREAM_NUMBERS;
@@ -105,7 +108,7 @@ fn take_turns(
 }
 
 // The same of the octets in HEX.
-pub fn on_octets(
+fn on_octets(
     numbers: &mut [u64; NUMBER_COUNT],
     names: &mut [u8; OCTET_COUNT],
     streams: &mut [u64],
@@ -136,7 +139,7 @@ pub fn on_octets(
 }
 
 // The PDUs to a neighbour, of the records in HEX.
-pub fn on_pack(neighbour: u32, hex: &[u8], room: u32, text: &mut [u8]) -> usize
+fn on_pack(neighbour: u32, hex: &[u8], room: u32, text: &mut [u8]) -> usize
     requires { ⌜ (length (now hex) ≤ 8192) × (textSpace ≤ length (now text)) ⌝ }
     ensures { λ r. ⌜ r ≤ textSpace ⌝ }
     ensures { λ r. ⌜ take r (now (text .exit)) ≡ eventLine (ascii "pack") (pack own neighbour (packRoom room) (octetsOf (now (hex .entry))) .answer) (pack own neighbour (packRoom room) (octetsOf (now (hex .entry))) .octets) ⌝ }
@@ -184,7 +187,7 @@ fn tell_loss(
 }
 
 // A loss of one of the four neighbours.
-pub fn on_loss(
+fn on_loss(
     numbers: &mut [u64; NUMBER_COUNT],
     names: &mut [u8; OCTET_COUNT],
     streams: &mut [u64],
@@ -201,4 +204,56 @@ pub fn on_loss(
     let length = tell_loss(numbers, names, &mut stream, neighbour, room, text);
     put_numbers(streams, n, &stream);
     length
+}
+
+// ---- an order of the box's own, or one of the bench
+
+pub fn is_own(ask: Ask) -> bool
+    ensures { λ r. ⌜ r ≡ isOwn ask ⌝ }
+{
+    match ask {
+        Ask::Bench => false,
+        _ => true,
+    }
+}
+
+// One of the box's own; nothing is said of the bench's.
+pub fn answer(
+    numbers: &mut [u64; NUMBER_COUNT],
+    names: &mut [u8; OCTET_COUNT],
+    streams: &mut [u64; BOX_NUMBERS],
+    buffers: &mut [u8; BOX_ROOM],
+    line: &[u8],
+    ask: Ask,
+    room: u32,
+    text: &mut [u8],
+) -> usize
+    requires { ⌜ InLine (now line) ask × (turnsSpace ≤ length (now text)) ⌝ }
+    ensures { λ r. ⌜ (isOwn ask ≡ true → (number : ℕ) → BoxSays (boxOn (streamFor (meant (now (line .entry)) ask)) number (boxOf room (cardOf (now (numbers .entry)) (now (names .entry))) (four (now (streams .entry)) (now (buffers .entry)))) (meant (now (line .entry)) ask))
+        r (now (text .exit)) (cardOf (now (numbers .exit)) (now (names .exit))) room (four (now (streams .exit)) (now (buffers .exit)))) ⌝ }
+{
+    match ask {
+        Ask::Bench => 0,
+        Ask::Octets {
+            neighbour,
+            start,
+            end,
+        } => on_octets(
+            numbers,
+            names,
+            streams,
+            buffers,
+            session_orders::stream_of(ask) as usize,
+            neighbour,
+            &line[start..end],
+            room,
+            text,
+        ),
+        Ask::Pack {
+            neighbour,
+            start,
+            end,
+        } => on_pack(neighbour, &line[start..end], room, text),
+        Ask::Lost(neighbour) => on_loss(numbers, names, streams, neighbour, room, text),
+    }
 }

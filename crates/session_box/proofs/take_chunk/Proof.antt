@@ -16,7 +16,7 @@ use Rattle.session_box.proofs.take_chunk.Tie as tie
 
 abbrev Inv-loop : tie.InvT-loop
 Inv-loop numbers₀ names₀ streams₀ buffers₀ line₀ text₀ chunk state₀ i₀ numbers names streams buffers line text state i =
-    (i ≤ length chunk) × (length line ≡ length line₀) × (length text ≡ length text₀)
+    (i ≤ length chunk)
     × ((s : Stand Box) → Stands s (state₀ .number) (boxOf (state₀ .room) (cardOf numbers₀ names₀) (four streams₀ buffers₀)) line₀ (state₀ .kept)
     → Stands (afterAll boxLeft s (take i chunk)) (state .number) (boxOf (state .room) (cardOf numbers names) (four streams buffers)) line (state .kept))
 
@@ -24,7 +24,7 @@ abbrev μ-loop : tie.MeasureT-loop
 μ-loop numbers₀ names₀ streams₀ buffers₀ line₀ text₀ chunk state₀ i₀ numbers names streams buffers line text state i = length chunk - i
 
 loop-holds : tie.Need-loop-holds Inv-loop μ-loop
-loop-holds c = (omega arith, refl, refl, λ s h. rw (after-none boxLeft s) h)
+loop-holds c = (omega arith, λ s h. rw (after-none boxLeft s) h)
 
 shared-slice-read-take-octet : tie.Need-shared-slice-read-take-octet Inv-loop μ-loop
 shared-slice-read-take-octet c = search needs
@@ -33,35 +33,23 @@ take-octet-requires : tie.Need-take-octet-requires Inv-loop μ-loop
 take-octet-requires c κs = search needs
 
 add-i : tie.Need-add-i Inv-loop μ-loop
-add-i c = let t = c .before .before .before .before .before .before .before .before .before .before .before .before .loop-test .taken in let good = c .before .before .before .before .before .before .before .before .before .before .before .before .before .before .before .before .before .good in search needs
+add-i c = let t = c .before .before .before .before .before .before .before .before .loop-test .taken in let good = c .before .before .before .before .before .before .before .before .before .before .before .good in search needs
 
 loop-less : tie.Need-loop-less Inv-loop μ-loop
-loop-less c = let t = c .before .before .before .before .before .before .before .before .before .before .before .before .loop-test .taken in omega (arith, t)
+loop-less c = let t = c .before .before .before .before .before .before .before .before .loop-test .taken in omega (arith, t)
 
 loop-again : tie.Need-loop-again Inv-loop μ-loop
 loop-again c =
-    let at-loop = c .before .before .before .before .before .before .before .before .before .before .before .before .before in
-    let start = c .before .before .before .before .before .before .before .before .before .before .before .before .before .before .before .before .before in
-    let chunk = start .args .chunk .now in
+    let at-loop = c .before .before .before .before .before .before .before .before .before in
+    let chunk = c .before .before .before .before .before .before .before .before .before .before .before .args .chunk .now in
     let i = at-loop .loop .i in
-    let h : i < length chunk = c .before .before .before .before .before .before .before .before .before .before .before .before .loop-test .taken in
-    let inv = at-loop .loop .inv in (
-      omega (arith, h),
-      omega (arith, inv .1, c .before .before .before .before .take-octet .kept .1 .1 .1 .1 .0),
-      omega (arith, inv .2, c .before .before .before .before .take-octet .kept .1 .1 .1 .1 .1 .0),
-      λ s k. rw (sym (after-next boxLeft s chunk i h)) (c .before .before .before .before .take-octet .ensures _ (at-loop .loop .inv .3 s k)),
-    )
-
-same-length : tie.Need-same-length Inv-loop μ-loop
-same-length c = c .before .loop .inv .1
-
-same-length-2 : tie.Need-same-length-2 Inv-loop μ-loop
-same-length-2 c = c .before .loop .inv .2
+    let h : i < length chunk = c .before .before .before .before .before .before .before .before .loop-test .taken in
+    (omega (arith, h), λ s k. rw (sym (after-next boxLeft s chunk i h)) (c .take-octet .ensures _ (at-loop .loop .inv .1 s k)))
 
 returns : tie.Need-returns Inv-loop μ-loop
 returns c =
-    let whole = take-all (c .before .loop .i) (c .before .before .before .before .before .args .chunk .now) (c .loop-test .left) in
-    λ s h. rw whole at (c .before .loop .inv .3 s h)
+    let whole = take-all (c .before .loop .i) (c .before .before .before .args .chunk .now) (c .loop-test .left) in
+    λ s h. rw whole at (c .before .loop .inv .1 s h)
 
 pub take-chunk-spec : {M : Type 1} → statement M
 take-chunk-spec =
@@ -75,6 +63,4 @@ take-chunk-spec =
     add-i
     loop-less
     loop-again
-    same-length
-    same-length-2
     returns)
