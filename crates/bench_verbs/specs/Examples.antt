@@ -1,12 +1,14 @@
 -- Lines and what they say, by computation. Assumes nothing.
 use Prim.Native.String.{String}
-use mathlib.Core.Path.{_≡_, refl}
+use native.Mathlib.Omega.{arith}
+use mathlib.Core.Path.{_≡_, refl, _∙_}
 use mathlib.Core.List.{[], _∷_, _++_}
 use lib.ListN.{replicate}
 use Rattle.meaning.specs.Octets.{same, all}
 use Rattle.bench_words.specs.Words.{ascii, uncommented, lengthen, pieces, filled, words, valueFrom, value, isNumber, digit, isHexTo, isHex, octetsOf}
 use Rattle.meaning.specs.Save.{old, new, formOf}
 use Rattle.bench_verbs.specs.Line.{isSaveHex, Said, planVerb, layerVerb, saveVerb, requestedVerb, verbOf, withNumber, withHex, withSave, withNumberHex, withHexNumber, withNumbersHex, withTwoHex, withThreeHex, withNumberTwoHex, does, saidBy, orderOf}
+use Rattle.bench_verbs.specs.Limits.{spaces-short, spaces-long, hex-taken, hex-refused, save-taken, save-refused, join-order, restore-order, second-order, older-order}
 
 unfoldable pub says : String → Said
 says s = orderOf (ascii s)
@@ -123,5 +125,13 @@ pub limits-shown : (orderOf (ascii "join " ++ replicate 8192 48) ≡ Said.join (
     × (orderOf (ascii "older " ++ replicate 111336 48) ≡ Said.bad)
     × (orderOf (replicate 131072 32) ≡ Said.nothing)
     × (orderOf (replicate 131073 32) ≡ Said.bad)
-unfolding ascii all uncommented lengthen pieces filled words valueFrom value isNumber digit isHexTo isHex isSaveHex octetsOf planVerb layerVerb saveVerb requestedVerb verbOf withNumber withHex withSave withNumberHex withHexNumber withNumbersHex withTwoHex withThreeHex withNumberTwoHex does saidBy orderOf same formOf
-limits-shown = (refl, refl, refl, refl, refl, refl, refl, refl)
+limits-shown = (
+  join-order 8191 (omega arith) ∙ hex-taken Said.join 4096 8191 refl refl (omega arith),
+  join-order 8193 (omega arith) ∙ hex-refused Said.join 8193 (omega arith),
+  restore-order 46685 (omega arith) ∙ save-taken Said.restore old 23343 46685 refl refl (omega arith),
+  restore-order 46687 (omega arith) ∙ save-refused Said.restore old 46687 (omega arith),
+  second-order 111333 (omega arith) ∙ save-taken Said.restore new 55667 111333 refl refl (omega arith),
+  older-order 111335 (omega arith) ∙ save-refused Said.moves new 111335 (omega arith),
+  spaces-short 131072 (omega arith),
+  spaces-long 131073 (omega arith),
+)

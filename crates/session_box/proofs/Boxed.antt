@@ -5,11 +5,11 @@ use mathlib.Core.Path.{_≡_, refl, sym, ap, _∙_}
 use mathlib.Core.Bool.{true, false}
 use mathlib.Core.List.{List, [], _∷_, _++_}
 use lib.ListN.{length, take}
-use borrow.Author.Tests.{lt-leb}
 use Rattle.meaning.specs.Card.{Card}
 use Rattle.session.specs.Stream.{Stream}
 use Rattle.bench_words.specs.Words.{ascii}
 use Rattle.bench_verbs.specs.Line.{Said, lineLimit, orderOf}
+use Rattle.bench_verbs.specs.Limits.{order-long}
 use Rattle.bench_lines.specs.Text.{countLine}
 use Rattle.bench_replies.specs.Reply.{only, replyTo, Answers}
 use Rattle.bench_input.specs.Kept.{Keeps}
@@ -54,10 +54,6 @@ module _ (number room : ℕ) (c : Card) (streams : List Stream) (l : List ℕ) (
       (rw (← h .says .leaves, ← h .next) (same-streams room c streams (replyTo number room c (orderOf l) .text) few (h .says .line)))
 
 -- ---- a line that is too long
-order-long : (o : List ℕ) → lineLimit < length o → orderOf o ≡ Said.bad
-unfolding orderOf
-order-long o h = rw (lt-leb (length o) lineLimit h)
-
 pub says-bad : (number room : ℕ) (c : Card) (streams : List Stream) (o : List ℕ) {r : ℕ} {text : List ℕ}
     → lineLimit < length o → r ≤ turnsSpace → take r text ≡ countLine (ascii "?") number
     → BoxSays (boxReply number (boxOf room c streams) o) r text c room streams
