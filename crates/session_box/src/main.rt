@@ -17,8 +17,8 @@ use bench_orders::LINE_LIMIT;
 use card::NUMBER_COUNT;
 use card::OCTET_COUNT;
 use meaning::SAVE_LIMIT;
+use session::STREAM_ROOM;
 use session_replies::BOX_NUMBERS;
-use session_replies::BOX_ROOM;
 use session_turns::TURNS_SPACE;
 
 // the room that is lent before an order says less: that of the longest save
@@ -42,7 +42,10 @@ fn reply(
     numbers: &mut [u64; NUMBER_COUNT],
     names: &mut [u8; OCTET_COUNT],
     streams: &mut [u64; BOX_NUMBERS],
-    buffers: &mut [u8; BOX_ROOM],
+    b0: &mut [u8; STREAM_ROOM],
+    b1: &mut [u8; STREAM_ROOM],
+    b2: &mut [u8; STREAM_ROOM],
+    b3: &mut [u8; STREAM_ROOM],
     line: &[u8],
     text: &mut [u8],
     kept: usize,
@@ -52,8 +55,8 @@ fn reply(
     requires { ⌜ turnsSpace ≤ length (now text) ⌝ }
     ensures { λ r. ⌜ r .length ≤ turnsSpace ⌝ }
     ensures { λ r. ⌜ ((o : List ℕ) → Keeps (now (line .entry)) kept o → length (now (line .entry)) ≡ lineLimit
-        → BoxSays (boxReply number (boxOf room (cardOf (now (numbers .entry)) (now (names .entry))) (four (now (streams .entry)) (now (buffers .entry)))) o)
-        (r .length) (now (text .exit)) (cardOf (now (numbers .exit)) (now (names .exit))) (r .room) (four (now (streams .exit)) (now (buffers .exit)))) ⌝ }
+        → BoxSays (boxReply number (boxOf room (cardOf (now (numbers .entry)) (now (names .entry))) (four (now (streams .entry)) (now (b0 .entry)) (now (b1 .entry)) (now (b2 .entry)) (now (b3 .entry)))) o)
+        (r .length) (now (text .exit)) (cardOf (now (numbers .exit)) (now (names .exit))) (r .room) (four (now (streams .exit)) (now (b0 .exit)) (now (b1 .exit)) (now (b2 .exit)) (now (b3 .exit)))) ⌝ }
 {
     if line.len() < kept {
         return Answered {
@@ -69,7 +72,10 @@ fn reply(
                 numbers,
                 names,
                 streams,
-                buffers,
+                b0,
+                b1,
+                b2,
+                b3,
                 whole,
                 ask,
                 room,
@@ -85,15 +91,18 @@ fn take_octet(
     numbers: &mut [u64; NUMBER_COUNT],
     names: &mut [u8; OCTET_COUNT],
     streams: &mut [u64; BOX_NUMBERS],
-    buffers: &mut [u8; BOX_ROOM],
+    b0: &mut [u8; STREAM_ROOM],
+    b1: &mut [u8; STREAM_ROOM],
+    b2: &mut [u8; STREAM_ROOM],
+    b3: &mut [u8; STREAM_ROOM],
     line: &mut [u8; LINE_LIMIT],
     text: &mut [u8],
     c: u8,
     state: State,
 ) -> State
     requires { ⌜ turnsSpace ≤ length (now text) ⌝ }
-    ensures { λ r. ⌜ ((s : Stand Box) → Stands s (state .number) (boxOf (state .room) (cardOf (now (numbers .entry)) (now (names .entry))) (four (now (streams .entry)) (now (buffers .entry)))) (now (line .entry)) (state .kept)
-        → Stands (after boxLeft s c) (r .number) (boxOf (r .room) (cardOf (now (numbers .exit)) (now (names .exit))) (four (now (streams .exit)) (now (buffers .exit)))) (now (line .exit)) (r .kept)) ⌝ }
+    ensures { λ r. ⌜ ((s : Stand Box) → Stands s (state .number) (boxOf (state .room) (cardOf (now (numbers .entry)) (now (names .entry))) (four (now (streams .entry)) (now (b0 .entry)) (now (b1 .entry)) (now (b2 .entry)) (now (b3 .entry)))) (now (line .entry)) (state .kept)
+        → Stands (after boxLeft s c) (r .number) (boxOf (r .room) (cardOf (now (numbers .exit)) (now (names .exit))) (four (now (streams .exit)) (now (b0 .exit)) (now (b1 .exit)) (now (b2 .exit)) (now (b3 .exit)))) (now (line .exit)) (r .kept)) ⌝ }
 {
     if c != b'\n' {
         return State {
@@ -107,7 +116,10 @@ fn take_octet(
         numbers,
         names,
         streams,
-        buffers,
+        b0,
+        b1,
+        b2,
+        b3,
         line,
         text,
         state.kept,
@@ -127,14 +139,17 @@ fn take_chunk(
     numbers: &mut [u64; NUMBER_COUNT],
     names: &mut [u8; OCTET_COUNT],
     streams: &mut [u64; BOX_NUMBERS],
-    buffers: &mut [u8; BOX_ROOM],
+    b0: &mut [u8; STREAM_ROOM],
+    b1: &mut [u8; STREAM_ROOM],
+    b2: &mut [u8; STREAM_ROOM],
+    b3: &mut [u8; STREAM_ROOM],
     line: &mut [u8; LINE_LIMIT],
     text: &mut [u8; TURNS_SPACE],
     chunk: &[u8],
     from: State,
 ) -> State
-    ensures { λ r. ⌜ ((s : Stand Box) → Stands s (from .number) (boxOf (from .room) (cardOf (now (numbers .entry)) (now (names .entry))) (four (now (streams .entry)) (now (buffers .entry)))) (now (line .entry)) (from .kept)
-        → Stands (afterAll boxLeft s (now (chunk .entry))) (r .number) (boxOf (r .room) (cardOf (now (numbers .exit)) (now (names .exit))) (four (now (streams .exit)) (now (buffers .exit)))) (now (line .exit)) (r .kept)) ⌝ }
+    ensures { λ r. ⌜ ((s : Stand Box) → Stands s (from .number) (boxOf (from .room) (cardOf (now (numbers .entry)) (now (names .entry))) (four (now (streams .entry)) (now (b0 .entry)) (now (b1 .entry)) (now (b2 .entry)) (now (b3 .entry)))) (now (line .entry)) (from .kept)
+        → Stands (afterAll boxLeft s (now (chunk .entry))) (r .number) (boxOf (r .room) (cardOf (now (numbers .exit)) (now (names .exit))) (four (now (streams .exit)) (now (b0 .exit)) (now (b1 .exit)) (now (b2 .exit)) (now (b3 .exit)))) (now (line .exit)) (r .kept)) ⌝ }
 {
     let mut state = from;
     let mut i = 0;
@@ -143,7 +158,10 @@ fn take_chunk(
             numbers,
             names,
             streams,
-            buffers,
+            b0,
+            b1,
+            b2,
+            b3,
             line,
             text,
             chunk[i],
@@ -195,7 +213,10 @@ fn main() {
     let mut numbers = [0u64; NUMBER_COUNT];
     let mut names = [0u8; OCTET_COUNT];
     let mut streams = [0u64; BOX_NUMBERS];
-    let mut buffers = [0u8; BOX_ROOM];
+    let mut b0 = [0u8; STREAM_ROOM];
+    let mut b1 = [0u8; STREAM_ROOM];
+    let mut b2 = [0u8; STREAM_ROOM];
+    let mut b3 = [0u8; STREAM_ROOM];
     let mut line = [0u8; LINE_LIMIT];
     let mut text = blank();
     let mut chunk = io::large_buffer();
@@ -215,7 +236,10 @@ fn main() {
             &mut numbers,
             &mut names,
             &mut streams,
-            &mut buffers,
+            &mut b0,
+            &mut b1,
+            &mut b2,
+            &mut b3,
             &mut line,
             &mut text,
             &chunk[..n],

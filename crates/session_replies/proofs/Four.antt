@@ -1,20 +1,19 @@
--- One of four streams that lie one after the other. Assumes nothing.
+-- One of the streams: their numbers lie one after the other, each has its buffer. Assumes nothing.
 use Prim.Native.Nat.{ℕ, _+_, _-_, _*_, _≤_, _<_}
 use native.Mathlib.Omega.{arith}
 use mathlib.Core.Path.{_≡_, refl, sym, _∙_}
 use mathlib.Core.Bool.{Bool, true, false}
-use mathlib.Core.List.{List, _++_}
+use mathlib.Core.List.{List, [], _++_}
 use lib.ListN.{length, take, drop, getD, set, take-append-drop, length-drop}
-use lib.Seq.{length-take-le, take-at, drop-at, drop-drop, take-append-le, drop-append-le}
+use lib.Seq.{length-take-le, take-at, drop-at, drop-drop, take-append-le, drop-append-le, getD-set-same, getD-set-other}
 use lib.Dec.{ltb}
 use borrow.Author.Tests.{ltb-true, ltb-false}
 use Rattle.octets.specs.Part.{mid}
 use Rattle.octets.proofs.Tab.{tab-get, tab-set}
-use Rattle.session.specs.Session.{streamRoom}
 use Rattle.session.specs.Stream.{Stream, empty}
 use Rattle.session.specs.Lent.{streamNumbers, streamOf}
 use Rattle.session_orders.specs.Told.{streamCount}
-use Rattle.session_replies.specs.Four.{boxNumbers, boxRoom, numbersOf, bufferOf, four}
+use Rattle.session_replies.specs.Four.{boxNumbers, numbersOf, bufferOf, streamsOf}
 
 -- ---- a part anew, and another part
 
@@ -48,11 +47,11 @@ part-after a w b xs ys h e g =
 
 -- ---- the streams
 
-pub four-at : (ns os : List ℕ) (n : ℕ) → n < streamCount → getD (four ns os) n empty ≡ streamOf (numbersOf ns n) (bufferOf os n)
-unfolding four
-four-at ns os n h = tab-get streamCount (λ n. streamOf (numbersOf ns n) (bufferOf os n)) n empty h
+pub four-at : (ns : List ℕ) (bs : List (List ℕ)) (n : ℕ) → n < streamCount → getD (streamsOf ns bs) n empty ≡ streamOf (numbersOf ns n) (bufferOf bs n)
+unfolding streamsOf
+four-at ns bs n h = tab-get streamCount (λ n. streamOf (numbersOf ns n) (bufferOf bs n)) n empty h
 
-module _ (ns s : List ℕ) (n : ℕ) (h : n < streamCount) (all : length ns ≡ boxNumbers) (e : length s ≡ streamNumbers) where
+module _ (ns s : List ℕ) (n : ℕ) (h : n < streamCount) (all : length ns ≡ boxNumbers) (e : length s ≡ streamNumbers) (bs : List (List ℕ)) where
   numbers-other : (j : ℕ) → (j ≡ n → ⊥) → numbersOf (mid (n * streamNumbers) streamNumbers ns s) j ≡ numbersOf ns j
   numbers-other j k = by (ltb j n) refl
     where
@@ -61,25 +60,17 @@ module _ (ns s : List ℕ) (n : ℕ) (h : n < streamCount) (all : length ns ≡ 
       by false t = let l = ltb-false j n t in part-after (n * streamNumbers) streamNumbers (j * streamNumbers) ns s (omega arith) e (omega (arith, k))
 
   -- its numbers anew
-  pub four-numbers : (os : List ℕ) → four (mid (n * streamNumbers) streamNumbers ns s) os ≡ set (four ns os) n (streamOf s (bufferOf os n))
-  unfolding four
-  four-numbers os =
-      tab-set streamCount (λ j. streamOf (numbersOf ns j) (bufferOf os j)) (λ j. streamOf (numbersOf (mid (n * streamNumbers) streamNumbers ns s) j) (bufferOf os j)) n (streamOf s (bufferOf os n)) h
+  pub four-numbers : streamsOf (mid (n * streamNumbers) streamNumbers ns s) bs ≡ set (streamsOf ns bs) n (streamOf s (bufferOf bs n))
+  unfolding streamsOf
+  four-numbers =
+      tab-set streamCount (λ j. streamOf (numbersOf ns j) (bufferOf bs j)) (λ j. streamOf (numbersOf (mid (n * streamNumbers) streamNumbers ns s) j) (bufferOf bs j)) n (streamOf s (bufferOf bs n)) h
       (rw (part-same (n * streamNumbers) streamNumbers ns s (omega arith) e) refl)
       (λ j k l. rw (numbers-other j k) refl)
 
   -- and its buffer
-  module _ (os b : List ℕ) (room : length os ≡ boxRoom) (f : length b ≡ streamRoom) where
-    buffer-other : (j : ℕ) → (j ≡ n → ⊥) → bufferOf (mid (n * streamRoom) streamRoom os b) j ≡ bufferOf os j
-    buffer-other j k = by (ltb j n) refl
-      where
-        by : (c : Bool) → ltb j n ≡ c → bufferOf (mid (n * streamRoom) streamRoom os b) j ≡ bufferOf os j
-        by true t = let l = ltb-true j n t in part-before (n * streamRoom) streamRoom (j * streamRoom) os b (omega arith) (omega arith)
-        by false t = let l = ltb-false j n t in part-after (n * streamRoom) streamRoom (j * streamRoom) os b (omega arith) f (omega (arith, k))
-
-    pub four-both : four (mid (n * streamNumbers) streamNumbers ns s) (mid (n * streamRoom) streamRoom os b) ≡ set (four ns os) n (streamOf s b)
-    unfolding four
-    four-both =
-        tab-set streamCount (λ j. streamOf (numbersOf ns j) (bufferOf os j)) (λ j. streamOf (numbersOf (mid (n * streamNumbers) streamNumbers ns s) j) (bufferOf (mid (n * streamRoom) streamRoom os b) j)) n (streamOf s b) h
-        (rw (part-same (n * streamNumbers) streamNumbers ns s (omega arith) e, part-same (n * streamRoom) streamRoom os b (omega arith) f) refl)
-        (λ j k l. rw (numbers-other j k, buffer-other j k) refl)
+  pub four-both : (b : List ℕ) → n < length bs → streamsOf (mid (n * streamNumbers) streamNumbers ns s) (set bs n b) ≡ set (streamsOf ns bs) n (streamOf s b)
+  unfolding streamsOf
+  four-both b f =
+      tab-set streamCount (λ j. streamOf (numbersOf ns j) (bufferOf bs j)) (λ j. streamOf (numbersOf (mid (n * streamNumbers) streamNumbers ns s) j) (bufferOf (set bs n b) j)) n (streamOf s b) h
+      (rw (part-same (n * streamNumbers) streamNumbers ns s (omega arith) e, getD-set-same bs n b [] f) refl)
+      (λ j k l. rw (numbers-other j k, getD-set-other bs n j b [] k) refl)

@@ -31,22 +31,22 @@ use Rattle.session_orders.specs.declared.Ask.{Ask}
 use Rattle.session_orders.proofs.Ask.{the-type}
 use Rattle.session_turns.specs.Turns.{turns, turnsSpace, TurnsSay}
 use Rattle.session_replies.specs.Done.{packRoom, own, doneBy, Box, streamAt, boxAfter, BoxSays}
-use Rattle.session_replies.specs.Four.{isOwn, numbersOf, bufferOf, four, boxOf, boxOn}
+use Rattle.session_replies.specs.Four.{isOwn, numbersOf, bufferOf, streamsOf, boxOf, boxOn}
 use Rattle.session_replies.proofs.Four.{four-at}
 
 -- ---- octets, on the n-th stream
 
-pub says-turns : (n neighbour room : ℕ) (c : Card) (ns os o s b ns′ os′ : List ℕ) {text : List ℕ} {r : ℕ} {c′ : Card} → n < streamCount → four ns′ os′ ≡ set (four ns os) n (streamOf s b)
-    → TurnsSay (turns neighbour room c (streamOf (numbersOf ns n) (bufferOf os n)) o) r text c′ (streamOf s b)
-    → (number : ℕ) → BoxSays (boxOn n number (boxOf room c (four ns os)) (Told.octets neighbour o)) r text c′ room (four ns′ os′)
+pub says-turns : (n neighbour room : ℕ) (c : Card) (ns o s b ns′ : List ℕ) (bs bs′ : List (List ℕ)) {text : List ℕ} {r : ℕ} {c′ : Card} → n < streamCount → streamsOf ns′ bs′ ≡ set (streamsOf ns bs) n (streamOf s b)
+    → TurnsSay (turns neighbour room c (streamOf (numbersOf ns n) (bufferOf bs n)) o) r text c′ (streamOf s b)
+    → (number : ℕ) → BoxSays (boxOn n number (boxOf room c (streamsOf ns bs)) (Told.octets neighbour o)) r text c′ room (streamsOf ns′ bs′)
 unfolding boxOn boxAfter streamAt doneBy
-says-turns n neighbour room c ns os o s b ns′ os′ h e t number =
-    rw (four-at ns os n h)
+says-turns n neighbour room c ns o s b ns′ bs bs′ h e t number =
+    rw (four-at ns bs n h)
     (record { short = t .short; line = t .line; leaves = t .leaves; next = refl; all = e ∙ rw (t .streams) refl })
 
-pub says-decoded : (n neighbour : ℕ) (b : Box) {ys before after : List ℕ} {k r room : ℕ} {text : List ℕ} {c : Card} {streams : List Stream} → Puts ys before after k
-    → ((number : ℕ) → BoxSays (boxOn n number b (Told.octets neighbour (take k after))) r text c room streams) → (number : ℕ) → BoxSays (boxOn n number b (Told.octets neighbour ys)) r text c room streams
-says-decoded n neighbour b p h number = rw (decoded p) at (h number)
+pub says-decoded : (n neighbour number : ℕ) (b : Box) {ys before after : List ℕ} {k r room : ℕ} {text : List ℕ} {c : Card} {streams : List Stream} → Puts ys before after k
+    → BoxSays (boxOn n number b (Told.octets neighbour (take k after))) r text c room streams → BoxSays (boxOn n number b (Told.octets neighbour ys)) r text c room streams
+says-decoded n neighbour number b p h = rw (decoded p) at h
 
 -- ---- the writer
 
@@ -76,13 +76,13 @@ module _ (n room : ℕ) {id os before after part : List ℕ} {l whole k a : ℕ}
 pub loss-left : (f : ℕ → Out) (s s′ : Stream) {l m a : ℕ} {part : List ℕ} {card : Card} → l ≡ m → Hands (f l) a part card → s′ ≡ afterLoss a s → s′ ≡ afterLoss (f m .answer) s
 loss-left f s s′ e h p = p ∙ rw (h .answers, e) refl
 
-pub says-loss : (n room : ℕ) (c : Card) (ns os s ns′ : List ℕ) {text : List ℕ} {r : ℕ} {c′ : Card} → n < streamCount → four ns′ os ≡ set (four ns os) n (streamOf s (bufferOf os n))
+pub says-loss : (n room : ℕ) (c : Card) (ns s ns′ : List ℕ) (bs : List (List ℕ)) {text : List ℕ} {r : ℕ} {c′ : Card} → n < streamCount → streamsOf ns′ bs ≡ set (streamsOf ns bs) n (streamOf s (bufferOf bs n))
     → ((number : ℕ) → Says (replyTo number room c (Said.lost n)) r text c′)
-    → streamOf s (bufferOf os n) ≡ afterLoss (event (eventRoom room) c (lost n) .answer) (streamOf (numbersOf ns n) (bufferOf os n))
-    → (number : ℕ) → BoxSays (boxOn n number (boxOf room c (four ns os)) (Told.lost n)) r text c′ room (four ns′ os)
+    → streamOf s (bufferOf bs n) ≡ afterLoss (event (eventRoom room) c (lost n) .answer) (streamOf (numbersOf ns n) (bufferOf bs n))
+    → (number : ℕ) → BoxSays (boxOn n number (boxOf room c (streamsOf ns bs)) (Told.lost n)) r text c′ room (streamsOf ns′ bs)
 unfolding boxOn boxAfter streamAt doneBy
-says-loss n room c ns os s ns′ h e t l number =
-    rw (four-at ns os n h)
+says-loss n room c ns s ns′ bs h e t l number =
+    rw (four-at ns bs n h)
     (record { short = omega (arith, t number .short); line = t number .line; leaves = t number .leaves; next = refl; all = e ∙ rw l refl })
 
 -- ---- by the order

@@ -1,34 +1,33 @@
 -- The box that lent memory denotes, and what an order makes of it. Assumes nothing.
 use Prim.Native.Nat.{ℕ, _*_}
 use mathlib.Core.Bool.{Bool, true, false}
-use mathlib.Core.List.{List}
-use lib.ListN.{take, drop}
+use mathlib.Core.List.{List, [], _∷_}
+use lib.ListN.{take, drop, getD}
 use Rattle.meaning.specs.Card.{Card}
 use Rattle.octets.specs.Part.{tab}
-use Rattle.session.specs.Session.{streamRoom}
 use Rattle.session.specs.Stream.{Stream}
 use Rattle.session.specs.Lent.{streamNumbers, streamOf}
 use Rattle.session_orders.specs.Told.{Told, streamCount}
 use Rattle.session_orders.specs.declared.Ask.{Ask}
 use Rattle.session_replies.specs.Done.{doneBy, Box, BoxReply, streamAt, boxAfter}
 
--- ---- the memory of four streams: their numbers one after the other, and their buffers
+-- ---- the memory of four streams: their numbers one after the other, and the buffer of each
 
 abbrev pub boxNumbers : ℕ
 boxNumbers = streamCount * streamNumbers
 
-abbrev pub boxRoom : ℕ
-boxRoom = streamCount * streamRoom
-
 abbrev pub numbersOf : List ℕ → ℕ → List ℕ
 numbersOf ns n = take streamNumbers (drop (n * streamNumbers) ns)
 
-abbrev pub bufferOf : List ℕ → ℕ → List ℕ
-bufferOf os n = take streamRoom (drop (n * streamRoom) os)
+abbrev pub bufferOf : List (List ℕ) → ℕ → List ℕ
+bufferOf bs n = getD bs n []
 
 -- the streams that it denotes
-unfoldable pub four : List ℕ → List ℕ → List Stream
-four ns os = tab streamCount (λ n. streamOf (numbersOf ns n) (bufferOf os n))
+unfoldable pub streamsOf : List ℕ → List (List ℕ) → List Stream
+streamsOf ns bs = tab streamCount (λ n. streamOf (numbersOf ns n) (bufferOf bs n))
+
+abbrev pub four : List ℕ → (b0 b1 b2 b3 : List ℕ) → List Stream
+four ns b0 b1 b2 b3 = streamsOf ns (b0 ∷ b1 ∷ b2 ∷ b3 ∷ [])
 
 abbrev pub boxOf : ℕ → Card → List Stream → Box
 boxOf room c streams = record { card = c; room = room; streams = streams }

@@ -4,7 +4,7 @@ ghost use mathlib.Core.Path.{_≡_};
 ghost use mathlib.Core.Bool.{true};
 ghost use mathlib.Core.List.{List};
 ghost use Prim.Native.Nat.{ℕ, _≤_, _<_, _*_};
-ghost use lib.ListN.{length, take};
+ghost use lib.ListN.{length, set, take};
 ghost use Rattle.meaning.specs.Card.{sentLimit};
 ghost use Rattle.meaning.specs.Events.{event, lost};
 ghost use Rattle.octets.specs.Part.{mid};
@@ -20,7 +20,7 @@ ghost use Rattle.session_orders.specs.Told.{Told, streamCount, streamFor};
 ghost use Rattle.session_orders.specs.Asks.{meant, InLine};
 ghost use Rattle.session_turns.specs.Turns.{turnsSpace};
 ghost use Rattle.session_replies.specs.Done.{own, packRoom, BoxSays};
-ghost use Rattle.session_replies.specs.Four.{isOwn, boxNumbers, boxRoom, numbersOf, four, boxOf, boxOn};
+ghost use Rattle.session_replies.specs.Four.{isOwn, boxNumbers, numbersOf, bufferOf, streamsOf, four, boxOf, boxOn};
 use card::NUMBER_COUNT;
 use card::OCTET_COUNT;
 use meaning::SENT_LIMIT;
@@ -28,10 +28,8 @@ use session::STREAM_NUMBERS;
 use session::STREAM_ROOM;
 use session_orders::Ask;
 
-// The memory of four streams, as `boxNumbers` and `boxRoom` in specs/Four.antt.
+// The numbers of four streams, as `boxNumbers` in specs/Four.antt.
 pub const BOX_NUMBERS: usize = 4 * STREAM_NUMBERS;
-
-pub const BOX_ROOM: usize = 4 * STREAM_ROOM;
 
 // The room of the writer, as `packRoom` in specs/Done.antt.
 const PACK_ROOM: usize = 2 * 4096;
@@ -74,30 +72,29 @@ fn put_numbers(streams: &mut [u64], n: usize, numbers: &[u64; STREAM_NUMBERS])
 
 // ---- orders
 
-// Octets of a neighbour, on the n-th stream.
+// Octets of a neighbour, on the n-th stream, which has this buffer.
 fn take_turns(
     numbers: &mut [u64; NUMBER_COUNT],
     names: &mut [u8; OCTET_COUNT],
     streams: &mut [u64],
-    buffers: &mut [u8],
+    buffer: &mut [u8; STREAM_ROOM],
     n: usize,
     neighbour: u32,
     octets: &[u8],
     room: u32,
     text: &mut [u8],
 ) -> usize
-    requires { ⌜ (n < streamCount) × (length (now streams) ≡ boxNumbers) × (length (now buffers) ≡ boxRoom) × (length (now octets) ≤ 4096) × (turnsSpace ≤ length (now text)) ⌝ }
-    ensures { λ r. ⌜ ((number : ℕ) → BoxSays (boxOn n number (boxOf room (cardOf (now (numbers .entry)) (now (names .entry))) (four (now (streams .entry)) (now (buffers .entry)))) (Told.octets neighbour (now (octets .entry))))
-        r (now (text .exit)) (cardOf (now (numbers .exit)) (now (names .exit))) room (four (now (streams .exit)) (now (buffers .exit)))) ⌝ }
+    requires { ⌜ (n < streamCount) × (length (now streams) ≡ boxNumbers) × (length (now octets) ≤ 4096) × (turnsSpace ≤ length (now text)) ⌝ }
+    ensures { λ r. ⌜ ((number : ℕ) (bs : List (List ℕ)) → n < length bs → bufferOf bs n ≡ now (buffer .entry)
+        → BoxSays (boxOn n number (boxOf room (cardOf (now (numbers .entry)) (now (names .entry))) (streamsOf (now (streams .entry)) bs)) (Told.octets neighbour (now (octets .entry))))
+        r (now (text .exit)) (cardOf (now (numbers .exit)) (now (names .exit))) room (streamsOf (now (streams .exit)) (set bs n (now (buffer .exit))))) ⌝ }
 {
     let mut stream = numbers_of(streams, n);
-    let start = n * STREAM_ROOM;
-    let end = start + STREAM_ROOM;
     let length = session_turns::put_turns(
         numbers,
         names,
         &mut stream,
-        &mut buffers[start..end],
+        buffer,
         neighbour,
         octets,
         room,
@@ -112,16 +109,17 @@ fn on_octets(
     numbers: &mut [u64; NUMBER_COUNT],
     names: &mut [u8; OCTET_COUNT],
     streams: &mut [u64],
-    buffers: &mut [u8],
+    buffer: &mut [u8; STREAM_ROOM],
     n: usize,
     neighbour: u32,
     hex: &[u8],
     room: u32,
     text: &mut [u8],
 ) -> usize
-    requires { ⌜ (n < streamCount) × (length (now streams) ≡ boxNumbers) × (length (now buffers) ≡ boxRoom) × (length (now hex) ≤ 8192) × (turnsSpace ≤ length (now text)) ⌝ }
-    ensures { λ r. ⌜ ((number : ℕ) → BoxSays (boxOn n number (boxOf room (cardOf (now (numbers .entry)) (now (names .entry))) (four (now (streams .entry)) (now (buffers .entry)))) (Told.octets neighbour (octetsOf (now (hex .entry)))))
-        r (now (text .exit)) (cardOf (now (numbers .exit)) (now (names .exit))) room (four (now (streams .exit)) (now (buffers .exit)))) ⌝ }
+    requires { ⌜ (n < streamCount) × (length (now streams) ≡ boxNumbers) × (length (now hex) ≤ 8192) × (turnsSpace ≤ length (now text)) ⌝ }
+    ensures { λ r. ⌜ ((number : ℕ) (bs : List (List ℕ)) → n < length bs → bufferOf bs n ≡ now (buffer .entry)
+        → BoxSays (boxOn n number (boxOf room (cardOf (now (numbers .entry)) (now (names .entry))) (streamsOf (now (streams .entry)) bs)) (Told.octets neighbour (octetsOf (now (hex .entry)))))
+        r (now (text .exit)) (cardOf (now (numbers .exit)) (now (names .exit))) room (streamsOf (now (streams .exit)) (set bs n (now (buffer .exit))))) ⌝ }
 {
     let mut octets = bench_replies::input();
     let k = bench_words::decode_hex(hex, &mut octets);
@@ -129,13 +127,44 @@ fn on_octets(
         numbers,
         names,
         streams,
-        buffers,
+        buffer,
         n,
         neighbour,
         &octets[..k],
         room,
         text,
     )
+}
+
+// The same on the n-th of four streams.
+fn on_four(
+    numbers: &mut [u64; NUMBER_COUNT],
+    names: &mut [u8; OCTET_COUNT],
+    streams: &mut [u64],
+    b0: &mut [u8; STREAM_ROOM],
+    b1: &mut [u8; STREAM_ROOM],
+    b2: &mut [u8; STREAM_ROOM],
+    b3: &mut [u8; STREAM_ROOM],
+    n: usize,
+    neighbour: u32,
+    hex: &[u8],
+    room: u32,
+    text: &mut [u8],
+) -> usize
+    requires { ⌜ (n < streamCount) × (length (now streams) ≡ boxNumbers) × (length (now hex) ≤ 8192) × (turnsSpace ≤ length (now text)) ⌝ }
+    ensures { λ r. ⌜ ((number : ℕ) → BoxSays (boxOn n number (boxOf room (cardOf (now (numbers .entry)) (now (names .entry))) (four (now (streams .entry)) (now (b0 .entry)) (now (b1 .entry)) (now (b2 .entry)) (now (b3 .entry)))) (Told.octets neighbour (octetsOf (now (hex .entry)))))
+        r (now (text .exit)) (cardOf (now (numbers .exit)) (now (names .exit))) room (four (now (streams .exit)) (now (b0 .exit)) (now (b1 .exit)) (now (b2 .exit)) (now (b3 .exit)))) ⌝ }
+{
+    if n == 0 {
+        return on_octets(numbers, names, streams, b0, 0, neighbour, hex, room, text);
+    }
+    if n == 1 {
+        return on_octets(numbers, names, streams, b1, 1, neighbour, hex, room, text);
+    }
+    if n == 2 {
+        return on_octets(numbers, names, streams, b2, 2, neighbour, hex, room, text);
+    }
+    on_octets(numbers, names, streams, b3, 3, neighbour, hex, room, text)
 }
 
 // The PDUs to a neighbour, of the records in HEX.
@@ -196,8 +225,8 @@ fn on_loss(
     text: &mut [u8],
 ) -> usize
     requires { ⌜ (neighbour < streamCount) × (length (now streams) ≡ boxNumbers) × (textSpace ≤ length (now text)) ⌝ }
-    ensures { λ r. ⌜ ((number : ℕ) (buffers : List ℕ) → BoxSays (boxOn neighbour number (boxOf room (cardOf (now (numbers .entry)) (now (names .entry))) (four (now (streams .entry)) buffers)) (Told.lost neighbour))
-        r (now (text .exit)) (cardOf (now (numbers .exit)) (now (names .exit))) room (four (now (streams .exit)) buffers)) ⌝ }
+    ensures { λ r. ⌜ ((number : ℕ) (bs : List (List ℕ)) → BoxSays (boxOn neighbour number (boxOf room (cardOf (now (numbers .entry)) (now (names .entry))) (streamsOf (now (streams .entry)) bs)) (Told.lost neighbour))
+        r (now (text .exit)) (cardOf (now (numbers .exit)) (now (names .exit))) room (streamsOf (now (streams .exit)) bs)) ⌝ }
 {
     let n = neighbour as usize;
     let mut stream = numbers_of(streams, n);
@@ -222,15 +251,18 @@ pub fn answer(
     numbers: &mut [u64; NUMBER_COUNT],
     names: &mut [u8; OCTET_COUNT],
     streams: &mut [u64; BOX_NUMBERS],
-    buffers: &mut [u8; BOX_ROOM],
+    b0: &mut [u8; STREAM_ROOM],
+    b1: &mut [u8; STREAM_ROOM],
+    b2: &mut [u8; STREAM_ROOM],
+    b3: &mut [u8; STREAM_ROOM],
     line: &[u8],
     ask: Ask,
     room: u32,
     text: &mut [u8],
 ) -> usize
     requires { ⌜ InLine (now line) ask × (turnsSpace ≤ length (now text)) ⌝ }
-    ensures { λ r. ⌜ (isOwn ask ≡ true → (number : ℕ) → BoxSays (boxOn (streamFor (meant (now (line .entry)) ask)) number (boxOf room (cardOf (now (numbers .entry)) (now (names .entry))) (four (now (streams .entry)) (now (buffers .entry)))) (meant (now (line .entry)) ask))
-        r (now (text .exit)) (cardOf (now (numbers .exit)) (now (names .exit))) room (four (now (streams .exit)) (now (buffers .exit)))) ⌝ }
+    ensures { λ r. ⌜ (isOwn ask ≡ true → (number : ℕ) → BoxSays (boxOn (streamFor (meant (now (line .entry)) ask)) number (boxOf room (cardOf (now (numbers .entry)) (now (names .entry))) (four (now (streams .entry)) (now (b0 .entry)) (now (b1 .entry)) (now (b2 .entry)) (now (b3 .entry)))) (meant (now (line .entry)) ask))
+        r (now (text .exit)) (cardOf (now (numbers .exit)) (now (names .exit))) room (four (now (streams .exit)) (now (b0 .exit)) (now (b1 .exit)) (now (b2 .exit)) (now (b3 .exit)))) ⌝ }
 {
     match ask {
         Ask::Bench => 0,
@@ -238,11 +270,14 @@ pub fn answer(
             neighbour,
             start,
             end,
-        } => on_octets(
+        } => on_four(
             numbers,
             names,
             streams,
-            buffers,
+            b0,
+            b1,
+            b2,
+            b3,
             session_orders::stream_of(ask) as usize,
             neighbour,
             &line[start..end],

@@ -7,10 +7,10 @@ use Rattle.session_box.proofs.main.Statement.{statement}
 use Rattle.session_box.proofs.main.Tie as tie
 
 abbrev Inv-loop : tie.InvT-loop
-Inv-loop numbers₀ names₀ streams₀ buffers₀ line₀ text₀ chunk₀ state₀ more₀ turns₀ numbers names streams buffers line text chunk state more turns = 65536 ≡ length chunk
+Inv-loop numbers₀ names₀ streams₀ b0₀ b1₀ b2₀ b3₀ line₀ text₀ chunk₀ state₀ more₀ turns₀ numbers names streams b0 b1 b2 b3 line text chunk state more turns = 65536 ≡ length chunk
 
 abbrev μ-loop : tie.MeasureT-loop
-μ-loop numbers₀ names₀ streams₀ buffers₀ line₀ text₀ chunk₀ state₀ more₀ turns₀ numbers names streams buffers line text chunk state more turns = turns
+μ-loop numbers₀ names₀ streams₀ b0₀ b1₀ b2₀ b3₀ line₀ text₀ chunk₀ state₀ more₀ turns₀ numbers names streams b0 b1 b2 b3 line text chunk state more turns = turns
 
 blank-requires : tie.Need-blank-requires Inv-loop μ-loop
 blank-requires c κs = search needs
@@ -34,7 +34,7 @@ array-share-prefix-chunk : tie.Need-array-share-prefix-chunk Inv-loop μ-loop
 array-share-prefix-chunk c = search needs
 
 slice-aggregate-take-chunk : tie.Need-slice-aggregate-take-chunk Inv-loop μ-loop
-slice-aggregate-take-chunk c = sym (length-take-le (c .before .before .before .before .before .before .before .before .read-chunk .result .count) (c .before .before .before .before .before .before .before .before .read-chunk .last .0) (c .before .before .before .before .before .before .before .before .read-chunk .ensures))
+slice-aggregate-take-chunk c = sym (length-take-le (c .before .before .before .before .before .before .before .before .before .before .before .read-chunk .result .count) (c .before .before .before .before .before .before .before .before .before .before .before .read-chunk .last .0) (c .before .before .before .before .before .before .before .before .before .before .before .read-chunk .ensures))
 
 take-chunk-requires : tie.Need-take-chunk-requires Inv-loop μ-loop
 take-chunk-requires c κs = search needs

@@ -43,10 +43,10 @@ same-length-2 c = search needs
 
 returns-2 : tie.Need-returns-2
 returns-2 c =
-    let start = c .before .before .before .before .before .before .before .before .before .before .before .before .before .before .before in
-    let said = c .before .before .answer .ensures (sym (c .before .before .before .before .before .before .before .before .before .is-own .ensures) ∙ c .before .before .before .before .before .before .before .before .if2 .taken) (start .args .number) in (
+    let start = c .before .before .before .before .before .before .before .before .before .before .before .before .before .before .before .before .before .before in
+    let said = c .before .before .answer .ensures (sym (c .before .before .before .before .before .before .before .before .before .before .before .before .is-own .ensures) ∙ c .before .before .before .before .before .before .before .before .before .before .before .if2 .taken) (start .args .number) in (
       said .short,
-      λ o p e. rw (sym (keeps-line (start .args .line .now) (start .args .kept) o (c .before .before .before .before .before .before .before .before .before .before .before .before .if1 .left) p)) (says-own _ _ _ _ _ _ (c .before .before .before .before .before .before .before .before .before .before .read-ask .ensures) said),
+      λ o p e. rw (sym (keeps-line (start .args .line .now) (start .args .kept) o (c .before .before .before .before .before .before .before .before .before .before .before .before .before .before .before .if1 .left) p)) (says-own _ _ _ _ _ _ (c .before .before .before .before .before .before .before .before .before .before .before .before .before .read-ask .ensures) said),
     )
 
 answer-requires-2 : tie.Need-answer-requires-2

@@ -15,13 +15,13 @@ use Rattle.session_box.proofs.take_chunk.Statement.{statement}
 use Rattle.session_box.proofs.take_chunk.Tie as tie
 
 abbrev Inv-loop : tie.InvT-loop
-Inv-loop numbers₀ names₀ streams₀ buffers₀ line₀ text₀ chunk state₀ i₀ numbers names streams buffers line text state i =
+Inv-loop numbers₀ names₀ streams₀ b0₀ b1₀ b2₀ b3₀ line₀ text₀ chunk state₀ i₀ numbers names streams b0 b1 b2 b3 line text state i =
     (i ≤ length chunk)
-    × ((s : Stand Box) → Stands s (state₀ .number) (boxOf (state₀ .room) (cardOf numbers₀ names₀) (four streams₀ buffers₀)) line₀ (state₀ .kept)
-    → Stands (afterAll boxLeft s (take i chunk)) (state .number) (boxOf (state .room) (cardOf numbers names) (four streams buffers)) line (state .kept))
+    × ((s : Stand Box) → Stands s (state₀ .number) (boxOf (state₀ .room) (cardOf numbers₀ names₀) (four streams₀ b0₀ b1₀ b2₀ b3₀)) line₀ (state₀ .kept)
+    → Stands (afterAll boxLeft s (take i chunk)) (state .number) (boxOf (state .room) (cardOf numbers names) (four streams b0 b1 b2 b3)) line (state .kept))
 
 abbrev μ-loop : tie.MeasureT-loop
-μ-loop numbers₀ names₀ streams₀ buffers₀ line₀ text₀ chunk state₀ i₀ numbers names streams buffers line text state i = length chunk - i
+μ-loop numbers₀ names₀ streams₀ b0₀ b1₀ b2₀ b3₀ line₀ text₀ chunk state₀ i₀ numbers names streams b0 b1 b2 b3 line text state i = length chunk - i
 
 loop-holds : tie.Need-loop-holds Inv-loop μ-loop
 loop-holds c = (omega arith, λ s h. rw (after-none boxLeft s) h)
@@ -33,17 +33,17 @@ take-octet-requires : tie.Need-take-octet-requires Inv-loop μ-loop
 take-octet-requires c κs = search needs
 
 add-i : tie.Need-add-i Inv-loop μ-loop
-add-i c = let t = c .before .before .before .before .before .before .before .before .loop-test .taken in let good = c .before .before .before .before .before .before .before .before .before .before .before .good in search needs
+add-i c = let t = c .before .before .before .before .before .before .before .before .before .before .before .loop-test .taken in let good = c .before .before .before .before .before .before .before .before .before .before .before .before .before .before .good in search needs
 
 loop-less : tie.Need-loop-less Inv-loop μ-loop
-loop-less c = let t = c .before .before .before .before .before .before .before .before .loop-test .taken in omega (arith, t)
+loop-less c = let t = c .before .before .before .before .before .before .before .before .before .before .before .loop-test .taken in omega (arith, t)
 
 loop-again : tie.Need-loop-again Inv-loop μ-loop
 loop-again c =
-    let at-loop = c .before .before .before .before .before .before .before .before .before in
-    let chunk = c .before .before .before .before .before .before .before .before .before .before .before .args .chunk .now in
+    let at-loop = c .before .before .before .before .before .before .before .before .before .before .before .before in
+    let chunk = c .before .before .before .before .before .before .before .before .before .before .before .before .before .before .args .chunk .now in
     let i = at-loop .loop .i in
-    let h : i < length chunk = c .before .before .before .before .before .before .before .before .loop-test .taken in
+    let h : i < length chunk = c .before .before .before .before .before .before .before .before .before .before .before .loop-test .taken in
     (omega (arith, h), λ s k. rw (sym (after-next boxLeft s chunk i h)) (c .take-octet .ensures _ (at-loop .loop .inv .1 s k)))
 
 returns : tie.Need-returns Inv-loop μ-loop

@@ -26,7 +26,7 @@ slice-reshare-prefix-write-all : tie.Need-slice-reshare-prefix-write-all
 slice-reshare-prefix-write-all c = search needs
 
 slice-aggregate-write-all : tie.Need-slice-aggregate-write-all
-slice-aggregate-write-all c = sym (length-take-le (c .before .before .before .reply .result .length) (c .before .before .before .reply .last .1 .1 .1 .1 .1 .0) (omega arith))
+slice-aggregate-write-all c = sym (length-take-le (c .before .before .before .reply .result .length) (c .before .before .before .reply .last .1 .1 .1 .1 .1 .1 .1 .1 .0) (omega arith))
 
 write-all-requires : tie.Need-write-all-requires
 write-all-requires c κs = search needs
@@ -36,7 +36,7 @@ same-length c = search needs
 
 returns-2 : tie.Need-returns-2
 unfolding nextNumber
-returns-2 c = λ s h. rw (after-end boxLeft s _ (c .before .before .before .before .before .before .before .before .before .before .before .before .before .if1 .left)) (ended-stands s h (c .before .before .before .before .before .before .before .before .before .before .before .before .wrapping-add-u64 .ensures) (c .before .before .before .before .reply .ensures .1 (s .octets) (h .keeps) (h .long)))
+returns-2 c = λ s h. rw (after-end boxLeft s _ (c .before .before .before .before .before .before .before .before .before .before .before .before .before .before .before .before .if1 .left)) (ended-stands s h (c .before .before .before .before .before .before .before .before .before .before .before .before .before .before .before .wrapping-add-u64 .ensures) (c .before .before .before .before .reply .ensures .1 (s .octets) (h .keeps) (h .long)))
 
 pub take-octet-spec : {M : Type 1} → statement M
 take-octet-spec =

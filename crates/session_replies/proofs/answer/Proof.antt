@@ -14,23 +14,23 @@ enum-known-ask c = search needs
 stream-of-requires : tie.Need-stream-of-requires
 stream-of-requires c κs = search needs
 
-cast-on-octets : tie.Need-cast-on-octets
-cast-on-octets c = search needs
+cast-on-four : tie.Need-cast-on-four
+cast-on-four c = search needs
 
-sub-on-octets : tie.Need-sub-on-octets
-sub-on-octets c = lies _ _ _ (c .before .before .before .before .before .before .before .before .before .before .pre .0) (c .before .before .before .before .before .before .ask .given .1) .0
+sub-on-four : tie.Need-sub-on-four
+sub-on-four c = lies _ _ _ (c .before .before .before .before .before .before .before .before .before .before .before .before .before .pre .0) (c .before .before .before .before .before .before .before .before .before .ask .given .1) .0
 
-part-on-octets-start : tie.Need-part-on-octets-start
-part-on-octets-start c = lies _ _ _ (c .before .before .before .before .before .before .before .before .before .before .pre .0) (c .before .before .before .before .before .before .ask .given .1) .0
+part-on-four-start : tie.Need-part-on-four-start
+part-on-four-start c = lies _ _ _ (c .before .before .before .before .before .before .before .before .before .before .before .before .before .pre .0) (c .before .before .before .before .before .before .before .before .before .ask .given .1) .0
 
-part-on-octets-end : tie.Need-part-on-octets-end
-part-on-octets-end c = lies _ _ _ (c .before .before .before .before .before .before .before .before .before .before .pre .0) (c .before .before .before .before .before .before .ask .given .1) .1
+part-on-four-end : tie.Need-part-on-four-end
+part-on-four-end c = lies _ _ _ (c .before .before .before .before .before .before .before .before .before .before .before .before .before .pre .0) (c .before .before .before .before .before .before .before .before .before .ask .given .1) .1
 
-on-octets-requires : tie.Need-on-octets-requires
-on-octets-requires c κs =
-    let start = c .before .before .before .before .before .before .before .before .before .before .before .before in
-    let lie = lies _ _ _ (c .before .before .before .before .before .before .before .before .before .before .before .before .pre .0) (c .before .before .before .before .before .before .before .before .ask .given .1) in
-    (c .before .before .stream-of .ensures .1 (start .args .line .now) lie, search needs, search needs, short _ _ _ lie, start .pre .1)
+on-four-requires : tie.Need-on-four-requires
+on-four-requires c κs =
+    let start = c .before .before .before .before .before .before .before .before .before .before .before .before .before .before .before in
+    let lie = lies _ _ _ (c .before .before .before .before .before .before .before .before .before .before .before .before .before .before .before .pre .0) (c .before .before .before .before .before .before .before .before .before .before .before .ask .given .1) in
+    (c .before .before .stream-of .ensures .1 (start .args .line .now) lie, search needs, short _ _ _ lie, start .pre .1)
 
 enum-known-ask-2 : tie.Need-enum-known-ask-2
 enum-known-ask-2 c = search needs
@@ -60,7 +60,7 @@ same-length : tie.Need-same-length
 same-length c = search needs
 
 returns-2 : tie.Need-returns-2
-returns-2 c = λ _. own-octets _ _ _ _ _ _ _ _ (c .before .before .before .before .before .before .before .before .before .before .before .ask .given .1) (c .before .before .before .before .before .stream-of .ensures .0 _) (c .before .before .on-octets .ensures)
+returns-2 c = λ _. own-octets _ _ _ _ _ _ _ _ (c .before .before .before .before .before .before .before .before .before .before .before .before .before .before .ask .given .1) (c .before .before .before .before .before .stream-of .ensures .0 _) (c .before .before .on-four .ensures)
 
 same-length-2 : tie.Need-same-length-2
 same-length-2 c = search needs
@@ -81,11 +81,11 @@ answer-spec =
     enum-told
     enum-known-ask
     stream-of-requires
-    cast-on-octets
-    sub-on-octets
-    part-on-octets-start
-    part-on-octets-end
-    on-octets-requires
+    cast-on-four
+    sub-on-four
+    part-on-four-start
+    part-on-four-end
+    on-four-requires
     enum-known-ask-2
     sub-on-pack
     part-on-pack-start

@@ -28,11 +28,8 @@ same-length c = search needs
 same-length-2 : tie.Need-same-length-2
 same-length-2 c = search needs
 
-same-length-3 : tie.Need-same-length-3
-same-length-3 c = search needs
-
 returns : tie.Need-returns
-returns c = says-decoded _ _ _ (c .before .before .before .before .before .before .before .before .before .before .before .before .before .before .decode-hex .ensures .0) (c .before .before .before .before .before .before .take-turns .ensures)
+returns c = λ number bs l e. says-decoded _ _ _ _ (c .before .before .before .before .before .before .before .before .before .before .before .before .decode-hex .ensures .0) (c .before .before .before .before .take-turns .ensures number bs l e)
 
 pub on-octets-spec : {M : Type 1} → statement M
 on-octets-spec =
@@ -46,5 +43,4 @@ on-octets-spec =
     take-turns-requires
     same-length
     same-length-2
-    same-length-3
     returns)

@@ -1,8 +1,6 @@
 -- `session_replies::take_turns` meets its contract: the n-th stream, and no other. Assumes nothing.
-use Prim.Native.Nat.{_*_}
-use native.Mathlib.Omega.{arith}
 use Rattle.card.specs.Table.{cardOf}
-use Rattle.session_replies.proofs.Four.{width, four-both}
+use Rattle.session_replies.proofs.Four.{four-both}
 use Rattle.session_replies.proofs.Obeying.{says-turns}
 use borrow.Author.Needs.{needs}
 use Rattle.session_replies.proofs.take_turns.Statement.{statement}
@@ -10,21 +8,6 @@ use Rattle.session_replies.proofs.take_turns.Tie as tie
 
 numbers-of-requires : tie.Need-numbers-of-requires
 numbers-of-requires c κs = search needs
-
-mul-start : tie.Need-mul-start
-mul-start c = search needs
-
-add-end : tie.Need-add-end
-add-end c = search needs
-
-sub-put-turns : tie.Need-sub-put-turns
-sub-put-turns c = search needs
-
-part-put-turns-start : tie.Need-part-put-turns-start
-part-put-turns-start c = search needs
-
-part-put-turns-end : tie.Need-part-put-turns-end
-part-put-turns-end c = search needs
 
 put-turns-requires : tie.Need-put-turns-requires
 put-turns-requires c κs = search needs
@@ -38,37 +21,28 @@ same-length c = search needs
 same-length-2 : tie.Need-same-length-2
 same-length-2 c = search needs
 
-same-length-3 : tie.Need-same-length-3
-same-length-3 c = search needs
-
 returns : tie.Need-returns
-returns c =
-    let start = c .before .before .before .before .before .before .before .before .before .before .before .before .before .before .before .before .before .before .before .before .before in
+returns c = λ number bs l e.
+    let start = c .before .before .before .before .before .before .before .before .before .before .before .before .before .before .before .before .before .before in
     let n = start .args .n in
-    let told = c .before .before .before .before .before .before .before .before .before .put-turns .ensures in
+    let told = c .before .before .before .before .before .before .before .put-turns .ensures in
     let put = c .before .before .put-numbers .ensures in
     let streams = start .args .streams .now in
-    let buffers = start .args .buffers .now in
-    let stream = c .before .before .before .before .before .before .before .before .before .put-turns .last .1 .1 .0 in
-    let buffer = c .before .before .before .before .before .before .before .before .before .put-turns .last .1 .1 .1 .0 in
-    says-turns n (start .args .neighbour) (start .args .room) (cardOf (start .args .numbers .now) (start .args .names .now)) streams buffers (start .args .octets .now) stream buffer _ _
+    let stream = c .before .before .before .before .before .before .before .put-turns .last .1 .1 .0 in
+    let buffer = c .before .before .before .before .before .before .before .put-turns .last .1 .1 .1 .0 in
+    says-turns n (start .args .neighbour) (start .args .room) (cardOf (start .args .numbers .now) (start .args .names .now)) streams (start .args .octets .now) stream buffer _ bs _
     (start .pre .0)
-    (rw (put .1, width (n * 4100) 4100) (four-both streams stream n (start .pre .0) (start .pre .1) (put .0) buffers buffer (start .pre .2) (omega arith)))
-    (rw (c .before .before .before .before .before .before .before .before .before .before .before .before .before .before .before .numbers-of .ensures, width (n * 4100) 4100) at told)
+    (rw (put .1) (four-both streams stream n (start .pre .0) (start .pre .1) (put .0) bs buffer l))
+    (rw (c .before .before .before .before .before .before .before .before .before .before .before .before .before .numbers-of .ensures, ← e) at told)
+    number
 
 pub take-turns-spec : {M : Type 1} → statement M
 take-turns-spec =
     tie.close
     (tie.spec
     numbers-of-requires
-    mul-start
-    add-end
-    sub-put-turns
-    part-put-turns-start
-    part-put-turns-end
     put-turns-requires
     put-numbers-requires
     same-length
     same-length-2
-    same-length-3
     returns)
