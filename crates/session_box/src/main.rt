@@ -1,62 +1,124 @@
 // Serves four neighbours over standard input: their octets, the PDUs to send them, their losses, and every order of the bench; a line for each
 // order. Neighbour N's identifier is 192.0.2.N:0, the card's own 192.0.2.254:0.
-ghost use Prim.Native.Nat.{_≤_};
+ghost use mathlib.Core.Path.{_≡_};
+ghost use mathlib.Core.List.{List};
+ghost use Prim.Native.Nat.{ℕ, _≤_};
 ghost use lib.ListN.{length};
 ghost use Rattle.card.specs.Table.{cardOf};
-ghost use Rattle.bench_input.specs.Input.{Stand, ended, after, afterAll};
+ghost use Rattle.bench_verbs.specs.Line.{lineLimit};
+ghost use Rattle.bench_input.specs.Kept.{Keeps};
+ghost use Rattle.bench_input.specs.Input.{Stand, after, afterAll};
 ghost use Rattle.session_turns.specs.Turns.{turnsSpace};
-ghost use Rattle.session_replies.specs.Done.{Box};
-ghost use Rattle.session_lines.specs.Four.{four, boxOf};
+ghost use Rattle.session_replies.specs.Done.{Box, boxReply, BoxSays};
+ghost use Rattle.session_replies.specs.Four.{four, boxOf};
 ghost use Rattle.session_box.specs.Input.{boxLeft, Stands};
+use bench_answers::Answered;
 use bench_orders::LINE_LIMIT;
 use card::NUMBER_COUNT;
 use card::OCTET_COUNT;
 use meaning::SAVE_LIMIT;
-use session::STREAM_NUMBERS;
 use session::STREAM_ROOM;
+use session_replies::BOX_NUMBERS;
 use session_turns::TURNS_SPACE;
 
 // the room that is lent before an order says less: that of the longest save
 const WHOLE_ROOM: u32 = SAVE_LIMIT as u32;
 
-// How many lines are done, how much of the next is kept, the room, and whether there is more to read.
+// How many lines are done, how much of the next is kept, and the room.
 struct State {
     number: u64,
     kept: usize,
     room: u32,
+}
+
+// How many octets came, and whether there is more to read.
+struct Got {
+    count: usize,
     more: bool,
 }
 
-fn end_line(
+// What the line that is kept is answered with. One too long to keep is a bad line.
+fn reply(
     numbers: &mut [u64; NUMBER_COUNT],
     names: &mut [u8; OCTET_COUNT],
-    s0: &mut [u64; STREAM_NUMBERS],
+    streams: &mut [u64; BOX_NUMBERS],
     b0: &mut [u8; STREAM_ROOM],
-    s1: &mut [u64; STREAM_NUMBERS],
     b1: &mut [u8; STREAM_ROOM],
-    s2: &mut [u64; STREAM_NUMBERS],
     b2: &mut [u8; STREAM_ROOM],
-    s3: &mut [u64; STREAM_NUMBERS],
     b3: &mut [u8; STREAM_ROOM],
     line: &[u8],
     text: &mut [u8],
+    kept: usize,
+    number: u64,
+    room: u32,
+) -> Answered
+    requires { ⌜ turnsSpace ≤ length (now text) ⌝ }
+    ensures { λ r. ⌜ r .length ≤ turnsSpace ⌝ }
+    ensures { λ r. ⌜ ((o : List ℕ) → Keeps (now (line .entry)) kept o → length (now (line .entry)) ≡ lineLimit
+        → BoxSays (boxReply number (boxOf room (cardOf (now (numbers .entry)) (now (names .entry))) (four (now (streams .entry)) (now (b0 .entry)) (now (b1 .entry)) (now (b2 .entry)) (now (b3 .entry)))) o)
+        (r .length) (now (text .exit)) (cardOf (now (numbers .exit)) (now (names .exit))) (r .room) (four (now (streams .exit)) (now (b0 .exit)) (now (b1 .exit)) (now (b2 .exit)) (now (b3 .exit)))) ⌝ }
+{
+    if line.len() < kept {
+        return Answered {
+            length: bench_lines::put_count(text, b"?", number),
+            room,
+        };
+    }
+    let whole = &line[..kept];
+    let ask = session_orders::read_ask(whole);
+    if session_replies::is_own(ask) {
+        return Answered {
+            length: session_replies::answer(
+                numbers,
+                names,
+                streams,
+                b0,
+                b1,
+                b2,
+                b3,
+                whole,
+                ask,
+                room,
+                text,
+            ),
+            room,
+        };
+    }
+    bench_answers::answer(numbers, names, whole, number, room, text)
+}
+
+fn take_octet(
+    numbers: &mut [u64; NUMBER_COUNT],
+    names: &mut [u8; OCTET_COUNT],
+    streams: &mut [u64; BOX_NUMBERS],
+    b0: &mut [u8; STREAM_ROOM],
+    b1: &mut [u8; STREAM_ROOM],
+    b2: &mut [u8; STREAM_ROOM],
+    b3: &mut [u8; STREAM_ROOM],
+    line: &mut [u8; LINE_LIMIT],
+    text: &mut [u8],
+    c: u8,
     state: State,
 ) -> State
     requires { ⌜ turnsSpace ≤ length (now text) ⌝ }
-    ensures { λ r. ⌜ ((s : Stand Box) → Stands s (state .number) (boxOf (state .room) (cardOf (now (numbers .entry)) (now (names .entry))) (four (now (s0 .entry)) (now (b0 .entry)) (now (s1 .entry)) (now (b1 .entry)) (now (s2 .entry)) (now (b2 .entry)) (now (s3 .entry)) (now (b3 .entry)))) (now (line .entry)) (state .kept)
-        → Stands (ended boxLeft s) (r .number) (boxOf (r .room) (cardOf (now (numbers .exit)) (now (names .exit))) (four (now (s0 .exit)) (now (b0 .exit)) (now (s1 .exit)) (now (b1 .exit)) (now (s2 .exit)) (now (b2 .exit)) (now (s3 .exit)) (now (b3 .exit)))) (now (line .entry)) (r .kept)) ⌝ }
+    ensures { λ r. ⌜ ((s : Stand Box) → Stands s (state .number) (boxOf (state .room) (cardOf (now (numbers .entry)) (now (names .entry))) (four (now (streams .entry)) (now (b0 .entry)) (now (b1 .entry)) (now (b2 .entry)) (now (b3 .entry)))) (now (line .entry)) (state .kept)
+        → Stands (after boxLeft s c) (r .number) (boxOf (r .room) (cardOf (now (numbers .exit)) (now (names .exit))) (four (now (streams .exit)) (now (b0 .exit)) (now (b1 .exit)) (now (b2 .exit)) (now (b3 .exit)))) (now (line .exit)) (r .kept)) ⌝ }
 {
+    if c != b'\n' {
+        return State {
+            number: state.number,
+            kept: bench_input::keep(line, state.kept, c),
+            room: state.room,
+        };
+    }
     let number = std::num::wrapping_add_u64(state.number, 1);
-    let done = session_lines::reply(
+    let done = reply(
         numbers,
         names,
-        s0,
+        streams,
         b0,
-        s1,
         b1,
-        s2,
         b2,
-        s3,
         b3,
         line,
         text,
@@ -70,74 +132,24 @@ fn end_line(
         number,
         kept: 0,
         room: done.room,
-        more: true,
-    }
-}
-
-fn take_octet(
-    numbers: &mut [u64; NUMBER_COUNT],
-    names: &mut [u8; OCTET_COUNT],
-    s0: &mut [u64; STREAM_NUMBERS],
-    b0: &mut [u8; STREAM_ROOM],
-    s1: &mut [u64; STREAM_NUMBERS],
-    b1: &mut [u8; STREAM_ROOM],
-    s2: &mut [u64; STREAM_NUMBERS],
-    b2: &mut [u8; STREAM_ROOM],
-    s3: &mut [u64; STREAM_NUMBERS],
-    b3: &mut [u8; STREAM_ROOM],
-    line: &mut [u8],
-    text: &mut [u8],
-    c: u8,
-    state: State,
-) -> State
-    requires { ⌜ turnsSpace ≤ length (now text) ⌝ }
-    ensures { λ r. ⌜ ((s : Stand Box) → Stands s (state .number) (boxOf (state .room) (cardOf (now (numbers .entry)) (now (names .entry))) (four (now (s0 .entry)) (now (b0 .entry)) (now (s1 .entry)) (now (b1 .entry)) (now (s2 .entry)) (now (b2 .entry)) (now (s3 .entry)) (now (b3 .entry)))) (now (line .entry)) (state .kept)
-        → Stands (after boxLeft s c) (r .number) (boxOf (r .room) (cardOf (now (numbers .exit)) (now (names .exit))) (four (now (s0 .exit)) (now (b0 .exit)) (now (s1 .exit)) (now (b1 .exit)) (now (s2 .exit)) (now (b2 .exit)) (now (s3 .exit)) (now (b3 .exit)))) (now (line .exit)) (r .kept)) ⌝ }
-{
-    if c == b'\n' {
-        return end_line(
-            numbers,
-            names,
-            s0,
-            b0,
-            s1,
-            b1,
-            s2,
-            b2,
-            s3,
-            b3,
-            line,
-            text,
-            state,
-        );
-    }
-    State {
-        number: state.number,
-        kept: bench_input::keep(line, state.kept, c),
-        room: state.room,
-        more: true,
     }
 }
 
 fn take_chunk(
     numbers: &mut [u64; NUMBER_COUNT],
     names: &mut [u8; OCTET_COUNT],
-    s0: &mut [u64; STREAM_NUMBERS],
+    streams: &mut [u64; BOX_NUMBERS],
     b0: &mut [u8; STREAM_ROOM],
-    s1: &mut [u64; STREAM_NUMBERS],
     b1: &mut [u8; STREAM_ROOM],
-    s2: &mut [u64; STREAM_NUMBERS],
     b2: &mut [u8; STREAM_ROOM],
-    s3: &mut [u64; STREAM_NUMBERS],
     b3: &mut [u8; STREAM_ROOM],
-    line: &mut [u8],
-    text: &mut [u8],
+    line: &mut [u8; LINE_LIMIT],
+    text: &mut [u8; TURNS_SPACE],
     chunk: &[u8],
     from: State,
 ) -> State
-    requires { ⌜ turnsSpace ≤ length (now text) ⌝ }
-    ensures { λ r. ⌜ ((s : Stand Box) → Stands s (from .number) (boxOf (from .room) (cardOf (now (numbers .entry)) (now (names .entry))) (four (now (s0 .entry)) (now (b0 .entry)) (now (s1 .entry)) (now (b1 .entry)) (now (s2 .entry)) (now (b2 .entry)) (now (s3 .entry)) (now (b3 .entry)))) (now (line .entry)) (from .kept)
-        → Stands (afterAll boxLeft s (now (chunk .entry))) (r .number) (boxOf (r .room) (cardOf (now (numbers .exit)) (now (names .exit))) (four (now (s0 .exit)) (now (b0 .exit)) (now (s1 .exit)) (now (b1 .exit)) (now (s2 .exit)) (now (b2 .exit)) (now (s3 .exit)) (now (b3 .exit)))) (now (line .exit)) (r .kept)) ⌝ }
+    ensures { λ r. ⌜ ((s : Stand Box) → Stands s (from .number) (boxOf (from .room) (cardOf (now (numbers .entry)) (now (names .entry))) (four (now (streams .entry)) (now (b0 .entry)) (now (b1 .entry)) (now (b2 .entry)) (now (b3 .entry)))) (now (line .entry)) (from .kept)
+        → Stands (afterAll boxLeft s (now (chunk .entry))) (r .number) (boxOf (r .room) (cardOf (now (numbers .exit)) (now (names .exit))) (four (now (streams .exit)) (now (b0 .exit)) (now (b1 .exit)) (now (b2 .exit)) (now (b3 .exit)))) (now (line .exit)) (r .kept)) ⌝ }
 {
     let mut state = from;
     let mut i = 0;
@@ -145,13 +157,10 @@ fn take_chunk(
         state = take_octet(
             numbers,
             names,
-            s0,
+            streams,
             b0,
-            s1,
             b1,
-            s2,
             b2,
-            s3,
             b3,
             line,
             text,
@@ -163,66 +172,39 @@ fn take_chunk(
     state
 }
 
-// Reads once, and answers the lines that end in what came. At the end of the input, what is kept is a line too.
-fn step(
-    numbers: &mut [u64; NUMBER_COUNT],
-    names: &mut [u8; OCTET_COUNT],
-    s0: &mut [u64; STREAM_NUMBERS],
-    b0: &mut [u8; STREAM_ROOM],
-    s1: &mut [u64; STREAM_NUMBERS],
-    b1: &mut [u8; STREAM_ROOM],
-    s2: &mut [u64; STREAM_NUMBERS],
-    b2: &mut [u8; STREAM_ROOM],
-    s3: &mut [u64; STREAM_NUMBERS],
-    b3: &mut [u8; STREAM_ROOM],
-    line: &mut [u8; LINE_LIMIT],
-    text: &mut [u8; TURNS_SPACE],
-    state: State,
-) -> State {
-    let mut chunk = io::large_buffer();
-    let got = libc::read(0, &mut chunk);
+// Reads once. At the end of the input, what is kept is a line too, and the octet that ends it comes.
+fn read_chunk(chunk: &mut [u8], kept: usize) -> Got
+    ensures { λ r. ⌜ r .count ≤ length (now (chunk .exit)) ⌝ }
+{
+    let got = libc::read(0, chunk);
     if 0 < got {
-        let n = io::count(got, &chunk);
-        return take_chunk(
-            numbers,
-            names,
-            s0,
-            b0,
-            s1,
-            b1,
-            s2,
-            b2,
-            s3,
-            b3,
-            line,
-            text,
-            &chunk[..n],
-            state,
-        );
+        return Got {
+            count: io::count(got, chunk),
+            more: true,
+        };
     }
-    if 0 < state.kept {
-        end_line(
-            numbers,
-            names,
-            s0,
-            b0,
-            s1,
-            b1,
-            s2,
-            b2,
-            s3,
-            b3,
-            line,
-            text,
-            state,
-        );
+    if kept == 0 {
+        return Got {
+            count: 0,
+            more: false,
+        };
     }
-    State {
-        number: state.number,
-        kept: 0,
-        room: state.room,
+    if chunk.len() == 0 {
+        return Got {
+            count: 0,
+            more: false,
+        };
+    }
+    chunk[0] = b'\n';
+    Got {
+        count: 1,
         more: false,
     }
+}
+
+// A line's text. It has a function of its own because the proof of `main` would work out its octets one by one.
+fn blank() -> [u8; TURNS_SPACE] {
+    [0; TURNS_SPACE]
 }
 
 // The room is at first that of the longest save: no call has more of it than its buffer.
@@ -230,38 +212,37 @@ fn step(
 fn main() {
     let mut numbers = [0u64; NUMBER_COUNT];
     let mut names = [0u8; OCTET_COUNT];
-    let mut s0 = [0u64; STREAM_NUMBERS];
+    let mut streams = [0u64; BOX_NUMBERS];
     let mut b0 = [0u8; STREAM_ROOM];
-    let mut s1 = [0u64; STREAM_NUMBERS];
     let mut b1 = [0u8; STREAM_ROOM];
-    let mut s2 = [0u64; STREAM_NUMBERS];
     let mut b2 = [0u8; STREAM_ROOM];
-    let mut s3 = [0u64; STREAM_NUMBERS];
     let mut b3 = [0u8; STREAM_ROOM];
     let mut line = [0u8; LINE_LIMIT];
-    let mut text = [0u8; TURNS_SPACE];
+    let mut text = blank();
+    let mut chunk = io::large_buffer();
     card::start(&mut numbers, 16);
     let mut state = State {
         number: 0,
         kept: 0,
         room: WHOLE_ROOM,
-        more: true,
     };
+    let mut more = true;
     let mut turns = u64::MAX;
-    while turns > 0 && state.more {
-        state = step(
+    while turns > 0 && more {
+        let got = read_chunk(&mut chunk, state.kept);
+        more = got.more;
+        let n = got.count;
+        state = take_chunk(
             &mut numbers,
             &mut names,
-            &mut s0,
+            &mut streams,
             &mut b0,
-            &mut s1,
             &mut b1,
-            &mut s2,
             &mut b2,
-            &mut s3,
             &mut b3,
             &mut line,
             &mut text,
+            &chunk[..n],
             state,
         );
         turns -= 1;

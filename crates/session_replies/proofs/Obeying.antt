@@ -1,36 +1,52 @@
 -- Laws by which what is written and left is what is done. Assumes nothing.
-use Prim.Native.Nat.{ℕ, _-_, _*_, _≤_, min}
+use Prim.Native.Nat.{ℕ, _-_, _*_, _≤_, _<_, min}
 use native.Mathlib.Omega.{arith}
-use mathlib.Core.Path.{_≡_, refl, _∙_}
-use mathlib.Core.List.{List}
-use lib.ListN.{length, take, drop, length-drop}
-use lib.Seq.{length-take-le}
+use mathlib.Core.Path.{_≡_, refl, sym, _∙_}
+use mathlib.Core.Bool.{true, false}
+use mathlib.Core.List.{List, [], _∷_}
+use lib.ListN.{length, take, drop, set, length-drop}
+use lib.Seq.{length-take-le, set-getD}
+use lib.Dec.{ltb}
 use borrow.Author.Tests.{ltb-false}
+use denote.Enum.Declared.{tagOf}
+use types.Run.{OneOf, miss}
 use Rattle.meaning.specs.Octets.{_when_else_}
 use Rattle.meaning.specs.Lists.{by-test}
 use Rattle.meaning.specs.Card.{Card}
 use Rattle.meaning.specs.Events.{Out, event, lost, noNeighbour}
 use Rattle.meaning.specs.Save.{new, saveLimit}
 use Rattle.meaning.specs.Calls.{Hands}
-use lib.Dec.{ltb}
-use Rattle.session.specs.Stream.{Stream}
+use Rattle.session.specs.Stream.{Stream, empty}
 use Rattle.session.specs.Session.{afterLoss}
+use Rattle.session.specs.Lent.{streamOf}
 use Rattle.session.specs.Pack.{messagesTo, packed, packRefusal, packedBy, pack}
 use Rattle.bench_words.specs.Words.{ascii, part, octetsOf, Puts}
-use Rattle.bench_verbs.specs.Line.{Said, orderOf}
+use Rattle.bench_verbs.specs.Line.{Said}
 use Rattle.bench_lines.specs.Text.{eventLine, textSpace}
-use Rattle.bench_replies.specs.Reply.{eventRoom, replyTo, Says, Answers}
+use Rattle.bench_replies.specs.Reply.{eventRoom, replyTo, Says}
 use Rattle.bench_replies.proofs.Reply.{decoded}
+use Rattle.session_orders.specs.Told.{Told, streamCount, streamFor}
 use Rattle.session_orders.specs.Asks.{Lies, meant, InLine}
 use Rattle.session_orders.specs.declared.Ask.{Ask}
-use Rattle.session_turns.specs.Turns.{turns, TurnsSay}
-use Rattle.session_replies.specs.Done.{packRoom, own, doneBy, Obeys}
+use Rattle.session_orders.proofs.Ask.{the-type}
+use Rattle.session_turns.specs.Turns.{turns, turnsSpace, TurnsSay}
+use Rattle.session_replies.specs.Done.{packRoom, own, doneBy, Box, streamAt, boxAfter, BoxSays}
+use Rattle.session_replies.specs.Four.{isOwn, numbersOf, bufferOf, streamsOf, boxOf, boxOn}
+use Rattle.session_replies.proofs.Four.{four-at}
 
--- ---- octets
+-- ---- octets, on the n-th stream
 
-pub turns-decoded : (n room : ℕ) (c : Card) (s : Stream) {ys before after : List ℕ} {k r : ℕ} {text : List ℕ} {c′ : Card} {s′ : Stream} → Puts ys before after k
-    → TurnsSay (turns n room c s (take k after)) r text c′ s′ → TurnsSay (turns n room c s ys) r text c′ s′
-turns-decoded n room c s p h = rw (decoded p) at h
+pub says-turns : (n neighbour room : ℕ) (c : Card) (ns o s b ns′ : List ℕ) (bs bs′ : List (List ℕ)) {text : List ℕ} {r : ℕ} {c′ : Card} → n < streamCount → streamsOf ns′ bs′ ≡ set (streamsOf ns bs) n (streamOf s b)
+    → TurnsSay (turns neighbour room c (streamOf (numbersOf ns n) (bufferOf bs n)) o) r text c′ (streamOf s b)
+    → (number : ℕ) → BoxSays (boxOn n number (boxOf room c (streamsOf ns bs)) (Told.octets neighbour o)) r text c′ room (streamsOf ns′ bs′)
+unfolding boxOn boxAfter streamAt doneBy
+says-turns n neighbour room c ns o s b ns′ bs bs′ h e t number =
+    rw (four-at ns bs n h)
+    (record { short = t .short; line = t .line; leaves = t .leaves; next = refl; all = e ∙ rw (t .streams) refl })
+
+pub says-decoded : (n neighbour number : ℕ) (b : Box) {ys before after : List ℕ} {k r room : ℕ} {text : List ℕ} {c : Card} {streams : List Stream} → Puts ys before after k
+    → BoxSays (boxOn n number b (Told.octets neighbour (take k after))) r text c room streams → BoxSays (boxOn n number b (Told.octets neighbour ys)) r text c room streams
+says-decoded n neighbour number b p h = rw (decoded p) at h
 
 -- ---- the writer
 
@@ -60,7 +76,27 @@ module _ (n room : ℕ) {id os before after part : List ℕ} {l whole k a : ℕ}
 pub loss-left : (f : ℕ → Out) (s s′ : Stream) {l m a : ℕ} {part : List ℕ} {card : Card} → l ≡ m → Hands (f l) a part card → s′ ≡ afterLoss a s → s′ ≡ afterLoss (f m .answer) s
 loss-left f s s′ e h p = p ∙ rw (h .answers, e) refl
 
--- ---- an order, by its variant
+pub says-loss : (n room : ℕ) (c : Card) (ns s ns′ : List ℕ) (bs : List (List ℕ)) {text : List ℕ} {r : ℕ} {c′ : Card} → n < streamCount → streamsOf ns′ bs ≡ set (streamsOf ns bs) n (streamOf s (bufferOf bs n))
+    → ((number : ℕ) → Says (replyTo number room c (Said.lost n)) r text c′)
+    → streamOf s (bufferOf bs n) ≡ afterLoss (event (eventRoom room) c (lost n) .answer) (streamOf (numbersOf ns n) (bufferOf bs n))
+    → (number : ℕ) → BoxSays (boxOn n number (boxOf room c (streamsOf ns bs)) (Told.lost n)) r text c′ room (streamsOf ns′ bs)
+unfolding boxOn boxAfter streamAt doneBy
+says-loss n room c ns s ns′ bs h e t l number =
+    rw (four-at ns bs n h)
+    (record { short = omega (arith, t number .short); line = t number .line; leaves = t number .leaves; next = refl; all = e ∙ rw l refl })
+
+-- ---- by the order
+
+pub own-told : (a : Ask) → OneOf (1 ∷ 2 ∷ 3 ∷ []) (tagOf the-type a) → true ≡ isOwn a
+unfolding isOwn
+own-told Ask.Bench h = absurd (miss (1 ∷ 2 ∷ 3 ∷ []) 0 tt h)
+own-told (Ask.Octets n s e) h = refl
+own-told (Ask.Pack n s e) h = refl
+own-told (Ask.Lost n) h = refl
+
+pub own-none : (a : Ask) → a ≡ Ask.Bench → false ≡ isOwn a
+unfolding isOwn
+own-none a q = rw q refl
 
 pub lies : (l : List ℕ) (r a : Ask) → InLine l r → r ≡ a → InLine l a
 lies l r a h e = rw e at h
@@ -68,23 +104,34 @@ lies l r a h e = rw e at h
 pub short : (l : List ℕ) (s e : ℕ) → Lies l s e → length (part s e l) ≤ 8192
 short l s e h = let n = length-take-le (e - s) (drop s l) (simp length-drop (omega arith)) in omega arith
 
-module _ (number room : ℕ) (c : Card) (s : Stream) (l : List ℕ) (a : Ask) where
-  pub obeys-bench : {r next : ℕ} {text : List ℕ} {c′ : Card} → a ≡ Ask.Bench → Answers (replyTo number room c (orderOf l)) r text c′ next → Obeys (doneBy number room c s (meant l a)) r text c′ next s
-  unfolding meant doneBy
-  obeys-bench q h = rw q (record { short = omega (arith, h .says .short); line = h .says .line; leaves = h .says .leaves; next = h .next; streams = refl })
+-- nothing is said of the bench's
+pub bench-not : (l : List ℕ) (a : Ask) (b : Box) {r next : ℕ} {text : List ℕ} {c′ : Card} {streams′ : List Stream} → a ≡ Ask.Bench → isOwn a ≡ true
+    → (number : ℕ) → BoxSays (boxOn (streamFor (meant l a)) number b (meant l a)) r text c′ next streams′
+bench-not l a b q t number = let e = own-none a q ∙ t in let z : _≡_ {A = ℕ} 0 1 = cc in absurd (omega arith)
 
-  pub obeys-octets : (n x e : ℕ) {r : ℕ} {text : List ℕ} {c′ : Card} {s′ : Stream} → a ≡ Ask.Octets n x e → TurnsSay (turns n room c s (octetsOf (part x e l))) r text c′ s′
-      → Obeys (doneBy number room c s (meant l a)) r text c′ room s′
-  unfolding meant doneBy
-  obeys-octets n x e q h = rw q (record { short = h .short; line = h .line; leaves = h .leaves; next = refl; streams = h .streams })
+-- an order that is about no stream
+pub same-streams : (room : ℕ) (c : Card) (streams : List Stream) (d : List ℕ) {r next : ℕ} {text : List ℕ} {c′ : Card} → r ≤ turnsSpace → take r text ≡ d
+    → BoxSays (boxAfter (record { text = d; card = c′; room = next; stream = streamAt (boxOf room c streams) 0 }) 0 streams) r text c′ next streams
+unfolding boxAfter streamAt
+same-streams room c streams d h e = record { short = h; line = e; leaves = refl; next = refl; all = sym (set-getD streams 0 empty) }
 
-  pub obeys-pack : (n x e : ℕ) {r : ℕ} {text : List ℕ} → a ≡ Ask.Pack n x e → r ≤ textSpace
+module _ (room : ℕ) (c : Card) (streams : List Stream) (l : List ℕ) (a : Ask) where
+  pub own-octets : (n x e : ℕ) {place r : ℕ} {text : List ℕ} {c′ : Card} {streams′ : List Stream} → a ≡ Ask.Octets n x e → place ≡ streamFor (meant l (Ask.Octets n x e))
+      → ((number : ℕ) → BoxSays (boxOn place number (boxOf room c streams) (Told.octets n (octetsOf (part x e l)))) r text c′ room streams′)
+      → (number : ℕ) → BoxSays (boxOn (streamFor (meant l a)) number (boxOf room c streams) (meant l a)) r text c′ room streams′
+  unfolding meant
+  own-octets n x e q p h number = rw (q, ← p) (h number)
+
+  pub own-lost : (n : ℕ) {r : ℕ} {text : List ℕ} {c′ : Card} {streams′ : List Stream} → a ≡ Ask.Lost n
+      → ((number : ℕ) → BoxSays (boxOn n number (boxOf room c streams) (Told.lost n)) r text c′ room streams′)
+      → (number : ℕ) → BoxSays (boxOn (streamFor (meant l a)) number (boxOf room c streams) (meant l a)) r text c′ room streams′
+  unfolding meant streamFor
+  own-lost n q h number = rw q (h number)
+
+  pub own-pack : (n x e : ℕ) {r : ℕ} {text : List ℕ} → a ≡ Ask.Pack n x e → r ≤ textSpace
       → take r text ≡ eventLine (ascii "pack") (pack own n (packRoom room) (octetsOf (part x e l)) .answer) (pack own n (packRoom room) (octetsOf (part x e l)) .octets)
-      → Obeys (doneBy number room c s (meant l a)) r text c room s
-  unfolding meant doneBy
-  obeys-pack n x e q h g = rw q (record { short = omega (arith, h); line = g; leaves = refl; next = refl; streams = refl })
-
-  pub obeys-lost : (n : ℕ) {r : ℕ} {text : List ℕ} {c′ : Card} {s′ : Stream} → a ≡ Ask.Lost n → Says (replyTo number room c (Said.lost n)) r text c′
-      → s′ ≡ afterLoss (event (eventRoom room) c (lost n) .answer) s → Obeys (doneBy number room c s (meant l a)) r text c′ room s′
-  unfolding meant doneBy
-  obeys-lost n q h g = rw q (record { short = omega (arith, h .short); line = h .line; leaves = h .leaves; next = refl; streams = g })
+      → (number : ℕ) → BoxSays (boxOn (streamFor (meant l a)) number (boxOf room c streams) (meant l a)) r text c room streams
+  unfolding meant streamFor boxOn doneBy
+  own-pack n x e {r} q h g number =
+      let few : r ≤ turnsSpace = omega (arith, h) in
+      rw q (same-streams room c streams _ few g)

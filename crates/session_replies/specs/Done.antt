@@ -71,17 +71,9 @@ boxReply number b line =
     let n = streamFor told in
     boxAfter (doneBy number (b .room) (b .card) (streamAt b n) told) n (b .streams)
 
--- ---- what the functions state
+-- ---- what a function states
 
--- the first r octets of a text are the text of what is done, and so are card, room and stream
-pub record Obeys (d : Done) (r : ℕ) (text : List ℕ) (card : Card) (room : ℕ) (stream : Stream) : Type 0 where
-  pub short : r ≤ turnsSpace
-  pub line : take r text ≡ d .text
-  pub leaves : card ≡ d .card
-  pub next : room ≡ d .room
-  pub streams : stream ≡ d .stream
-
--- the same of the box
+-- the first r octets of a text are the text of the reply, and card, room and streams are those of its box
 pub record BoxSays (b : BoxReply) (r : ℕ) (text : List ℕ) (card : Card) (room : ℕ) (streams : List Stream) : Type 0 where
   pub short : r ≤ turnsSpace
   pub line : take r text ≡ b .text

@@ -1,28 +1,35 @@
-// What an order of the session box is answered with: it is obeyed, on the stream that it is about, and the line that tells of it is written to
-// the front of a lent text.
+// What the orders that the session box has of its own are answered with: each is obeyed, on the stream that it is about, and the line that
+// tells of it is written to the front of a lent text.
 ghost use mathlib.Core.Path.{_≡_};
+ghost use mathlib.Core.Bool.{true};
 ghost use mathlib.Core.List.{List};
-ghost use Prim.Native.Nat.{ℕ, _≤_, _*_};
-ghost use lib.ListN.{length, take};
+ghost use Prim.Native.Nat.{ℕ, _≤_, _<_, _*_};
+ghost use lib.ListN.{length, set, take};
 ghost use Rattle.meaning.specs.Card.{sentLimit};
 ghost use Rattle.meaning.specs.Events.{event, lost};
+ghost use Rattle.octets.specs.Part.{mid};
 ghost use Rattle.card.specs.Table.{cardOf};
-ghost use Rattle.session.specs.Session.{streamRoom, afterLoss};
-ghost use Rattle.session.specs.Lent.{streamOf};
+ghost use Rattle.session.specs.Session.{afterLoss};
+ghost use Rattle.session.specs.Lent.{streamNumbers, streamOf};
 ghost use Rattle.session.specs.Pack.{pack};
 ghost use Rattle.bench_words.specs.Words.{ascii, octetsOf};
 ghost use Rattle.bench_verbs.specs.Line.{Said};
 ghost use Rattle.bench_lines.specs.Text.{eventLine, textSpace};
 ghost use Rattle.bench_replies.specs.Reply.{eventRoom, replyTo, Says};
+ghost use Rattle.session_orders.specs.Told.{Told, streamCount, streamFor};
 ghost use Rattle.session_orders.specs.Asks.{meant, InLine};
-ghost use Rattle.session_turns.specs.Turns.{turns, turnsSpace, TurnsSay};
-ghost use Rattle.session_replies.specs.Done.{own, packRoom, doneBy, Obeys};
-use bench_answers::Answered;
+ghost use Rattle.session_turns.specs.Turns.{turnsSpace};
+ghost use Rattle.session_replies.specs.Done.{own, packRoom, BoxSays};
+ghost use Rattle.session_replies.specs.Four.{isOwn, boxNumbers, numbersOf, bufferOf, streamsOf, four, boxOf, boxOn};
 use card::NUMBER_COUNT;
 use card::OCTET_COUNT;
 use meaning::SENT_LIMIT;
 use session::STREAM_NUMBERS;
+use session::STREAM_ROOM;
 use session_orders::Ask;
+
+// The numbers of four streams, as `boxNumbers` in specs/Four.antt.
+pub const BOX_NUMBERS: usize = 4 * STREAM_NUMBERS;
 
 // The room of the writer, as `packRoom` in specs/Done.antt.
 const PACK_ROOM: usize = 2 * 4096;
@@ -41,34 +48,123 @@ fn pdus() -> [u8; PACK_ROOM]
     [0; PACK_ROOM]
 }
 
+// ---- the numbers of a stream
+
+fn numbers_of(streams: &[u64], n: usize) -> [u64; STREAM_NUMBERS]
+    requires { ⌜ (n < streamCount) × (length (now streams) ≡ boxNumbers) ⌝ }
+    ensures { λ r. ⌜ r ≡ numbersOf (now (streams .entry)) n ⌝ }
+{
+    let mut numbers = [0; STREAM_NUMBERS];
+    let start = n * STREAM_NUMBERS;
+    let end = start + STREAM_NUMBERS;
+    octets::copy_numbers(&mut numbers, &streams[start..end]);
+    numbers
+}
+
+fn put_numbers(streams: &mut [u64], n: usize, numbers: &[u64; STREAM_NUMBERS])
+    requires { ⌜ (n < streamCount) × (length (now streams) ≡ boxNumbers) ⌝ }
+    ensures { λ _. ⌜ (length (now (numbers .entry)) ≡ streamNumbers) × (now (streams .exit) ≡ mid (n * streamNumbers) streamNumbers (now (streams .entry)) (now (numbers .entry))) ⌝ }
+{
+    let start = n * STREAM_NUMBERS;
+    let end = start + STREAM_NUMBERS;
+    octets::copy_numbers(&mut streams[start..end], numbers);
+}
+
 // ---- orders
 
+// Octets of a neighbour, on the n-th stream, which has this buffer.
+fn take_turns(
+    numbers: &mut [u64; NUMBER_COUNT],
+    names: &mut [u8; OCTET_COUNT],
+    streams: &mut [u64],
+    buffer: &mut [u8; STREAM_ROOM],
+    n: usize,
+    neighbour: u32,
+    octets: &[u8],
+    room: u32,
+    text: &mut [u8],
+) -> usize
+    requires { ⌜ (n < streamCount) × (length (now streams) ≡ boxNumbers) × (length (now octets) ≤ 4096) × (turnsSpace ≤ length (now text)) ⌝ }
+    ensures { λ r. ⌜ ((number : ℕ) (bs : List (List ℕ)) → n < length bs → bufferOf bs n ≡ now (buffer .entry)
+        → BoxSays (boxOn n number (boxOf room (cardOf (now (numbers .entry)) (now (names .entry))) (streamsOf (now (streams .entry)) bs)) (Told.octets neighbour (now (octets .entry))))
+        r (now (text .exit)) (cardOf (now (numbers .exit)) (now (names .exit))) room (streamsOf (now (streams .exit)) (set bs n (now (buffer .exit))))) ⌝ }
+{
+    let mut stream = numbers_of(streams, n);
+    let length = session_turns::put_turns(
+        numbers,
+        names,
+        &mut stream,
+        buffer,
+        neighbour,
+        octets,
+        room,
+        text,
+    );
+    put_numbers(streams, n, &stream);
+    length
+}
+
+// The same of the octets in HEX.
 fn on_octets(
     numbers: &mut [u64; NUMBER_COUNT],
     names: &mut [u8; OCTET_COUNT],
-    stream: &mut [u64; STREAM_NUMBERS],
-    buffer: &mut [u8],
+    streams: &mut [u64],
+    buffer: &mut [u8; STREAM_ROOM],
+    n: usize,
     neighbour: u32,
     hex: &[u8],
     room: u32,
     text: &mut [u8],
 ) -> usize
-    requires { ⌜ (length (now buffer) ≡ streamRoom) × (length (now hex) ≤ 8192) × (turnsSpace ≤ length (now text)) ⌝ }
-    ensures { λ r. ⌜ TurnsSay (turns neighbour room (cardOf (now (numbers .entry)) (now (names .entry))) (streamOf (now (stream .entry)) (now (buffer .entry))) (octetsOf (now (hex .entry))))
-        r (now (text .exit)) (cardOf (now (numbers .exit)) (now (names .exit))) (streamOf (now (stream .exit)) (now (buffer .exit))) ⌝ }
+    requires { ⌜ (n < streamCount) × (length (now streams) ≡ boxNumbers) × (length (now hex) ≤ 8192) × (turnsSpace ≤ length (now text)) ⌝ }
+    ensures { λ r. ⌜ ((number : ℕ) (bs : List (List ℕ)) → n < length bs → bufferOf bs n ≡ now (buffer .entry)
+        → BoxSays (boxOn n number (boxOf room (cardOf (now (numbers .entry)) (now (names .entry))) (streamsOf (now (streams .entry)) bs)) (Told.octets neighbour (octetsOf (now (hex .entry)))))
+        r (now (text .exit)) (cardOf (now (numbers .exit)) (now (names .exit))) room (streamsOf (now (streams .exit)) (set bs n (now (buffer .exit))))) ⌝ }
 {
     let mut octets = bench_replies::input();
-    let n = bench_words::decode_hex(hex, &mut octets);
-    session_turns::put_turns(
+    let k = bench_words::decode_hex(hex, &mut octets);
+    take_turns(
         numbers,
         names,
-        stream,
+        streams,
         buffer,
+        n,
         neighbour,
-        &octets[..n],
+        &octets[..k],
         room,
         text,
     )
+}
+
+// The same on the n-th of four streams.
+fn on_four(
+    numbers: &mut [u64; NUMBER_COUNT],
+    names: &mut [u8; OCTET_COUNT],
+    streams: &mut [u64],
+    b0: &mut [u8; STREAM_ROOM],
+    b1: &mut [u8; STREAM_ROOM],
+    b2: &mut [u8; STREAM_ROOM],
+    b3: &mut [u8; STREAM_ROOM],
+    n: usize,
+    neighbour: u32,
+    hex: &[u8],
+    room: u32,
+    text: &mut [u8],
+) -> usize
+    requires { ⌜ (n < streamCount) × (length (now streams) ≡ boxNumbers) × (length (now hex) ≤ 8192) × (turnsSpace ≤ length (now text)) ⌝ }
+    ensures { λ r. ⌜ ((number : ℕ) → BoxSays (boxOn n number (boxOf room (cardOf (now (numbers .entry)) (now (names .entry))) (four (now (streams .entry)) (now (b0 .entry)) (now (b1 .entry)) (now (b2 .entry)) (now (b3 .entry)))) (Told.octets neighbour (octetsOf (now (hex .entry)))))
+        r (now (text .exit)) (cardOf (now (numbers .exit)) (now (names .exit))) room (four (now (streams .exit)) (now (b0 .exit)) (now (b1 .exit)) (now (b2 .exit)) (now (b3 .exit)))) ⌝ }
+{
+    if n == 0 {
+        return on_octets(numbers, names, streams, b0, 0, neighbour, hex, room, text);
+    }
+    if n == 1 {
+        return on_octets(numbers, names, streams, b1, 1, neighbour, hex, room, text);
+    }
+    if n == 2 {
+        return on_octets(numbers, names, streams, b2, 2, neighbour, hex, room, text);
+    }
+    on_octets(numbers, names, streams, b3, 3, neighbour, hex, room, text)
 }
 
 // The PDUs to a neighbour, of the records in HEX.
@@ -92,8 +188,8 @@ fn on_pack(neighbour: u32, hex: &[u8], room: u32, text: &mut [u8]) -> usize
     bench_lines::put_event(text, b"pack", answer, written)
 }
 
-// A loss, which empties the stream where it is taken.
-fn on_loss(
+// A loss told, and the stream, which it empties where it is taken.
+fn tell_loss(
     numbers: &mut [u64; NUMBER_COUNT],
     names: &mut [u8; OCTET_COUNT],
     stream: &mut [u64; STREAM_NUMBERS],
@@ -119,52 +215,80 @@ fn on_loss(
     bench_lines::put_event(text, b"lost", answer, written)
 }
 
-// Any order, on the stream that it is about.
+// A loss of one of the four neighbours.
+fn on_loss(
+    numbers: &mut [u64; NUMBER_COUNT],
+    names: &mut [u8; OCTET_COUNT],
+    streams: &mut [u64],
+    neighbour: u32,
+    room: u32,
+    text: &mut [u8],
+) -> usize
+    requires { ⌜ (neighbour < streamCount) × (length (now streams) ≡ boxNumbers) × (textSpace ≤ length (now text)) ⌝ }
+    ensures { λ r. ⌜ ((number : ℕ) (bs : List (List ℕ)) → BoxSays (boxOn neighbour number (boxOf room (cardOf (now (numbers .entry)) (now (names .entry))) (streamsOf (now (streams .entry)) bs)) (Told.lost neighbour))
+        r (now (text .exit)) (cardOf (now (numbers .exit)) (now (names .exit))) room (streamsOf (now (streams .exit)) bs)) ⌝ }
+{
+    let n = neighbour as usize;
+    let mut stream = numbers_of(streams, n);
+    let length = tell_loss(numbers, names, &mut stream, neighbour, room, text);
+    put_numbers(streams, n, &stream);
+    length
+}
+
+// ---- an order of the box's own, or one of the bench
+
+pub fn is_own(ask: Ask) -> bool
+    ensures { λ r. ⌜ r ≡ isOwn ask ⌝ }
+{
+    match ask {
+        Ask::Bench => false,
+        _ => true,
+    }
+}
+
+// One of the box's own; nothing is said of the bench's.
 pub fn answer(
     numbers: &mut [u64; NUMBER_COUNT],
     names: &mut [u8; OCTET_COUNT],
-    stream: &mut [u64; STREAM_NUMBERS],
-    buffer: &mut [u8],
+    streams: &mut [u64; BOX_NUMBERS],
+    b0: &mut [u8; STREAM_ROOM],
+    b1: &mut [u8; STREAM_ROOM],
+    b2: &mut [u8; STREAM_ROOM],
+    b3: &mut [u8; STREAM_ROOM],
     line: &[u8],
     ask: Ask,
-    number: u64,
     room: u32,
     text: &mut [u8],
-) -> Answered
-    requires { ⌜ InLine (now line) ask × (length (now buffer) ≡ streamRoom) × (turnsSpace ≤ length (now text)) ⌝ }
-    ensures { λ r. ⌜ Obeys (doneBy number room (cardOf (now (numbers .entry)) (now (names .entry))) (streamOf (now (stream .entry)) (now (buffer .entry))) (meant (now (line .entry)) ask))
-        (r .length) (now (text .exit)) (cardOf (now (numbers .exit)) (now (names .exit))) (r .room) (streamOf (now (stream .exit)) (now (buffer .exit))) ⌝ }
+) -> usize
+    requires { ⌜ InLine (now line) ask × (turnsSpace ≤ length (now text)) ⌝ }
+    ensures { λ r. ⌜ (isOwn ask ≡ true → (number : ℕ) → BoxSays (boxOn (streamFor (meant (now (line .entry)) ask)) number (boxOf room (cardOf (now (numbers .entry)) (now (names .entry))) (four (now (streams .entry)) (now (b0 .entry)) (now (b1 .entry)) (now (b2 .entry)) (now (b3 .entry)))) (meant (now (line .entry)) ask))
+        r (now (text .exit)) (cardOf (now (numbers .exit)) (now (names .exit))) room (four (now (streams .exit)) (now (b0 .exit)) (now (b1 .exit)) (now (b2 .exit)) (now (b3 .exit)))) ⌝ }
 {
     match ask {
-        Ask::Bench => bench_answers::answer(numbers, names, line, number, room, text),
+        Ask::Bench => 0,
         Ask::Octets {
             neighbour,
             start,
             end,
-        } => Answered {
-            length: on_octets(
-                numbers,
-                names,
-                stream,
-                buffer,
-                neighbour,
-                &line[start..end],
-                room,
-                text,
-            ),
+        } => on_four(
+            numbers,
+            names,
+            streams,
+            b0,
+            b1,
+            b2,
+            b3,
+            session_orders::stream_of(ask) as usize,
+            neighbour,
+            &line[start..end],
             room,
-        },
+            text,
+        ),
         Ask::Pack {
             neighbour,
             start,
             end,
-        } => Answered {
-            length: on_pack(neighbour, &line[start..end], room, text),
-            room,
-        },
-        Ask::Lost(neighbour) => Answered {
-            length: on_loss(numbers, names, stream, neighbour, room, text),
-            room,
-        },
+        } => on_pack(neighbour, &line[start..end], room, text),
+        Ask::Lost(neighbour) => on_loss(numbers, names, streams, neighbour, room, text),
     }
 }

@@ -8,23 +8,23 @@ use Rattle.card.specs.Table.{cardOf}
 use Rattle.bench_input.specs.Input.{Stand, afterAll}
 use Rattle.bench_input.proofs.Input.{after-none, after-next}
 use Rattle.session_replies.specs.Done.{Box}
-use Rattle.session_lines.specs.Four.{four, boxOf}
+use Rattle.session_replies.specs.Four.{four, boxOf}
 use Rattle.session_box.specs.Input.{boxLeft, Stands}
 use borrow.Author.Needs.{needs}
 use Rattle.session_box.proofs.take_chunk.Statement.{statement}
 use Rattle.session_box.proofs.take_chunk.Tie as tie
 
 abbrev Inv-loop : tie.InvT-loop
-Inv-loop numbers₀ names₀ s0₀ b0₀ s1₀ b1₀ s2₀ b2₀ s3₀ b3₀ line₀ text₀ chunk state₀ i₀ numbers names s0 b0 s1 b1 s2 b2 s3 b3 line text state i =
-    (i ≤ length chunk) × (length line ≡ length line₀) × (length text ≡ length text₀)
-    × ((s : Stand Box) → Stands s (state₀ .number) (boxOf (state₀ .room) (cardOf numbers₀ names₀) (four s0₀ b0₀ s1₀ b1₀ s2₀ b2₀ s3₀ b3₀)) line₀ (state₀ .kept)
-    → Stands (afterAll boxLeft s (take i chunk)) (state .number) (boxOf (state .room) (cardOf numbers names) (four s0 b0 s1 b1 s2 b2 s3 b3)) line (state .kept))
+Inv-loop numbers₀ names₀ streams₀ b0₀ b1₀ b2₀ b3₀ line₀ text₀ chunk state₀ i₀ numbers names streams b0 b1 b2 b3 line text state i =
+    (i ≤ length chunk)
+    × ((s : Stand Box) → Stands s (state₀ .number) (boxOf (state₀ .room) (cardOf numbers₀ names₀) (four streams₀ b0₀ b1₀ b2₀ b3₀)) line₀ (state₀ .kept)
+    → Stands (afterAll boxLeft s (take i chunk)) (state .number) (boxOf (state .room) (cardOf numbers names) (four streams b0 b1 b2 b3)) line (state .kept))
 
 abbrev μ-loop : tie.MeasureT-loop
-μ-loop numbers₀ names₀ s0₀ b0₀ s1₀ b1₀ s2₀ b2₀ s3₀ b3₀ line₀ text₀ chunk state₀ i₀ numbers names s0 b0 s1 b1 s2 b2 s3 b3 line text state i = length chunk - i
+μ-loop numbers₀ names₀ streams₀ b0₀ b1₀ b2₀ b3₀ line₀ text₀ chunk state₀ i₀ numbers names streams b0 b1 b2 b3 line text state i = length chunk - i
 
 loop-holds : tie.Need-loop-holds Inv-loop μ-loop
-loop-holds c = (omega arith, refl, refl, λ s h. rw (after-none boxLeft s) h)
+loop-holds c = (omega arith, λ s h. rw (after-none boxLeft s) h)
 
 shared-slice-read-take-octet : tie.Need-shared-slice-read-take-octet Inv-loop μ-loop
 shared-slice-read-take-octet c = search needs
@@ -33,35 +33,23 @@ take-octet-requires : tie.Need-take-octet-requires Inv-loop μ-loop
 take-octet-requires c κs = search needs
 
 add-i : tie.Need-add-i Inv-loop μ-loop
-add-i c = let t = c .before .before .before .before .before .before .before .before .before .before .before .before .before .before .before .before .before .before .loop-test .taken in let good = c .before .before .before .before .before .before .before .before .before .before .before .before .before .before .before .before .before .before .before .before .before .before .before .good in search needs
+add-i c = let t = c .before .before .before .before .before .before .before .before .before .before .before .loop-test .taken in let good = c .before .before .before .before .before .before .before .before .before .before .before .before .before .before .good in search needs
 
 loop-less : tie.Need-loop-less Inv-loop μ-loop
-loop-less c = let t = c .before .before .before .before .before .before .before .before .before .before .before .before .before .before .before .before .before .before .loop-test .taken in omega (arith, t)
+loop-less c = let t = c .before .before .before .before .before .before .before .before .before .before .before .loop-test .taken in omega (arith, t)
 
 loop-again : tie.Need-loop-again Inv-loop μ-loop
 loop-again c =
-    let at-loop = c .before .before .before .before .before .before .before .before .before .before .before .before .before .before .before .before .before .before .before in
-    let start = c .before .before .before .before .before .before .before .before .before .before .before .before .before .before .before .before .before .before .before .before .before .before .before in
-    let chunk = start .args .chunk .now in
+    let at-loop = c .before .before .before .before .before .before .before .before .before .before .before .before in
+    let chunk = c .before .before .before .before .before .before .before .before .before .before .before .before .before .before .args .chunk .now in
     let i = at-loop .loop .i in
-    let h : i < length chunk = c .before .before .before .before .before .before .before .before .before .before .before .before .before .before .before .before .before .before .loop-test .taken in
-    let inv = at-loop .loop .inv in (
-      omega (arith, h),
-      omega (arith, inv .1, c .before .before .before .before .take-octet .kept .1 .1 .1 .1 .1 .1 .1 .1 .1 .1 .0),
-      omega (arith, inv .2, c .before .before .before .before .take-octet .kept .1 .1 .1 .1 .1 .1 .1 .1 .1 .1 .1 .0),
-      λ s k. rw (sym (after-next boxLeft s chunk i h)) (c .before .before .before .before .take-octet .ensures _ (at-loop .loop .inv .3 s k)),
-    )
-
-same-length : tie.Need-same-length Inv-loop μ-loop
-same-length c = c .before .loop .inv .1
-
-same-length-2 : tie.Need-same-length-2 Inv-loop μ-loop
-same-length-2 c = c .before .loop .inv .2
+    let h : i < length chunk = c .before .before .before .before .before .before .before .before .before .before .before .loop-test .taken in
+    (omega (arith, h), λ s k. rw (sym (after-next boxLeft s chunk i h)) (c .take-octet .ensures _ (at-loop .loop .inv .1 s k)))
 
 returns : tie.Need-returns Inv-loop μ-loop
 returns c =
-    let whole = take-all (c .before .loop .i) (c .before .before .before .before .before .args .chunk .now) (c .loop-test .left) in
-    λ s h. rw whole at (c .before .loop .inv .3 s h)
+    let whole = take-all (c .before .loop .i) (c .before .before .before .args .chunk .now) (c .loop-test .left) in
+    λ s h. rw whole at (c .before .loop .inv .1 s h)
 
 pub take-chunk-spec : {M : Type 1} → statement M
 take-chunk-spec =
@@ -75,6 +63,4 @@ take-chunk-spec =
     add-i
     loop-less
     loop-again
-    same-length
-    same-length-2
     returns)

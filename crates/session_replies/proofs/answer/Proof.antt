@@ -1,6 +1,6 @@
 -- `session_replies::answer` meets its contract, order by order. Assumes nothing.
 use native.Mathlib.Omega.{arith}
-use Rattle.session_replies.proofs.Obeying.{lies, short, obeys-bench, obeys-octets, obeys-pack, obeys-lost}
+use Rattle.session_replies.proofs.Obeying.{lies, short, own-octets, own-pack, own-lost, bench-not}
 use borrow.Author.Needs.{needs}
 use Rattle.session_replies.proofs.answer.Statement.{statement}
 use Rattle.session_replies.proofs.answer.Tie as tie
@@ -8,87 +8,84 @@ use Rattle.session_replies.proofs.answer.Tie as tie
 enum-told : tie.Need-enum-told
 enum-told c = search needs
 
-answer-requires : tie.Need-answer-requires
-answer-requires c κs = search needs
-
 enum-known-ask : tie.Need-enum-known-ask
 enum-known-ask c = search needs
 
-sub-on-octets : tie.Need-sub-on-octets
-sub-on-octets c = lies _ _ _ (c .before .before .before .before .before .before .before .before .before .before .pre .0) (c .before .before .before .before .before .ask .given .1) .0
+stream-of-requires : tie.Need-stream-of-requires
+stream-of-requires c κs = search needs
 
-part-on-octets-start : tie.Need-part-on-octets-start
-part-on-octets-start c = lies _ _ _ (c .before .before .before .before .before .before .before .before .before .before .pre .0) (c .before .before .before .before .before .ask .given .1) .0
+cast-on-four : tie.Need-cast-on-four
+cast-on-four c = search needs
 
-part-on-octets-end : tie.Need-part-on-octets-end
-part-on-octets-end c = lies _ _ _ (c .before .before .before .before .before .before .before .before .before .before .pre .0) (c .before .before .before .before .before .ask .given .1) .1
+sub-on-four : tie.Need-sub-on-four
+sub-on-four c = lies _ _ _ (c .before .before .before .before .before .before .before .before .before .before .before .before .before .pre .0) (c .before .before .before .before .before .before .before .before .before .ask .given .1) .0
 
-on-octets-requires : tie.Need-on-octets-requires
-on-octets-requires c κs =
-    let start = c .before .before .before .before .before .before .before .before .before .before .before .before in
-    (start .pre .1, short _ _ _ (lies _ _ _ (start .pre .0) (c .before .before .before .before .before .before .before .ask .given .1)), start .pre .2)
+part-on-four-start : tie.Need-part-on-four-start
+part-on-four-start c = lies _ _ _ (c .before .before .before .before .before .before .before .before .before .before .before .before .before .pre .0) (c .before .before .before .before .before .before .before .before .before .ask .given .1) .0
+
+part-on-four-end : tie.Need-part-on-four-end
+part-on-four-end c = lies _ _ _ (c .before .before .before .before .before .before .before .before .before .before .before .before .before .pre .0) (c .before .before .before .before .before .before .before .before .before .ask .given .1) .1
+
+on-four-requires : tie.Need-on-four-requires
+on-four-requires c κs =
+    let start = c .before .before .before .before .before .before .before .before .before .before .before .before .before .before .before in
+    let lie = lies _ _ _ (c .before .before .before .before .before .before .before .before .before .before .before .before .before .before .before .pre .0) (c .before .before .before .before .before .before .before .before .before .before .before .ask .given .1) in
+    (c .before .before .stream-of .ensures .1 (start .args .line .now) lie, search needs, short _ _ _ lie, start .pre .1)
 
 enum-known-ask-2 : tie.Need-enum-known-ask-2
 enum-known-ask-2 c = search needs
 
 sub-on-pack : tie.Need-sub-on-pack
-sub-on-pack c = lies _ _ _ (c .before .before .before .before .before .before .pre .0) (c .before .ask2 .given .1) .0
+sub-on-pack c = lies _ _ _ (c .before .before .before .before .before .pre .0) (c .before .ask2 .given .1) .0
 
 part-on-pack-start : tie.Need-part-on-pack-start
-part-on-pack-start c = lies _ _ _ (c .before .before .before .before .before .before .pre .0) (c .before .ask2 .given .1) .0
+part-on-pack-start c = lies _ _ _ (c .before .before .before .before .before .pre .0) (c .before .ask2 .given .1) .0
 
 part-on-pack-end : tie.Need-part-on-pack-end
-part-on-pack-end c = lies _ _ _ (c .before .before .before .before .before .before .pre .0) (c .before .ask2 .given .1) .1
+part-on-pack-end c = lies _ _ _ (c .before .before .before .before .before .pre .0) (c .before .ask2 .given .1) .1
 
 on-pack-requires : tie.Need-on-pack-requires
-on-pack-requires c κs =
-    let start = c .before .before .before .before .before .before .before .before in
-    (short _ _ _ (lies _ _ _ (start .pre .0) (c .before .before .before .ask2 .given .1)), omega (arith, start .pre .2))
+on-pack-requires c κs = (short _ _ _ (lies _ _ _ (c .before .before .before .before .before .before .before .pre .0) (c .before .before .before .ask2 .given .1)), omega (arith, c .before .before .before .before .before .before .before .pre .1))
 
 enum-known-ask-3 : tie.Need-enum-known-ask-3
 enum-known-ask-3 c = search needs
 
 on-loss-requires : tie.Need-on-loss-requires
-on-loss-requires c κs = search needs
+on-loss-requires c κs = (lies _ _ _ (c .before .before .before .before .before .before .before .before .before .pre .0) (c .before .before .before .before .before .ask3 .given .1), search needs, omega (arith, c .before .before .before .before .before .before .before .before .before .pre .1))
+
+returns : tie.Need-returns
+returns c = bench-not _ _ _ (c .enum-told .given .1)
 
 same-length : tie.Need-same-length
 same-length c = search needs
 
-returns : tie.Need-returns
-returns c = obeys-bench _ _ _ _ _ _ (c .before .before .before .before .before .before .enum-told .given .1) (c .before .before .answer .ensures)
+returns-2 : tie.Need-returns-2
+returns-2 c = λ _. own-octets _ _ _ _ _ _ _ _ (c .before .before .before .before .before .before .before .before .before .before .before .before .before .before .ask .given .1) (c .before .before .before .before .before .stream-of .ensures .0 _) (c .before .before .on-four .ensures)
 
 same-length-2 : tie.Need-same-length-2
 same-length-2 c = search needs
 
+returns-3 : tie.Need-returns-3
+returns-3 c = λ _. own-pack _ _ _ _ _ _ _ _ (c .before .before .before .before .before .before .ask2 .given .1) (c .before .before .on-pack .ensures .0) (c .before .before .on-pack .ensures .1)
+
 same-length-3 : tie.Need-same-length-3
 same-length-3 c = search needs
 
-returns-2 : tie.Need-returns-2
-returns-2 c = obeys-octets _ _ _ _ _ _ _ _ _ (c .before .before .before .before .before .before .before .before .before .before .before .before .ask .given .1) (c .before .before .before .before .on-octets .ensures)
-
-same-length-4 : tie.Need-same-length-4
-same-length-4 c = search needs
-
-returns-3 : tie.Need-returns-3
-returns-3 c = obeys-pack _ _ _ _ _ _ _ _ _ (c .before .before .before .before .before .before .ask2 .given .1) (c .before .before .on-pack .ensures .0) (c .before .before .on-pack .ensures .1)
-
-same-length-5 : tie.Need-same-length-5
-same-length-5 c = search needs
-
 returns-4 : tie.Need-returns-4
-returns-4 c = obeys-lost _ _ _ _ _ _ _ (c .before .before .before .before .before .before .before .before .ask3 .given .1) (c .before .before .on-loss .ensures .0 _) (c .before .before .on-loss .ensures .1 _)
+returns-4 c = λ _. own-lost _ _ _ _ _ _ (c .before .before .before .before .before .before .before .before .ask3 .given .1) (λ number. c .before .before .on-loss .ensures number _)
 
 pub answer-spec : {M : Type 1} → statement M
 answer-spec =
     tie.close
     (tie.spec
     enum-told
-    answer-requires
     enum-known-ask
-    sub-on-octets
-    part-on-octets-start
-    part-on-octets-end
-    on-octets-requires
+    stream-of-requires
+    cast-on-four
+    sub-on-four
+    part-on-four-start
+    part-on-four-end
+    on-four-requires
     enum-known-ask-2
     sub-on-pack
     part-on-pack-start
@@ -96,12 +93,10 @@ answer-spec =
     on-pack-requires
     enum-known-ask-3
     on-loss-requires
-    same-length
     returns
-    same-length-2
-    same-length-3
+    same-length
     returns-2
-    same-length-4
+    same-length-2
     returns-3
-    same-length-5
+    same-length-3
     returns-4)

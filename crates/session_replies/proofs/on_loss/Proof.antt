@@ -1,61 +1,51 @@
--- `session_replies::on_loss` meets its contract: told as on the bench, and the stream. Assumes nothing.
-use native.Mathlib.Omega.{arith}
-use Rattle.meaning.specs.Save.{new, saveLimit}
-use Rattle.meaning.specs.Events.{event, lost}
+-- `session_replies::on_loss` meets its contract: the stream of the neighbour, and no other. Assumes nothing.
+use Prim.Native.Nat.{_<_}
+use mathlib.Core.Path.{sym}
 use Rattle.card.specs.Table.{cardOf}
-use Rattle.bench_words.specs.Words.{ascii}
-use Rattle.bench_replies.specs.Reply.{replyTo}
-use Rattle.bench_replies.proofs.Reply.{part-fits, event-fits, says-told}
-use Rattle.session_replies.proofs.Obeying.{loss-left}
+use Rattle.session_replies.specs.Four.{bufferOf}
+use Rattle.session_replies.proofs.Four.{four-numbers}
+use Rattle.session_replies.proofs.Obeying.{says-loss}
 use borrow.Author.Needs.{needs}
 use Rattle.session_replies.proofs.on_loss.Statement.{statement}
 use Rattle.session_replies.proofs.on_loss.Tie as tie
 
-records-requires : tie.Need-records-requires
-records-requires c κs = search needs
+numbers-of-requires : tie.Need-numbers-of-requires
+numbers-of-requires c κs = search needs
 
-slice-aggregate-lent : tie.Need-slice-aggregate-lent
-slice-aggregate-lent c = search needs
+tell-loss-requires : tie.Need-tell-loss-requires
+tell-loss-requires c κs = search needs
 
-lent-requires : tie.Need-lent-requires
-lent-requires c κs = search needs
-
-lose-requires : tie.Need-lose-requires
-lose-requires c κs = search needs
-
-slice-aggregate-put-event : tie.Need-slice-aggregate-put-event
-slice-aggregate-put-event c = search needs
-
-put-event-requires : tie.Need-put-event-requires
-put-event-requires c κs =
-    let all = c .before .before .before .before .before .before .before .before .before .before .records .ensures in
-    let given = c .before .before .before .before .before .lent .ensures .1 in
-    (omega arith, part-fits _ (saveLimit new) (c .before .before .before .lose .ensures .0) (event-fits _ _ _) (omega arith), c .before .before .before .before .before .before .before .before .before .before .before .before .pre)
+put-numbers-requires : tie.Need-put-numbers-requires
+put-numbers-requires c κs = search needs
 
 same-length : tie.Need-same-length
 same-length c = search needs
 
+same-length-2 : tie.Need-same-length-2
+same-length-2 c = search needs
+
 returns : tie.Need-returns
-unfolding replyTo ascii
-returns c =
+returns c = λ number bs.
     let start = c .before .before .before .before .before .before .before .before .before .before .before .before .before .before .before .before in
-    let told = c .before .before .before .put-event .ensures in
-    let call = c .before .before .before .before .before .before .before .lose .ensures in
-    let all = c .before .before .before .before .before .before .before .before .before .before .before .before .before .before .records .ensures in
-    let given = c .before .before .before .before .before .before .before .before .before .lent .ensures .1 in (
-      λ number. says-told (λ m. event m (cardOf (start .args .numbers .now) (start .args .names .now)) (lost (start .args .neighbour))) _ _ _ _ (omega arith) (call .0) (told .1) (told .0),
-      λ buffer. loss-left (λ m. event m (cardOf (start .args .numbers .now) (start .args .names .now)) (lost (start .args .neighbour))) _ _ (omega arith) (call .0) (call .1 buffer),
-    )
+    let told = c .before .before .before .before .before .before .before .tell-loss .ensures in
+    let put = c .before .before .put-numbers .ensures in
+    let h : start .args .neighbour < 4 = start .pre .0 in
+    let streams = start .args .streams .now in
+    let stream = c .before .before .before .before .before .before .before .tell-loss .last .1 .1 .0 in
+    says-loss (start .args .neighbour) (start .args .room) (cardOf (start .args .numbers .now) (start .args .names .now)) streams stream (c .before .before .put-numbers .last .0) bs
+    h
+    (rw (put .1) (four-numbers streams stream (start .args .neighbour) h (start .pre .1) (put .0) bs))
+    (told .0)
+    (rw (sym (c .before .before .before .before .before .before .before .before .before .before .before .before .numbers-of .ensures)) (told .1 (bufferOf bs (start .args .neighbour))))
+    number
 
 pub on-loss-spec : {M : Type 1} → statement M
 on-loss-spec =
     tie.close
     (tie.spec
-    records-requires
-    slice-aggregate-lent
-    lent-requires
-    lose-requires
-    slice-aggregate-put-event
-    put-event-requires
+    numbers-of-requires
+    tell-loss-requires
+    put-numbers-requires
     same-length
+    same-length-2
     returns)

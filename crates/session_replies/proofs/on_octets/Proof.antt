@@ -1,5 +1,5 @@
 -- `session_replies::on_octets` meets its contract. Assumes nothing.
-use Rattle.session_replies.proofs.Obeying.{turns-decoded}
+use Rattle.session_replies.proofs.Obeying.{says-decoded}
 use borrow.Author.Needs.{needs}
 use Rattle.session_replies.proofs.on_octets.Statement.{statement}
 use Rattle.session_replies.proofs.on_octets.Tie as tie
@@ -16,11 +16,11 @@ decode-hex-requires c κs = search needs
 array-share-prefix-octets : tie.Need-array-share-prefix-octets
 array-share-prefix-octets c = search needs
 
-slice-aggregate-put-turns : tie.Need-slice-aggregate-put-turns
-slice-aggregate-put-turns c = search needs
+slice-aggregate-take-turns : tie.Need-slice-aggregate-take-turns
+slice-aggregate-take-turns c = search needs
 
-put-turns-requires : tie.Need-put-turns-requires
-put-turns-requires c κs = search needs
+take-turns-requires : tie.Need-take-turns-requires
+take-turns-requires c κs = search needs
 
 same-length : tie.Need-same-length
 same-length c = search needs
@@ -29,7 +29,7 @@ same-length-2 : tie.Need-same-length-2
 same-length-2 c = search needs
 
 returns : tie.Need-returns
-returns c = turns-decoded _ _ _ _ (c .before .before .before .before .before .before .before .before .before .before .before .before .decode-hex .ensures .0) (c .before .before .before .before .put-turns .ensures)
+returns c = λ number bs l e. says-decoded _ _ _ _ (c .before .before .before .before .before .before .before .before .before .before .before .before .decode-hex .ensures .0) (c .before .before .before .before .take-turns .ensures number bs l e)
 
 pub on-octets-spec : {M : Type 1} → statement M
 on-octets-spec =
@@ -39,8 +39,8 @@ on-octets-spec =
     slice-aggregate-decode-hex
     decode-hex-requires
     array-share-prefix-octets
-    slice-aggregate-put-turns
-    put-turns-requires
+    slice-aggregate-take-turns
+    take-turns-requires
     same-length
     same-length-2
     returns)
