@@ -54,6 +54,7 @@ module _ (number room : ℕ) (c : Card) (streams : List Stream) (l : List ℕ) (
       (rw (← h .says .leaves, ← h .next) (same-streams room c streams (replyTo number room c (orderOf l) .text) few (h .says .line)))
 
 -- ---- a line that is too long
+
 pub says-bad : (number room : ℕ) (c : Card) (streams : List Stream) (o : List ℕ) {r : ℕ} {text : List ℕ}
     → lineLimit < length o → r ≤ turnsSpace → take r text ≡ countLine (ascii "?") number
     → BoxSays (boxReply number (boxOf room c streams) o) r text c room streams
