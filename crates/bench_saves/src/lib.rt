@@ -24,6 +24,12 @@ fn longest_save() -> [u8; SAVE_LIMIT]
     [0; SAVE_LIMIT]
 }
 
+fn longest_old() -> [u8; OLD_SAVE_LIMIT]
+    ensures { λ r. ⌜ saveLimit old ≡ length r ⌝ }
+{
+    [0; OLD_SAVE_LIMIT]
+}
+
 // The octets that a save of the form is lent: as many as the longest has.
 fn most_of(second: bool) -> usize
     ensures { λ r. ⌜ (r ≡ saveLimit (formOf second)) × (r ≤ saveLimit new) ⌝ }
@@ -141,14 +147,14 @@ fn on_older(hex: &[u8], room: u32, text: &mut [u8]) -> usize
     let mut spare_numbers = [0u64; NUMBER_COUNT];
     let mut spare_names = [0u8; OCTET_COUNT];
     let mut spare_save = [0u8; SAVE_LIMIT];
-    let mut out = longest_save();
+    let mut out = longest_old();
     let mut answer: u32 = 0;
     let moved = save_mover::older(
         &octets[..n],
         &mut spare_numbers,
         &mut spare_names,
         &mut spare_save,
-        bench_replies::lent(&mut out[..OLD_SAVE_LIMIT], room),
+        bench_replies::lent(&mut out, room),
         &mut answer,
     );
     bench_lines::put_event(text, b"older", answer, moved)

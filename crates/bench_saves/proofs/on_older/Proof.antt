@@ -1,12 +1,8 @@
 -- `bench_saves::on_older` meets its contract. Assumes nothing.
-use Prim.Native.Nat.{min}
 use Rattle.bench_saves.proofs.Saves.{older-fits, says-older}
 use Rattle.bench_words.specs.Words.{ascii}
 use Rattle.bench_replies.proofs.Reply.{decoded}
-use Rattle.meaning.specs.Save.{old, new, saveLimit}
-use lib.Seq.{length-take-le}
-use lib.ListN.{length, take}
-use mathlib.Core.Path.{_≡_, refl, sym, ap, _∙_}
+use Rattle.meaning.specs.Save.{new, saveLimit}
 use native.Mathlib.Omega.{arith}
 use borrow.Author.Needs.{needs}
 use Rattle.bench_saves.proofs.on_older.Statement.{statement}
@@ -21,8 +17,8 @@ slice-aggregate-decode-hex c = search needs
 decode-hex-requires : tie.Need-decode-hex-requires
 decode-hex-requires c κs = search needs
 
-longest-save-requires-2 : tie.Need-longest-save-requires-2
-longest-save-requires-2 c κs = search needs
+longest-old-requires : tie.Need-longest-old-requires
+longest-old-requires c κs = search needs
 
 array-share-prefix-octets : tie.Need-array-share-prefix-octets
 array-share-prefix-octets c = search needs
@@ -30,11 +26,8 @@ array-share-prefix-octets c = search needs
 slice-aggregate-older : tie.Need-slice-aggregate-older
 slice-aggregate-older c = search needs
 
-array-borrow-prefix-out : tie.Need-array-borrow-prefix-out
-array-borrow-prefix-out c = search needs
-
 slice-aggregate-lent : tie.Need-slice-aggregate-lent
-slice-aggregate-lent c = sym (length-take-le (saveLimit old) (c .before .before .before .before .before .longest-save2 .result) (omega (arith, c .before .before .before .before .before .longest-save2 .ensures)))
+slice-aggregate-lent c = search needs
 
 lent-requires : tie.Need-lent-requires
 lent-requires c κs = search needs
@@ -46,7 +39,7 @@ slice-aggregate-put-event : tie.Need-slice-aggregate-put-event
 slice-aggregate-put-event c = search needs
 
 put-event-requires : tie.Need-put-event-requires
-put-event-requires c κs = (omega arith, older-fits _ _ (saveLimit new) _ _ (c .before .before .before .older .ensures .0) (omega (arith, c .before .before .before .before .before .lent .ensures .1, c .before .before .before .before .before .before .before .before .before .before .before .longest-save2 .ensures, length-take-le (saveLimit old) (c .before .before .before .before .before .before .before .before .before .before .before .longest-save2 .result) (omega (arith, c .before .before .before .before .before .before .before .before .before .before .before .longest-save2 .ensures)))), c .before .before .before .before .before .before .before .before .before .before .before .before .before .before .before .before .before .before .pre .1)
+put-event-requires c κs = (omega arith, older-fits _ _ (saveLimit new) _ _ (c .before .before .before .older .ensures .0) (omega (arith, c .before .before .before .before .before .lent .ensures .1, c .before .before .before .before .before .before .before .before .before .before .before .longest-old .ensures)), c .before .before .before .before .before .before .before .before .before .before .before .before .before .before .before .before .before .before .pre .1)
 
 same-length : tie.Need-same-length
 same-length c = search needs
@@ -55,8 +48,7 @@ returns : tie.Need-returns
 unfolding ascii
 returns c =
     let s = c .before .before .before .before .before .before .before .before .before .before .before .before .before .before .before .before .before .before .before .before .before .before in
-    let whole : length (take (saveLimit old) (c .before .before .before .before .before .before .before .before .before .before .before .before .before .before .before .longest-save2 .result)) ≡ saveLimit old = length-take-le (saveLimit old) (c .before .before .before .before .before .before .before .before .before .before .before .before .before .before .before .longest-save2 .result) (omega (arith, c .before .before .before .before .before .before .before .before .before .before .before .before .before .before .before .longest-save2 .ensures)) in
-    λ number d. says-older number (s .args .room) _ d _ _ _ _ _ _ (c .before .before .before .before .before .before .before .before .before .lent .ensures .1 ∙ ap (min (s .args .room)) whole) (decoded (c .before .before .before .before .before .before .before .before .before .before .before .before .before .before .before .before .before .decode-hex .ensures .0)) (c .before .before .before .before .before .before .before .older .ensures .0) (c .before .before .before .put-event .ensures .1) (c .before .before .before .put-event .ensures .0)
+    λ number d. says-older number (s .args .room) _ d _ _ _ _ _ _ (omega (arith, c .before .before .before .before .before .before .before .before .before .lent .ensures .1, c .before .before .before .before .before .before .before .before .before .before .before .before .before .before .before .longest-old .ensures)) (decoded (c .before .before .before .before .before .before .before .before .before .before .before .before .before .before .before .before .before .decode-hex .ensures .0)) (c .before .before .before .before .before .before .before .older .ensures .0) (c .before .before .before .put-event .ensures .1) (c .before .before .before .put-event .ensures .0)
 
 pub on-older-spec : {M : Type 1} → statement M
 on-older-spec =
@@ -65,10 +57,9 @@ on-older-spec =
     longest-save-requires
     slice-aggregate-decode-hex
     decode-hex-requires
-    longest-save-requires-2
+    longest-old-requires
     array-share-prefix-octets
     slice-aggregate-older
-    array-borrow-prefix-out
     slice-aggregate-lent
     lent-requires
     older-requires
