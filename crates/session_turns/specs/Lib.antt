@@ -1,4 +1,0 @@
-pub mod Turns
-pub mod Less
-pub mod Enough
-pub mod Did
