@@ -105,7 +105,7 @@ fn obey(
                 text,
             )
         }
-        _ => bench_replies::on_event(numbers, names, line, order, room, text),
+        _ => bench_events::on_event(numbers, names, line, order, room, text),
     }
 }
 

@@ -6,7 +6,7 @@ ghost use lib.ListN.{length, take};
 ghost use Rattle.meaning.specs.Card.{branchesFrom};
 ghost use Rattle.meaning.specs.Save.{new, saveLimit};
 ghost use Rattle.bench_words.specs.Words.{numeral, hexOf};
-ghost use Rattle.card_lookups.specs.Feed.{feedIn};
+ghost use Rattle.meaning.specs.Calls.{feedIn};
 ghost use Rattle.bench_lines.specs.Text.{countLine, recordsText, eventLine, branchesText, leafText, feedLine, Adds, textSpace};
 use meaning::SAVE_DIGITS;
 

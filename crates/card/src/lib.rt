@@ -7,9 +7,8 @@ ghost use lib.ListN.{length};
 ghost use denote.Ref.{ptr};
 ghost use Rattle.meaning.specs.Card.{freeLabels, lookupLabel, lookupName};
 ghost use Rattle.meaning.specs.Events.{start, event, receive, join, leave, route, lost, notRoot};
-ghost use Rattle.meaning.specs.Calls.{Does, Hands};
+ghost use Rattle.meaning.specs.Calls.{Does, Hands, feedIn};
 ghost use Rattle.memory.specs.Memory.{cardOf};
-ghost use Rattle.card_lookups.specs.Feed.{feedIn};
 // The lengths of the card's two arrays, and in specs/Table the card that they denote, are handed on: whoever is above needs no more of the memory.
 pub use memory::NUMBER_COUNT;
 pub use memory::OCTET_COUNT;

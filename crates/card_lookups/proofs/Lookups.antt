@@ -18,7 +18,7 @@ use Rattle.memory.specs.Memory.{cardOf, baseIn, treeCount, markAt, markUse, isF
 use Rattle.memory.proofs.Memory.{trees-length}
 use Rattle.memory.proofs.Marks.{label-free, label-mapped, label-awaiting}
 use Rattle.memory.proofs.Labels.{use-in}
-use Rattle.card_lookups.specs.Feed.{feedIn}
+use Rattle.meaning.specs.Calls.{feedIn}
 
 pub empty-feed : feedIn (replicate 16 0) false ≡ nothing
 unfolding nothing branchesFrom isBranch

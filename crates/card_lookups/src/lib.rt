@@ -5,7 +5,7 @@ ghost use Prim.Native.Nat.{ℕ, _<_};
 ghost use Rattle.meaning.specs.Card.{treeAt, feedOf, lookupLabel, lookupName, nothing, treeLimit};
 ghost use Rattle.memory.specs.Sizes.{Numbers, Names};
 ghost use Rattle.memory.specs.Memory.{cardOf, treeCount};
-ghost use Rattle.card_lookups.specs.Feed.{feedIn};
+ghost use Rattle.meaning.specs.Calls.{feedIn};
 use meaning::LABEL_COUNT;
 
 // Where the tree at place i leads while u is its upstream, whose own branch is held. The one place is cleared where the row

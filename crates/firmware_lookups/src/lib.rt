@@ -4,7 +4,7 @@ ghost use mathlib.Core.List.{List};
 ghost use Prim.Native.Nat.{ℕ};
 ghost use Rattle.meaning.specs.Card.{freeLabels, lookupLabel, lookupName};
 ghost use Rattle.memory.specs.Memory.{cardOf};
-ghost use Rattle.card_lookups.specs.Feed.{feedIn};
+ghost use Rattle.meaning.specs.Calls.{feedIn};
 use memory::NUMBER_COUNT;
 use memory::OCTET_COUNT;
 

@@ -33,7 +33,7 @@ pub extern "C" fn card_serve(
     ensures { λ r. ⌜ Serves (called label (now (expected .entry)) neighbour (length (now (out .entry))) (length (now (buffer .entry))) (cardOf (now (numbers .entry)) (now (names .entry))) (streamOf (now (stream .entry)) (now (buffer .entry))) (now (offered .entry)))
         (now (answer .exit)) (now (eaten .exit)) r (now (out .entry)) (now (out .exit)) (cardOf (now (numbers .exit)) (now (names .exit))) (streamOf (now (stream .exit)) (now (buffer .exit))) ⌝ }
 {
-    session_serve::serve_core(
+    session_calls::serve_core(
         numbers,
         names,
         stream,
@@ -51,14 +51,14 @@ pub extern "C" fn card_serve(
 pub extern "C" fn card_is_stopped(stream: &[u64; STREAM_NUMBERS]) -> bool
     ensures { λ r. ⌜ ((buffer : List ℕ) → r ≡ isStopped (streamOf (now (stream .entry)) buffer)) ⌝ }
 {
-    session_state::is_stopped(stream)
+    session_calls::is_stopped(stream)
 }
 
 #[no_mangle]
 pub extern "C" fn card_holds_message(stream: &[u64; STREAM_NUMBERS], buffer: &[u8]) -> bool
     ensures { λ r. ⌜ r ≡ holdsMessage (streamOf (now (stream .entry)) (now (buffer .entry))) ⌝ }
 {
-    session_state::holds_message(stream, buffer)
+    session_calls::holds_message(stream, buffer)
 }
 
 #[no_mangle]
@@ -74,7 +74,7 @@ pub extern "C" fn card_lose(
         (now (answer .exit)) r (now (out .entry)) (now (out .exit)) (cardOf (now (numbers .exit)) (now (names .exit)))
         × ((buffer : List ℕ) → streamOf (now (stream .exit)) buffer ≡ afterLoss (now (answer .exit)) (streamOf (now (stream .entry)) buffer)) ⌝ }
 {
-    session_state::lose_core(numbers, names, stream, neighbour, out, answer)
+    session_calls::lose_core(numbers, names, stream, neighbour, out, answer)
 }
 
 #[no_mangle]

@@ -142,7 +142,7 @@ fn main() {
     let mut spare = [0u8; SAVE_LIMIT];
     let mut text = [0u8; SHOWN_SPACE];
     let n = io::read_full(STDIN_FILENO, &mut input);
-    let end = layers_shown::show(
+    let end = show(
         &input[..n],
         &mut octets,
         &mut numbers,

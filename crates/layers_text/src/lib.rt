@@ -7,7 +7,7 @@ ghost use Rattle.meaning.specs.Wire.{elementRefusal};
 ghost use Rattle.meaning.specs.Card.{branchesFrom, lookupName, treeAt, treeLimit};
 ghost use Rattle.memory.specs.Sizes.{Numbers, Names};
 ghost use Rattle.memory.specs.Memory.{cardOf, treeCount};
-ghost use Rattle.card_lookups.specs.Feed.{feedIn};
+ghost use Rattle.meaning.specs.Calls.{feedIn};
 ghost use Rattle.bench_lines.specs.Text.{Adds};
 ghost use Rattle.layers_text.specs.TreeText.{labelWords, leafWords, branchesWords, feedWords, treeLine, labelSpace, branchSpace, feedSpace, lineSpace};
 use meaning::NAME_LIMIT;

@@ -2,9 +2,10 @@
 -- Assumes nothing.
 use Prim.Native.Nat.{ℕ}
 use mathlib.Core.Path.{_≡_, sym, _∙_}
+use mathlib.Core.Bool.{Bool}
 use mathlib.Core.List.{List, _++_}
 use lib.ListN.{drop, length}
-use Rattle.meaning.specs.Card.{Card}
+use Rattle.meaning.specs.Card.{Card, Feed, branchesFrom}
 use Rattle.meaning.specs.Events.{Out}
 
 -- the caller's buffer with the records at its front: the rest keeps its bytes
@@ -23,6 +24,10 @@ pub record Hands (o : Out) (answer : ℕ) (part : List ℕ) (card : Card) : Type
   pub answers : answer ≡ o .answer
   pub hands : part ≡ o .octets
   pub leaves : card ≡ o .card
+
+-- The answer of a lookup: sixteen branch labels, one for each neighbour and 0 for none, and the leaf mark. The branches stand by rising neighbour number.
+abbrev pub feedIn : List ℕ → Bool → Feed
+feedIn branches leaf = record { branches = branchesFrom 0 branches; leaf = leaf }
 
 -- A statement `Does` admits one outcome: whatever two calls answer, write and leave is the same.
 pub does-one : (o : Out) (a a' n n' : ℕ) (s x x' : List ℕ) (c c' : Card) → Does o a n s x c → Does o a' n' s x' c' → (a ≡ a') × (n ≡ n') × (x ≡ x') × (c ≡ c')

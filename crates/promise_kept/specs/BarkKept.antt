@@ -1,4 +1,4 @@
--- NO BARK OF THE CODE: a net of memories, whose boxes are calls of `start`, `receive`, `join`, `leave`, `route`, `lost`, `notice` and of both lookups. Of the calls it takes their contracts (`Contracts` of `promise_kept`) and nothing more.
+-- NO BARK OF THE CODE: a net of memories, whose boxes are calls of `start`, `receive`, `join`, `leave`, `route`, `lost`, `notice` and of both lookups. Of the calls it takes their contracts (`Contracts`) and nothing more.
 -- Assumes nothing beside what `Bark` asks of the world.
 use Prim.Native.Nat.{ℕ}
 use mathlib.Core.Path.{_≡_, refl, sym, ap, _∙_, subst}
@@ -8,7 +8,7 @@ use lib.Dec.{eqb}
 use Rattle.meaning.specs.Octets.{pick}
 use Rattle.meaning.specs.Card.{Feed, lookupLabel}
 use Rattle.meaning.specs.Events.{receive}
-use Rattle.card_lookups.specs.Feed.{feedIn}
+use Rattle.meaning.specs.Calls.{feedIn}
 use Rattle.promise.specs.Promise.{leafBy, Step, Past, answerTo, isTaken, thenStep}
 use Rattle.promise.specs.Deeds.{thenDeed}
 use Rattle.promise.specs.Deeds

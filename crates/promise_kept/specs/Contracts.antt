@@ -15,10 +15,9 @@ use Rattle.meaning.specs.Card.{freeLabels, lookupLabel, lookupName}
 use Rattle.meaning.specs.Events.{Event, receive, join, leave, route, lost, event, start}
 use Rattle.meaning.specs.Notice.{notice}
 use Rattle.meaning.specs.Save.{Form, old, new, formOf, save, restore, move, newer, older}
-use Rattle.meaning.specs.Calls.{Hands}
+use Rattle.meaning.specs.Calls.{Hands, feedIn}
 use Rattle.meaning_laws.specs.Handed.{handed}
 use Rattle.memory.specs.Memory.{cardOf}
-use Rattle.card_lookups.specs.Feed.{feedIn}
 use Rattle.card.proofs.start.Reads as start-reads
 use Rattle.card.proofs.receive.Reads as receive-reads
 use Rattle.card.proofs.receive_core.Reads as receive-core-reads

@@ -12,13 +12,12 @@ use Rattle.meaning.specs.Wire.{release, messageIn, records, recordsIn}
 use Rattle.meaning.specs.Card.{Card, nothing}
 use Rattle.meaning.specs.Events.{Event, receive, refuse, roomShort, event}
 use Rattle.meaning.specs.Save.{Form, saved, save, restore, fitsSave, move}
-use Rattle.meaning.specs.Calls.{Hands}
+use Rattle.meaning.specs.Calls.{Hands, feedIn}
 use Rattle.meaning.specs.Lists.{by-test}
 use Rattle.promise.specs.Promise.{Given, ofLabel, noteAll, noteTaken, branchesSaid, feedBy, Step, Past, answerTo, sends, isTaken, liveAt, acceptedAt, thenStep, begun, Each, NoneLive, AllMapped, Leads, isWithdrawn, Untouched, Promise}
 use Rattle.promise.specs.SaveKept as Swap
 use Rattle.promise.specs.Deeds.{Deed, does, tells, saves, swaps, moves, restores, thenDeed, thenDeeds, IsClaimed, Claimed, deeds-kept}
 use Rattle.memory.specs.Memory.{cardOf}
-use Rattle.card_lookups.specs.Feed.{feedIn}
 use Rattle.promise_kept.specs.Contracts.{Call, Called, made, Telling, Told, told, Started, began, Saved, wrote, Restored, read, Moving, shifted, LookedUp, looked-up, NameLookedUp, name-looked-up, Counted, counted}
 
 -- ---- a run of calls

@@ -1,4 +1,4 @@
--- REQUEST 14 OF THE CODE: two memories on one line, and calls of `receive`, `join`, `leave`, `route`, `lost` and `notice` on either. Of the calls it takes their contracts (`Contracts` of `promise_kept`) and nothing more.
+-- REQUEST 14 OF THE CODE: two memories on one line, and calls of `receive`, `join`, `leave`, `route`, `lost` and `notice` on either. Of the calls it takes their contracts (`Contracts`) and nothing more.
 -- Assumes nothing.
 use Prim.Native.Nat.{ℕ, _<_}
 use mathlib.Core.Path.{_≡_, refl, sym, ap, _∙_, subst}

@@ -14,10 +14,9 @@ use borrow.Author.Tests.{eq-eqb, ne-eqb, ltb-false}
 use denote.Ref.{now}
 use Rattle.meaning.specs.Octets.{pick}
 use Rattle.meaning.specs.Card.{Branch, Feed, isBranch, branchesFrom}
-use Rattle.meaning.specs.Calls.{does-one, hands-one}
+use Rattle.meaning.specs.Calls.{feedIn, does-one, hands-one}
 use Rattle.meaning.specs.Lists.{by-test}
 use Rattle.memory.specs.Memory.{cardOf}
-use Rattle.card_lookups.specs.Feed.{feedIn}
 use Rattle.card.proofs.start.Reads as start-reads
 use Rattle.card.proofs.receive.Reads as receive-reads
 use Rattle.card.proofs.receive_core.Reads as receive-core-reads

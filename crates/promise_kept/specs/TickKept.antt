@@ -16,7 +16,7 @@ use Rattle.promise_bark.specs.Queues.{messages-append, messages-passed}
 use Rattle.promise_bark.specs.BarkProof.{anew-at, messages-anew, messages-copies-to, talk-steps}
 use Rattle.promise_tick.specs.Tick.{Ear, Silent, Rank, ahead, Within, Slopes, some, delivered, hearings}
 use Rattle.promise_tick.specs.TickProof.{Fit, Ready, later-ready, later-most, none-ahead}
-use Rattle.promise_bark_kept.specs.BarkKept.{Plant, copied, pastAt, trafficOf, Goes, hears, sends, does, tells, puts, comes, loses, passes, cuts, Reached, heard-path, reached-sure}
+use Rattle.promise_kept.specs.BarkKept.{Plant, copied, pastAt, trafficOf, Goes, hears, sends, does, tells, puts, comes, loses, passes, cuts, Reached, heard-path, reached-sure}
 
 -- what the boxes of the net say to each other
 abbrev pub talkOf : Plant → Net
@@ -54,7 +54,7 @@ pub data Serves (far : Wires) (w : Plant) : Plant → ℕ → Type 0 where
   then : {v u : Plant} {m : ℕ} → Serves far w v m → (g : Goes far v u) → isQuiet g ≡ true → Serves far w u (heardBy g + m)
 
 -- THE SOFT TICK OF THE CODE, proved below: memories that were started, after any calls; the routes of the trees that messages under way are about go round nowhere. No more messages are heard than the measure says, and when so many have been heard nothing is under way.
--- (Then the whole tree: `whole-tree-of-memories` of `promise_bark_kept`.)
+-- (Then the whole tree: `whole-tree-of-memories` in `BarkKept`.)
 abbrev pub TickOfMemories : Type 0
 TickOfMemories = (far : Wires) → Wired far → (n : ℕ) → Within far n → (base : ℕ → ℕ) (w : Plant) → Reached far base w → (rank : Rank) → Slopes far (talkOf w) rank
     → (v : Plant) (m : ℕ) → Serves far w v m → (m + ahead rank n (talkOf v) ≤ ahead rank n (talkOf w)) × (ahead rank n (talkOf w) ≤ m → Silent far (talkOf v))

@@ -19,7 +19,7 @@ use Rattle.session_orders.specs.Told.{bench, toldOf, streamFor}
 use Rattle.session_orders.specs.Asks.{meant, Tells}
 use Rattle.session_orders.specs.declared.Ask.{Ask}
 use Rattle.session_orders.proofs.Asked.{long-told}
-use Rattle.session_turns.specs.Turns.{turnsSpace}
+use Rattle.session_replies.specs.Turns.{turnsSpace}
 use Rattle.session_replies.specs.Done.{doneBy, Box, BoxReply, boxReply, BoxSays}
 use Rattle.session_replies.specs.Four.{isOwn, boxOf, boxOn}
 use Rattle.session_replies.proofs.Obeying.{same-streams}

@@ -8,7 +8,7 @@ ghost use Rattle.card.specs.Table.{cardOf};
 ghost use Rattle.bench_verbs.specs.Line.{lineLimit};
 ghost use Rattle.bench_input.specs.Kept.{Keeps};
 ghost use Rattle.bench_input.specs.Input.{Stand, after, afterAll};
-ghost use Rattle.session_turns.specs.Turns.{turnsSpace};
+ghost use Rattle.session_replies.specs.Turns.{turnsSpace};
 ghost use Rattle.session_replies.specs.Done.{Box, boxReply, BoxSays};
 ghost use Rattle.session_replies.specs.Four.{four, boxOf};
 ghost use Rattle.session_box.specs.Input.{boxLeft, Stands};
@@ -19,7 +19,7 @@ use card::OCTET_COUNT;
 use meaning::SAVE_LIMIT;
 use session::STREAM_ROOM;
 use session_replies::BOX_NUMBERS;
-use session_turns::TURNS_SPACE;
+use session_replies::TURNS_SPACE;
 
 // the room that is lent before an order says less: that of the longest save
 const WHOLE_ROOM: u32 = SAVE_LIMIT as u32;

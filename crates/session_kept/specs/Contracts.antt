@@ -11,9 +11,9 @@ use Rattle.session.specs.Stream.{Stream}
 use Rattle.session.specs.Session.{label, called}
 use Rattle.session.specs.Calls.{HandsOver}
 use Rattle.session.specs.Lent.{streamOf}
-use Rattle.session_serve.proofs.Serving.{handed-over}
-use Rattle.session_serve.proofs.serve.Reads as serve-reads
-use Rattle.session_serve.proofs.serve_core.Reads as serve-core-reads
+use Rattle.session_calls.proofs.Serving.{handed-over}
+use Rattle.session_calls.proofs.serve.Reads as serve-reads
+use Rattle.session_calls.proofs.serve_core.Reads as serve-core-reads
 
 -- what the caller lends: the card's two arrays, the stream's four numbers and its buffer
 pub record Lent : Type 0 where

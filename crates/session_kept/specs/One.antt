@@ -7,12 +7,12 @@ use Rattle.meaning.specs.Calls.{does-one, hands-one}
 use Rattle.card.specs.Table.{cardOf}
 use Rattle.session.specs.Calls.{serves-one, hands-over-one, packs-one}
 use Rattle.session.specs.Lent.{streamOf}
-use Rattle.session_serve.proofs.serve.Reads as serve-reads
-use Rattle.session_serve.proofs.serve_core.Reads as serve-core-reads
-use Rattle.session_state.proofs.lose.Reads as lose-reads
-use Rattle.session_state.proofs.lose_core.Reads as lose-core-reads
-use Rattle.session_state.proofs.is_stopped.Reads as is-stopped-reads
-use Rattle.session_state.proofs.holds_message.Reads as holds-message-reads
+use Rattle.session_calls.proofs.serve.Reads as serve-reads
+use Rattle.session_calls.proofs.serve_core.Reads as serve-core-reads
+use Rattle.session_calls.proofs.lose.Reads as lose-reads
+use Rattle.session_calls.proofs.lose_core.Reads as lose-core-reads
+use Rattle.session_calls.proofs.is_stopped.Reads as is-stopped-reads
+use Rattle.session_calls.proofs.holds_message.Reads as holds-message-reads
 use Rattle.session_pack.proofs.pack.Reads as pack-reads
 use Rattle.session_pack.proofs.pack_core.Reads as pack-core-reads
 use Rattle.firmware_session.proofs.card_serve.Reads as card-serve-reads

@@ -29,7 +29,7 @@ use Rattle.session_orders.specs.Told.{Told, streamCount, streamFor}
 use Rattle.session_orders.specs.Asks.{Lies, meant, InLine}
 use Rattle.session_orders.specs.declared.Ask.{Ask}
 use Rattle.session_orders.proofs.Ask.{the-type}
-use Rattle.session_turns.specs.Turns.{turns, turnsSpace, TurnsSay}
+use Rattle.session_replies.specs.Turns.{turns, turnsSpace, TurnsSay}
 use Rattle.session_replies.specs.Done.{packRoom, own, doneBy, Box, streamAt, boxAfter, BoxSays}
 use Rattle.session_replies.specs.Four.{isOwn, numbersOf, bufferOf, streamsOf, boxOf, boxOn}
 use Rattle.session_replies.proofs.Four.{four-at}

@@ -16,10 +16,10 @@ use Rattle.session.specs.Session.{messageRoom, streamRoom, label, Called, calle
 use Rattle.session.specs.Calls.{HandsOver}
 use Rattle.meaning.specs.Card.{Card}
 use Rattle.bench_lines.specs.Text.{Adds}
-use Rattle.session_turns.specs.Turns.{identifier, callRoom, calledBox, behindColon, callText, Turns, none, isLast, andThen, turnsF, mostTurns, turns, octetsLine, callSpace, turnsSpace, spaceFor, TurnsSay}
-use Rattle.session_turns.specs.Less.{Leaves}
-use Rattle.session_turns.specs.Enough.{pending-most}
-use Rattle.session_turns.specs.Did.{Did}
+use Rattle.session_replies.specs.Turns.{identifier, callRoom, calledBox, behindColon, callText, Turns, none, isLast, andThen, turnsF, mostTurns, turns, octetsLine, callSpace, turnsSpace, spaceFor, TurnsSay}
+use Rattle.session_replies.specs.Less.{Leaves}
+use Rattle.session_replies.specs.Enough.{pending-most}
+use Rattle.session_replies.specs.Did.{Did}
 
 pub colon-none : (l : List ℕ) → length l ≡ 0 → behindColon l ≡ []
 unfolding behindColon

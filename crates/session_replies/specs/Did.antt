@@ -8,7 +8,7 @@ use Rattle.meaning.specs.Card.{Card}
 use Rattle.session.specs.Stream.{Stream}
 use Rattle.session.specs.Session.{Called}
 use Rattle.bench_lines.specs.Text.{Adds}
-use Rattle.session_turns.specs.Turns.{callText, isLast, spaceFor}
+use Rattle.session_replies.specs.Turns.{callText, isLast, spaceFor}
 
 -- The call k on the octets from a place on, where the stream was this one: its text goes on the text that was there, the place has moved by what was eaten, and a further call finds its text too.
 pub record Did (k : Called) (octets : List ℕ) (from : ℕ) (was : Stream) (before after : List ℕ) (at to next : ℕ) (last : Bool) (card : Card) (stream : Stream) : Type 0 where

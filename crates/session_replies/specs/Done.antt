@@ -13,7 +13,7 @@ use Rattle.bench_verbs.specs.Line.{Said}
 use Rattle.bench_lines.specs.Text.{eventLine}
 use Rattle.bench_replies.specs.Reply.{eventRoom, replyTo}
 use Rattle.session_orders.specs.Told.{Told, toldOf, streamFor}
-use Rattle.session_turns.specs.Turns.{identifier, turns, octetsLine, turnsSpace}
+use Rattle.session_replies.specs.Turns.{identifier, turns, octetsLine, turnsSpace}
 
 -- ---- an order, and the stream that it is about
 

@@ -12,8 +12,8 @@ use Rattle.session.specs.Stream.{Stream, stopped, reading, bodyLimit}
 use Rattle.session.specs.Kept.{Fits, limit-most}
 use Rattle.session.specs.Ends.{pending}
 use Rattle.session.specs.Session.{Called}
-use Rattle.session_turns.specs.Turns.{Turns, calledBox, isLast, andThen, turnsF, mostTurns, turns}
-use Rattle.session_turns.specs.Less.{called-leaves}
+use Rattle.session_replies.specs.Turns.{Turns, calledBox, isLast, andThen, turnsF, mostTurns, turns}
+use Rattle.session_replies.specs.Less.{called-leaves}
 
 -- a stream that fits, as any memory denotes one
 pub pending-most : (s : Stream) (o : List ℕ) → Fits s → pending s o ≤ 2 * length o + bodyLimit + 1

@@ -16,8 +16,8 @@ use Rattle.session.specs.StreamLaws.{Tells, look-tells}
 use Rattle.session.specs.Kept.{Quiet, quiet-taken, filled-eaten, taken-eaten, taken-one}
 use Rattle.session.specs.Session.{messageRoom, streamRoom, label, heeded, sessionShort, callRefusal, accepted, calledBy, Called, called}
 use Rattle.session.specs.Ends.{pending, taken-less}
-use Rattle.session_serve.proofs.Serving.{label-fits}
-use Rattle.session_turns.specs.Turns.{identifier, callRoom, calledBox, isLast, callSpace, octetSpace}
+use Rattle.session_calls.proofs.Serving.{label-fits}
+use Rattle.session_replies.specs.Turns.{identifier, callRoom, calledBox, isLast, callSpace, octetSpace}
 
 -- ---- a message has four octets at least
 

@@ -1,8 +1,8 @@
 use native.Mathlib.Omega.{arith}
 use borrow.Author.Needs.{needs}
-use Rattle.layers_shown.proofs.Printed.{hex-none, hex-ended, hex-open}
-use Rattle.layers_shown.proofs.hex_end.Statement.{statement}
-use Rattle.layers_shown.proofs.hex_end.Tie as tie
+use Rattle.layers.proofs.Printed.{hex-none, hex-ended, hex-open}
+use Rattle.layers.proofs.hex_end.Statement.{statement}
+use Rattle.layers.proofs.hex_end.Tie as tie
 
 returns : tie.Need-returns
 returns c = (hex-none _ (c .if1 .taken), omega arith)

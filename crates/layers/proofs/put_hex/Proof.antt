@@ -1,10 +1,10 @@
 use native.Mathlib.Omega.{arith}
 use mathlib.Core.Path.{_∙_, ap}
 use borrow.Author.Needs.{needs}
-use Rattle.layers_shown.specs.Shown.{shownOf}
-use Rattle.layers_shown.proofs.Printed.{front-is}
-use Rattle.layers_shown.proofs.put_hex.Statement.{statement}
-use Rattle.layers_shown.proofs.put_hex.Tie as tie
+use Rattle.layers.specs.Shown.{shownOf}
+use Rattle.layers.proofs.Printed.{front-is}
+use Rattle.layers.proofs.put_hex.Statement.{statement}
+use Rattle.layers.proofs.put_hex.Tie as tie
 
 decode-hex-requires : tie.Need-decode-hex-requires
 decode-hex-requires c κs = search needs

@@ -1,9 +1,9 @@
 use native.Mathlib.Omega.{arith}
 use Rattle.bench_words.specs.Words.{ascii}
-use Rattle.layers_shown.specs.Shown.{noSave}
+use Rattle.layers.specs.Shown.{noSave}
 use borrow.Author.Needs.{needs}
-use Rattle.layers_shown.proofs.put_refused.Statement.{statement}
-use Rattle.layers_shown.proofs.put_refused.Tie as tie
+use Rattle.layers.proofs.put_refused.Statement.{statement}
+use Rattle.layers.proofs.put_refused.Tie as tie
 
 slice-aggregate-put-count : tie.Need-slice-aggregate-put-count
 slice-aggregate-put-count c = search needs

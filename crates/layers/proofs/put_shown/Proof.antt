@@ -1,9 +1,9 @@
 use native.Mathlib.Omega.{arith}
 use mathlib.Core.Path.{sym, _∙_}
 use borrow.Author.Needs.{needs}
-use Rattle.layers_shown.proofs.Printed.{taken-named, shown-old, shown-new, shown-none}
-use Rattle.layers_shown.proofs.put_shown.Statement.{statement}
-use Rattle.layers_shown.proofs.put_shown.Tie as tie
+use Rattle.layers.proofs.Printed.{taken-named, shown-old, shown-new, shown-none}
+use Rattle.layers.proofs.put_shown.Statement.{statement}
+use Rattle.layers.proofs.put_shown.Tie as tie
 
 is-taken-requires : tie.Need-is-taken-requires
 is-taken-requires c κs = search needs

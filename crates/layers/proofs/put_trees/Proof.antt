@@ -8,10 +8,10 @@ use Rattle.memory.proofs.Memory.{trees-length}
 use Rattle.bench_lines.specs.Text.{Adds}
 use Rattle.bench_lines.proofs.Text.{adds-none, adds-then}
 use Rattle.layers_text.specs.TreeText.{lineSpace}
-use Rattle.layers_shown.specs.Shown.{treesText}
-use Rattle.layers_shown.proofs.Printed.{trees-more, table-whole}
-use Rattle.layers_shown.proofs.put_trees.Statement.{statement}
-use Rattle.layers_shown.proofs.put_trees.Tie as tie
+use Rattle.layers.specs.Shown.{treesText}
+use Rattle.layers.proofs.Printed.{trees-more, table-whole}
+use Rattle.layers.proofs.put_trees.Statement.{statement}
+use Rattle.layers.proofs.put_trees.Tie as tie
 
 abbrev Inv-loop : tie.InvT-loop
 Inv-loop text₀ numbers names n at₀ i₀ text at i = (i ≤ n) × (length text ≡ length text₀) × (at ≤ lineSpace * i) × Adds (treesText (cardOf numbers names) (take i (cardOf numbers names .trees))) text₀ text 0 at

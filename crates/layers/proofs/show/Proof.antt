@@ -5,9 +5,9 @@ use lib.Seq.{length-take-le}
 use Rattle.meaning.specs.Save.{new, saveLimit}
 use borrow.Author.Needs.{needs}
 use Rattle.bench_words.proofs.Words.{hex-short}
-use Rattle.layers_shown.proofs.Printed.{shown-hex, shown-other}
-use Rattle.layers_shown.proofs.show.Statement.{statement}
-use Rattle.layers_shown.proofs.show.Tie as tie
+use Rattle.layers.proofs.Printed.{shown-hex, shown-other}
+use Rattle.layers.proofs.show.Statement.{statement}
+use Rattle.layers.proofs.show.Tie as tie
 
 hex-end-requires : tie.Need-hex-end-requires
 hex-end-requires c κs = search needs

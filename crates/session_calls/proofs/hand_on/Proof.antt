@@ -1,9 +1,9 @@
--- `session_serve::hand_on` meets its contract. Assumes nothing.
+-- `session_calls::hand_on` meets its contract. Assumes nothing.
 use native.Mathlib.Omega.{arith}
-use Rattle.session_serve.proofs.Serving.{message-ends, message-does}
+use Rattle.session_calls.proofs.Serving.{message-ends, message-does}
 use borrow.Author.Needs.{needs}
-use Rattle.session_serve.proofs.hand_on.Statement.{statement}
-use Rattle.session_serve.proofs.hand_on.Tie as tie
+use Rattle.session_calls.proofs.hand_on.Statement.{statement}
+use Rattle.session_calls.proofs.hand_on.Tie as tie
 
 left-of-requires : tie.Need-left-of-requires
 left-of-requires c κs = search needs

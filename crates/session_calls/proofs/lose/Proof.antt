@@ -1,9 +1,9 @@
--- `session_state::lose` meets its contract. Assumes nothing.
+-- `session_calls::lose` meets its contract. Assumes nothing.
 use mathlib.Core.Path.{refl}
 use Rattle.meaning_laws.specs.Handed.{handed, handed-count}
 use borrow.Author.Needs.{needs}
-use Rattle.session_state.proofs.lose.Statement.{statement}
-use Rattle.session_state.proofs.lose.Tie as tie
+use Rattle.session_calls.proofs.lose.Statement.{statement}
+use Rattle.session_calls.proofs.lose.Tie as tie
 
 lose-core-requires : tie.Need-lose-core-requires
 lose-core-requires c κs = search needs

@@ -1,8 +1,8 @@
--- `session_state::lose_core` meets its contract: taken, and refused. Assumes nothing.
-use Rattle.session_state.proofs.Losing.{emptied, untouched}
+-- `session_calls::lose_core` meets its contract: taken, and refused. Assumes nothing.
+use Rattle.session_calls.proofs.Losing.{emptied, untouched}
 use borrow.Author.Needs.{needs}
-use Rattle.session_state.proofs.lose_core.Statement.{statement}
-use Rattle.session_state.proofs.lose_core.Tie as tie
+use Rattle.session_calls.proofs.lose_core.Statement.{statement}
+use Rattle.session_calls.proofs.lose_core.Tie as tie
 
 lost-core-requires : tie.Need-lost-core-requires
 lost-core-requires c κs = search needs

@@ -1,9 +1,9 @@
--- `session_serve::serve` meets its contract. Assumes nothing.
+-- `session_calls::serve` meets its contract. Assumes nothing.
 use mathlib.Core.Path.{refl}
-use Rattle.session_serve.proofs.Serving.{handed-over, handed-over-count}
+use Rattle.session_calls.proofs.Serving.{handed-over, handed-over-count}
 use borrow.Author.Needs.{needs}
-use Rattle.session_serve.proofs.serve.Statement.{statement}
-use Rattle.session_serve.proofs.serve.Tie as tie
+use Rattle.session_calls.proofs.serve.Statement.{statement}
+use Rattle.session_calls.proofs.serve.Tie as tie
 
 serve-core-requires : tie.Need-serve-core-requires
 serve-core-requires c κs = search needs

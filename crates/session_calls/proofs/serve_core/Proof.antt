@@ -1,8 +1,8 @@
--- `session_serve::serve_core` meets its contract: 1, the two of 20, and the call. Assumes nothing.
-use Rattle.session_serve.proofs.Serving.{serves-far, serves-little, serves-short, serves-accepted}
+-- `session_calls::serve_core` meets its contract: 1, the two of 20, and the call. Assumes nothing.
+use Rattle.session_calls.proofs.Serving.{serves-far, serves-little, serves-short, serves-accepted}
 use borrow.Author.Needs.{needs}
-use Rattle.session_serve.proofs.serve_core.Statement.{statement}
-use Rattle.session_serve.proofs.serve_core.Tie as tie
+use Rattle.session_calls.proofs.serve_core.Statement.{statement}
+use Rattle.session_calls.proofs.serve_core.Tie as tie
 
 returns : tie.Need-returns
 returns c = serves-far _ _ _ _ _ _ _ _ (c .if1 .taken)

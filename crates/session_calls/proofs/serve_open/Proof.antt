@@ -1,12 +1,12 @@
--- `session_serve::serve_open` meets its contract: no message, a message and the stream stops, a message and it goes on. Assumes nothing.
+-- `session_calls::serve_open` meets its contract: no message, a message and the stream stops, a message and it goes on. Assumes nothing.
 use native.Mathlib.Omega.{arith}
 use mathlib.Core.Path.{sym, ap, _∙_}
 use Rattle.meaning.specs.Lists.{positive}
 use Rattle.session.specs.Stream.{isStopped}
-use Rattle.session_serve.proofs.Serving.{serves-none, serves-message, eaten-stopped, eaten-going}
+use Rattle.session_calls.proofs.Serving.{serves-none, serves-message, eaten-stopped, eaten-going}
 use borrow.Author.Needs.{needs}
-use Rattle.session_serve.proofs.serve_open.Statement.{statement}
-use Rattle.session_serve.proofs.serve_open.Tie as tie
+use Rattle.session_calls.proofs.serve_open.Statement.{statement}
+use Rattle.session_calls.proofs.serve_open.Tie as tie
 
 offer-requires : tie.Need-offer-requires
 offer-requires c κs = search needs

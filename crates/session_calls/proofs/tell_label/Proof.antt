@@ -1,12 +1,12 @@
--- `session_serve::tell_label` meets its contract. Assumes nothing.
+-- `session_calls::tell_label` meets its contract. Assumes nothing.
 use mathlib.Core.Path.{sym}
 use lib.Seq.{length-take-le}
 use denote.Ref.{now}
 use Rattle.session.specs.Session.{messageRoom}
-use Rattle.session_serve.proofs.Serving.{front-does}
+use Rattle.session_calls.proofs.Serving.{front-does}
 use borrow.Author.Needs.{needs}
-use Rattle.session_serve.proofs.tell_label.Statement.{statement}
-use Rattle.session_serve.proofs.tell_label.Tie as tie
+use Rattle.session_calls.proofs.tell_label.Statement.{statement}
+use Rattle.session_calls.proofs.tell_label.Tie as tie
 
 slice-relend-prefix-receive-core : tie.Need-slice-relend-prefix-receive-core
 slice-relend-prefix-receive-core c = search needs

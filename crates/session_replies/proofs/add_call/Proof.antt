@@ -1,9 +1,9 @@
 use native.Mathlib.Omega.{arith}
 use Rattle.bench_lines.proofs.Text.{adds-then}
-use Rattle.session_turns.specs.Turns.{callText}
+use Rattle.session_replies.specs.Turns.{callText}
 use borrow.Author.Needs.{needs}
-use Rattle.session_turns.proofs.add_call.Statement.{statement}
-use Rattle.session_turns.proofs.add_call.Tie as tie
+use Rattle.session_replies.proofs.add_call.Statement.{statement}
+use Rattle.session_replies.proofs.add_call.Tie as tie
 
 slice-aggregate-add : tie.Need-slice-aggregate-add
 slice-aggregate-add c = search needs

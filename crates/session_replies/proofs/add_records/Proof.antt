@@ -1,9 +1,9 @@
 use native.Mathlib.Omega.{arith}
 use Rattle.bench_lines.proofs.Text.{adds-none, adds-then}
-use Rattle.session_turns.proofs.Telling.{colon-none, colon-some}
+use Rattle.session_replies.proofs.Telling.{colon-none, colon-some}
 use borrow.Author.Needs.{needs}
-use Rattle.session_turns.proofs.add_records.Statement.{statement}
-use Rattle.session_turns.proofs.add_records.Tie as tie
+use Rattle.session_replies.proofs.add_records.Statement.{statement}
+use Rattle.session_replies.proofs.add_records.Tie as tie
 
 returns : tie.Need-returns
 returns c = (rw (colon-none (c .before .before .before .args .records .now) (c .if1 .taken)) (adds-none _ _), omega arith)

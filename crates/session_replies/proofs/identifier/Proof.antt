@@ -1,8 +1,8 @@
 use mathlib.Core.Path.{refl}
-use Rattle.session_turns.specs.Turns.{identifier}
+use Rattle.session_replies.specs.Turns.{identifier}
 use borrow.Author.Needs.{needs}
-use Rattle.session_turns.proofs.identifier.Statement.{statement}
-use Rattle.session_turns.proofs.identifier.Tie as tie
+use Rattle.session_replies.proofs.identifier.Statement.{statement}
+use Rattle.session_replies.proofs.identifier.Tie as tie
 
 cast-t3 : tie.Need-cast-t3
 cast-t3 c = search needs

@@ -1,7 +1,7 @@
-use Rattle.session_turns.proofs.Telling.{last-far, last-little, last-over, last-not}
+use Rattle.session_replies.proofs.Telling.{last-far, last-little, last-over, last-not}
 use borrow.Author.Needs.{needs}
-use Rattle.session_turns.proofs.is_last.Statement.{statement}
-use Rattle.session_turns.proofs.is_last.Tie as tie
+use Rattle.session_replies.proofs.is_last.Statement.{statement}
+use Rattle.session_replies.proofs.is_last.Tie as tie
 
 returns : tie.Need-returns
 returns c = last-far _ _ _ (c .if1 .taken)

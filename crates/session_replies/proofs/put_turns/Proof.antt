@@ -1,4 +1,4 @@
--- `session_turns::put_turns` meets its contract: call after call. Assumes nothing.
+-- `session_replies::put_turns` meets its contract: call after call. Assumes nothing.
 use Prim.Native.Nat.{_-_}
 use native.Mathlib.Omega.{arith}
 use mathlib.Core.Path.{_≡_, refl}
@@ -6,11 +6,11 @@ use lib.ListN.{length}
 use Rattle.card.specs.Table.{cardOf}
 use Rattle.session.specs.Lent.{streamOf, lent-fits}
 use Rattle.bench_words.specs.Words.{ascii}
-use Rattle.session_turns.specs.Turns.{turns}
-use Rattle.session_turns.proofs.Telling.{Goes, goes-start, goes-last, goes-on, goes-out}
+use Rattle.session_replies.specs.Turns.{turns}
+use Rattle.session_replies.proofs.Telling.{Goes, goes-start, goes-last, goes-on, goes-out}
 use borrow.Author.Needs.{needs}
-use Rattle.session_turns.proofs.put_turns.Statement.{statement}
-use Rattle.session_turns.proofs.put_turns.Tie as tie
+use Rattle.session_replies.proofs.put_turns.Statement.{statement}
+use Rattle.session_replies.proofs.put_turns.Tie as tie
 
 abbrev Inv-loop : tie.InvT-loop
 Inv-loop numbers₀ names₀ stream₀ buffer₀ neighbour octets room text₀ at₀ from₀ left₀ t14 t15 numbers names stream buffer text at from left =

@@ -1,11 +1,11 @@
 use Rattle.card.specs.Table.{cardOf}
 use Rattle.session.specs.Lent.{streamOf}
--- `session_turns::turn` meets its contract: one call, and its text. Assumes nothing.
-use Rattle.session_turns.specs.Less.{called-leaves}
-use Rattle.session_turns.proofs.Telling.{turn-hands, turn-text, turn-within, turn-did}
+-- `session_replies::turn` meets its contract: one call, and its text. Assumes nothing.
+use Rattle.session_replies.specs.Less.{called-leaves}
+use Rattle.session_replies.proofs.Telling.{turn-hands, turn-text, turn-within, turn-did}
 use borrow.Author.Needs.{needs}
-use Rattle.session_turns.proofs.turn.Statement.{statement}
-use Rattle.session_turns.proofs.turn.Tie as tie
+use Rattle.session_replies.proofs.turn.Statement.{statement}
+use Rattle.session_replies.proofs.turn.Tie as tie
 
 identifier-requires : tie.Need-identifier-requires
 identifier-requires c κs = search needs
