@@ -6,7 +6,7 @@ use mathlib.Core.List.{List, [], _∷_, _++_}
 use lib.ListN.{length, take}
 use Rattle.meaning.specs.Octets.{pick}
 use Rattle.meaning.specs.Card.{Branch, Feed}
-use Rattle.meaning.specs.Save.{new, saveLimit}
+use Rattle.meaning_save.specs.Save.{new, saveLimit}
 use Rattle.bench_words.specs.Words.{ascii, numeral, hexOf}
 
 -- the space of a line's text: the digits of the longest save, and what stands around them

@@ -4,7 +4,7 @@ ghost use mathlib.Core.Path.{_≡_};
 ghost use mathlib.Core.List.{[], _∷_};
 ghost use lib.ListN.{length, take};
 ghost use Rattle.meaning.specs.Card.{branchesFrom};
-ghost use Rattle.meaning.specs.Save.{new, saveLimit};
+ghost use Rattle.meaning_save.specs.Save.{new, saveLimit};
 ghost use Rattle.bench_words.specs.Words.{numeral, hexOf};
 ghost use Rattle.meaning.specs.Calls.{feedIn};
 ghost use Rattle.bench_lines.specs.Text.{countLine, recordsText, eventLine, branchesText, leafText, feedLine, Adds, textSpace};

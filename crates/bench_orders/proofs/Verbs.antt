@@ -10,7 +10,7 @@ use denote.Enum.Declared.{tagOf}
 use types.Run.{OneOf, miss}
 use Rattle.meaning.specs.Octets.{pick}
 use Rattle.meaning.specs.Lists.{by-test}
-use Rattle.meaning.specs.Save.{Form, old, new, formOf, saveLimit}
+use Rattle.meaning_save.specs.Save.{Form, old, new, formOf, saveLimit}
 use Rattle.bench_words.specs.Words.{part, isHexTo, isHex, isNumber, octetsOf}
 use Rattle.bench_verbs.specs.Line.{isSaveHex, Said, withNumber, withHex, withSave, withNumberHex, withHexNumber, withNumbersHex, withTwoHex, withThreeHex, withNumberTwoHex, does}
 use Rattle.bench_orders.specs.Tells.{meant, Lies, SaveLies, Tells}

@@ -3,7 +3,7 @@ use Prim.Native.Nat.{ℕ, _+_, _≤_, _*_}
 use mathlib.Core.Path.{_≡_}
 use mathlib.Core.List.{List}
 use lib.ListN.{length}
-use Rattle.meaning.specs.Save.{Form, formOf, saveLimit}
+use Rattle.meaning_save.specs.Save.{Form, formOf, saveLimit}
 use Rattle.bench_words.specs.Words.{part, octetsOf}
 use Rattle.bench_verbs.specs.Line.{Said, nothing, bad, start, room, take, join, leave, route, label, tree, free, notice, save, restore, lost, moves, layers, wrap, unwrap, plan, vet}
 use Rattle.bench_orders.specs.declared.Order.{Order}

@@ -8,7 +8,7 @@ ghost use Rattle.bench_words.specs.Scan.{numberIn};
 ghost use Rattle.bench_words.specs.declared.Number.{Number};
 ghost use Rattle.bench_verbs.specs.Line.{isSaveHex, Said, withSave, withThreeHex, withNumberTwoHex, restore, moves, does, orderOf};
 ghost use Rattle.meaning.specs.Octets.{pick};
-ghost use Rattle.meaning.specs.Save.{formOf};
+ghost use Rattle.meaning_save.specs.Save.{formOf};
 ghost use Rattle.bench_orders.specs.Tells.{Tells};
 ghost use Rattle.bench_orders.specs.Scan.{asNumber, asHex};
 use bench_verbs::Verb;

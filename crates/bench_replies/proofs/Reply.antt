@@ -13,7 +13,7 @@ use Rattle.meaning.specs.Wire.{records}
 use Rattle.meaning.specs.Card.{Card, Feed, sentLimit}
 use Rattle.meaning.specs.Events.{Out, Outcome, refused, taken, refuse, accept, roomShort, noNeighbour, finish, Event, outcome, event}
 use Rattle.meaning.specs.Notice.{noticeDue, noticeRecord, notice}
-use Rattle.meaning.specs.Save.{Form, new, saved, save, fitsSave, saveLimit}
+use Rattle.meaning_save.specs.Save.{Form, new, saved, save, fitsSave, saveLimit}
 use Rattle.meaning.specs.Calls.{Hands}
 use Rattle.bench_words.specs.Words.{Puts}
 use Rattle.bench_orders.specs.Tells.{meant, Lies, SaveLies, InLine}

@@ -8,7 +8,7 @@ use Rattle.meaning.specs.Wire.{nameLimit}
 use Rattle.meaning.specs.Card.{Card, freeLabels, lookupLabel, lookupName, sentLimit}
 use Rattle.meaning.specs.Events.{Out, start, event, receive, join, leave, route, lost}
 use Rattle.meaning.specs.Notice.{notice}
-use Rattle.meaning.specs.Save.{Form, old, new, save, restore, Moved, move, saveLimit}
+use Rattle.meaning_save.specs.Save.{Form, old, new, save, restore, Moved, move, saveLimit}
 use Rattle.meaning_layers.specs.Layers.{read, wrap, unwrap}
 use Rattle.meaning_plan.specs.PlanOctets.{checkedOctets, plannedOctets}
 use Rattle.bench_words.specs.Words.{ascii}

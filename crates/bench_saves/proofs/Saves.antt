@@ -11,7 +11,7 @@ use lib.Dec.{ltb}
 use Rattle.meaning.specs.Lists.{by-test}
 use Rattle.meaning.specs.Card.{Card}
 use Rattle.meaning.specs.Events.{Out, roomShort}
-use Rattle.meaning.specs.Save.{Form, old, new, formOf, saveLimit, saved, fitsSave, save, restore, tableIn, isSave, Moved, notMoved, move, newer, older}
+use Rattle.meaning_save.specs.Save.{Form, old, new, formOf, saveLimit, saved, fitsSave, save, restore, tableIn, isSave, Moved, notMoved, move, newer, older}
 use Rattle.meaning.specs.Calls.{Hands}
 use Rattle.save_mover.specs.Moves.{Gives}
 use Rattle.bench_words.specs.Words.{ascii}

@@ -4,7 +4,7 @@ ghost use mathlib.Core.List.{List};
 ghost use Prim.Native.Nat.{ℕ, _≤_, _*_};
 ghost use lib.ListN.{length, take};
 ghost use Rattle.meaning.specs.Card.{Card};
-ghost use Rattle.meaning.specs.Save.{old, new, formOf, saveLimit};
+ghost use Rattle.meaning_save.specs.Save.{old, new, formOf, saveLimit};
 ghost use Rattle.bench_lines.specs.Text.{textSpace, countLine, eventLine};
 ghost use Rattle.memory.specs.Memory.{cardOf};
 ghost use Rattle.bench_words.specs.Words.{octetsOf};

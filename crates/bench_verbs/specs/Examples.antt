@@ -6,7 +6,7 @@ use mathlib.Core.List.{[], _∷_, _++_}
 use lib.ListN.{replicate}
 use Rattle.meaning.specs.Octets.{same, all}
 use Rattle.bench_words.specs.Words.{ascii, uncommented, lengthen, pieces, filled, words, valueFrom, value, isNumber, digit, isHexTo, isHex, octetsOf}
-use Rattle.meaning.specs.Save.{old, new, formOf}
+use Rattle.meaning_save.specs.Save.{old, new, formOf}
 use Rattle.bench_verbs.specs.Line.{isSaveHex, Said, planVerb, layerVerb, saveVerb, requestedVerb, verbOf, withNumber, withHex, withSave, withNumberHex, withHexNumber, withNumbersHex, withTwoHex, withThreeHex, withNumberTwoHex, does, saidBy, orderOf}
 use Rattle.bench_verbs.specs.Limits.{spaces-short, spaces-long, hex-taken, hex-refused, save-taken, save-refused, join-order, restore-order, second-order, older-order}
 

@@ -7,7 +7,7 @@ use mathlib.Core.List.{List, [], _∷_, _++_}
 use lib.ListN.{length, replicate, length-append, length-replicate}
 use borrow.Author.Tests.{le-leb, lt-leb}
 use Rattle.meaning.specs.Octets.{same, all}
-use Rattle.meaning.specs.Save.{Form, old, new, formOf, saveLimit}
+use Rattle.meaning_save.specs.Save.{Form, old, new, formOf, saveLimit}
 use Rattle.bench_words.specs.Words.{ascii, isHexDigit, uncommented, lengthen, pieces, filled, words, digit, isHexTo, isHex, octetsOf}
 use Rattle.bench_verbs.specs.Line.{Said, saveVerb, requestedVerb, verbOf, isSaveHex, withHex, withSave, does, saidBy, lineLimit, orderOf}
 

@@ -5,7 +5,7 @@ use mathlib.Core.List.{List, [], _∷_}
 use lib.ListN.{length}
 use lib.Dec.{leb}
 use Rattle.meaning.specs.Octets.{pick, same}
-use Rattle.meaning.specs.Save.{Form, formOf, saveLimit}
+use Rattle.meaning_save.specs.Save.{Form, formOf, saveLimit}
 use Rattle.bench_words.specs.Words.{ascii, words, value, isNumber, isHexTo, isHex, octetsOf}
 use Rattle.bench_verbs.specs.declared.Verb.{Verb}
 

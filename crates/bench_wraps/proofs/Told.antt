@@ -8,7 +8,7 @@ use lib.Dec.{eqb}
 use borrow.Author.Tests.{eq-eqb, ne-eqb, eqb-true}
 use Rattle.meaning.specs.Wire.{rootIn, opaqueIn, nameLimit, rootLimit}
 use Rattle.meaning.specs.Card.{Card}
-use Rattle.meaning.specs.Save.{new, saveLimit}
+use Rattle.meaning_save.specs.Save.{new, saveLimit}
 use Rattle.meaning.specs.Lists.{by-test}
 use Rattle.meaning_laws.specs.RoundTrip.{whole}
 use Rattle.meaning_layers.specs.Layers.{eightIn, eightKind, eightSize, beforeInner, innerOf, layerOf, read, wrapRefusal, wrap, unwrapRefusal, unwrap}

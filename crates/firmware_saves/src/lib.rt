@@ -2,7 +2,7 @@
 // any content; the second call of each is for the new form. And a save from one form to the other, with no card.
 ghost use mathlib.Core.Path.{_≡_};
 ghost use lib.ListN.{length};
-ghost use Rattle.meaning.specs.Save.{old, new, save, restore, newer, older};
+ghost use Rattle.meaning_save.specs.Save.{old, new, save, restore, newer, older};
 ghost use Rattle.meaning.specs.Calls.{Does};
 ghost use Rattle.memory.specs.Memory.{cardOf};
 ghost use Rattle.save_mover.specs.Moves.{Moves};

@@ -10,7 +10,7 @@ use lib.Seq.{take-all, take-at, take-suc}
 use borrow.Author.Tests.{eq-eqb, ne-eqb}
 use Rattle.meaning.specs.Lists.{append-nil}
 use Rattle.meaning.specs.Card.{Tree, Card, treeAt, bare}
-use Rattle.meaning.specs.Save.{Form, old, new, formOf, saveLimit, tableIn, isSave, isTree}
+use Rattle.meaning_save.specs.Save.{Form, old, new, formOf, saveLimit, tableIn, isSave, isTree}
 use Rattle.meaning_laws.specs.SaveLists.{tree-ok}
 use Rattle.meaning_laws.specs.SaveLaws.{ruled-keeps, taken-is-save}
 use Rattle.meaning_laws.specs.SaveRules.{all-at, Rules, rules}

@@ -8,7 +8,7 @@ use lib.Dec.{eqb}
 use Rattle.meaning.specs.Octets.{pick}
 use Rattle.meaning.specs.Wire.{elementRefusal}
 use Rattle.meaning.specs.Card.{Tree, Card, treeAt, treeLimit}
-use Rattle.meaning.specs.Save.{old, new, saveLimit, tableIn, isSave}
+use Rattle.meaning_save.specs.Save.{old, new, saveLimit, tableIn, isSave}
 use Rattle.bench_words.specs.Words.{ascii, isHexTo, octetsOf}
 use Rattle.bench_lines.specs.Text.{countLine}
 use Rattle.layers_text.specs.TreeText.{treeLine, lineSpace}

@@ -2,7 +2,7 @@
 ghost use mathlib.Core.Path.{_≡_};
 ghost use Prim.Native.Nat.{_*_, _≤_};
 ghost use lib.ListN.{length, take};
-ghost use Rattle.meaning.specs.Save.{new, saveLimit};
+ghost use Rattle.meaning_save.specs.Save.{new, saveLimit};
 ghost use Rattle.memory.specs.Sizes.{Numbers, Names};
 ghost use Rattle.memory.specs.Memory.{cardOf};
 ghost use Rattle.bench_words.specs.Words.{octetsOf};

@@ -459,7 +459,7 @@ endRows =
 
 -- ---- the longest names
 
--- n trees of a 16-octet root with the longest names, the k-th first, each with a leaf and a label; meaning_longest and meaning_saves have tables of them
+-- n trees of a 16-octet root with the longest names, the k-th first, each with a leaf and a label; meaning_longest and meaning_save_rows have tables of them
 unfoldable pub load : ℕ → ℕ → List Tree
 load zero k = []
 load (suc n) k = record { name = element 2 (replicate 16 32) (k ∷ (two 125 ++ replicate 125 0)); branches = replicate 16 0; leaf = true; label = 16 + k } ∷ load n (suc k)

@@ -10,6 +10,3 @@ pub mod Whole
 pub mod Calls
 pub mod Notice
 pub mod NoticeExamples
-pub mod Save
-pub mod SaveExample
-pub mod SaveRows

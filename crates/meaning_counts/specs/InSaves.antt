@@ -8,8 +8,8 @@ use Rattle.meaning.specs.Octets.{same}
 use Rattle.meaning.specs.Card.{Route, Card, fresh, withRoutes}
 use Rattle.meaning.specs.Computing.{computing}
 use Rattle.meaning.specs.Examples.{A, heard}
-use Rattle.meaning.specs.Save.{old, new, saved, restore, keepsRules}
-use Rattle.meaning.specs.SaveExample.{computingSaves, B, after, swapped, headOf, routeA, treeA, treeB, label16, label17, example}
+use Rattle.meaning_save.specs.Save.{old, new, saved, restore, keepsRules}
+use Rattle.meaning_save.specs.SaveExample.{computingSaves, B, after, swapped, headOf, routeA, treeA, treeB, label16, label17, example}
 use Rattle.meaning_counts.specs.Rows.{counts}
 
 -- other counts than there are

@@ -6,7 +6,7 @@ use Rattle.meaning.specs.Octets.{pick, same}
 use Rattle.meaning.specs.Card.{Card, Route, Tree, Use, free, mapped, awaiting}
 use Rattle.meaning.specs.Events.{event}
 use Rattle.meaning.specs.Examples.{Row, agrees}
-use Rattle.meaning.specs.Save.{allWorkedOut}
+use Rattle.meaning_save.specs.Save.{allWorkedOut}
 
 -- a row of the examples, and every field of the card that its event leaves
 pub record Whole : Type 0 where

@@ -7,9 +7,9 @@ use Rattle.meaning.specs.Computing.{computing}
 use Rattle.meaning.specs.Card.{Card}
 use Rattle.meaning.specs.Events.{Event, receive, join, leave, route, start}
 use Rattle.meaning.specs.Examples.{NoneWrong}
-use Rattle.meaning.specs.Save.{old, saved}
-use Rattle.meaning.specs.SaveExample.{computingSaves, after}
-use Rattle.meaning.specs.SaveRows.{Row, takes, refuses, right}
+use Rattle.meaning_save.specs.Save.{old, saved}
+use Rattle.meaning_save.specs.SaveExample.{computingSaves, after}
+use Rattle.meaning_save.specs.SaveRows.{Row, takes, refuses, right}
 
 -- events, the save of the card that they lead to, and spoiled octets
 pub record Step : Type 0 where

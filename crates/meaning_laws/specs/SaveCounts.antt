@@ -13,7 +13,7 @@ use Rattle.meaning.specs.Card.{Route, Tree, Card, routePlace, isFor, noEntry}
 use Rattle.meaning.specs.Events.{total, inRoot, oneStanding, oneLone, workedOut, entryOf}
 use Rattle.meaning_laws.specs.Counts.{plain, plains, Counted, new-counted}
 use Rattle.meaning_laws.specs.RoundTrip.{both}
-use Rattle.meaning.specs.Save.{Form, old, new, ruled, rowsRuled, allWorkedOut, tableIn, isCounted, countsRight, keepsRows, keepsRules}
+use Rattle.meaning_save.specs.Save.{Form, old, new, ruled, rowsRuled, allWorkedOut, tableIn, isCounted, countsRight, keepsRows, keepsRules}
 use Rattle.meaning_laws.specs.SaveFields.{all-cons}
 use Rattle.meaning_laws.specs.SaveRules.{all-at, all-of}
 

@@ -18,7 +18,7 @@ use Rattle.meaning_laws.specs.Counts.{plain}
 use Rattle.meaning_laws.specs.WireLaws.{element-family}
 use Rattle.meaning_laws.specs.RoundTrip.{both, Whole, whole, root-size, element-parts, name-fits}
 use Rattle.meaning_laws.specs.NoticeLaws.{four-back}
-use Rattle.meaning.specs.Save.{Form, old, new, treeKind, useKind, savedOpaque, spacedName, routeSize, treeBeside, useBeside, isShort, padded, spaced, nameSaved, marked, routeSaved, foursOf, treeSaved, spacedIn, nameIn, extent, routeRead, foursIn, treeRead, treeEnd, useRead, useEnd, isBranchLabel}
+use Rattle.meaning_save.specs.Save.{Form, old, new, treeKind, useKind, savedOpaque, spacedName, routeSize, treeBeside, useBeside, isShort, padded, spaced, nameSaved, marked, routeSaved, foursOf, treeSaved, spacedIn, nameIn, extent, routeRead, foursIn, treeRead, treeEnd, useRead, useEnd, isBranchLabel}
 
 pub all-cons {ℓ} : {A : Type ℓ} (t : A → Bool) (x : A) (xs : List A) → all t (x ∷ xs) ≡ true → (t x ≡ true) × (all t xs ≡ true)
 unfolding all

@@ -17,7 +17,7 @@ use Rattle.meaning.specs.Card.{Route, Tree, Use, free, mapped, awaiting, withLa
 use Rattle.meaning.specs.Events.{notRoot}
 use Rattle.meaning_laws.specs.Counts.{plains}
 use Rattle.meaning_laws.specs.RoundTrip.{both}
-use Rattle.meaning.specs.Save.{Form, old, new, spacedName, routeSize, treeBeside, useBeside, isShort, isShortTree, isShortUse, routeSaved, treeSaved, useSaved, routesSaved, treesSaved, usesSaved, treeRead, treeEnd, useRead, useEnd, routesRead, treesRead, treesEnd, usesRead, isMappedFor, labelled, allLabelled, isName, isRoute, isBranchLabel, isTree, isUse}
+use Rattle.meaning_save.specs.Save.{Form, old, new, spacedName, routeSize, treeBeside, useBeside, isShort, isShortTree, isShortUse, routeSaved, treeSaved, useSaved, routesSaved, treesSaved, usesSaved, treeRead, treeEnd, useRead, useEnd, routesRead, treesRead, treesEnd, usesRead, isMappedFor, labelled, allLabelled, isName, isRoute, isBranchLabel, isTree, isUse}
 use Rattle.meaning_laws.specs.SaveFields.{all-cons, nameSize, name-most, name-room, route-length, route-back, tree-length, tree-after, tree-back, useRecord, use-length, use-label, use-after, use-back}
 
 -- ---- what the tests of one record tell

@@ -12,7 +12,7 @@ use Rattle.meaning.specs.Lists.{by-test}
 use Rattle.meaning.specs.Card.{Card, withLast}
 use Rattle.meaning.specs.Events.{Out, roomShort}
 use Rattle.meaning_laws.specs.RoundTrip.{both}
-use Rattle.meaning.specs.Save.{Form, old, new, headKind, fitsSave, marked, headSaved, saved, settled, carriedBy, lastIn, tableIn, keepsRules, lastRight, ruled, isSave, restore, Moved, notMoved, move, newer, older}
+use Rattle.meaning_save.specs.Save.{Form, old, new, headKind, fitsSave, marked, headSaved, saved, settled, carriedBy, lastIn, tableIn, keepsRules, lastRight, ruled, isSave, restore, Moved, notMoved, move, newer, older}
 use Rattle.meaning_laws.specs.SaveRules.{rules}
 use Rattle.meaning_laws.specs.SaveLaws.{read-fits, fits-any, settled-right, read-back, save-taken, taken-is-save, restored, restore-taken}
 

@@ -8,7 +8,7 @@ use lib.ListN.{drop, getD, length, set}
 use lib.Seq.{drop-drop, getD-drop}
 use Rattle.meaning.specs.Octets.{fourAt}
 use Rattle.meaning.specs.Card.{Tree, Use}
-use Rattle.meaning.specs.Save.{Form, new, treeBeside, useBeside, extent, treeSaved, treesSaved, treeRead, treeEnd, treesRead, treesEnd, useSaved, usesSaved, useRead, useEnd, usesRead}
+use Rattle.meaning_save.specs.Save.{Form, new, treeBeside, useBeside, extent, treeSaved, treesSaved, treeRead, treeEnd, treesRead, treesEnd, useSaved, usesSaved, useRead, useEnd, usesRead}
 use Rattle.meaning_laws.specs.SaveFields.{nameSize}
 use Rattle.meaning_laws.specs.SaveLists.{treesSize, useSize, usesSize}
 

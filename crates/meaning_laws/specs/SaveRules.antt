@@ -14,7 +14,7 @@ use Rattle.meaning.specs.Lists.{by-test, picked, same-eq, same-refl, any-count,
 use Rattle.meaning.specs.Card.{Route, Tree, Use, free, Card, treeLimit, routeLimit, labelCount, isFor, named, bare, treeAt, heldFor}
 use Rattle.meaning.specs.Events.{baseOutside, holderOf}
 use Rattle.meaning_laws.specs.RoundTrip.{both}
-use Rattle.meaning.specs.Save.{onceEach, isRoute, sameRoot, isTree, sameName, isUse, isCarried, allCarried, carriesOwn, holdsRight, countsRight, keepsRows, keepsRules}
+use Rattle.meaning_save.specs.Save.{onceEach, isRoute, sameRoot, isTree, sameName, isUse, isCarried, allCarried, carriesOwn, holdsRight, countsRight, keepsRows, keepsRules}
 use Rattle.meaning_laws.specs.SaveFields.{all-cons}
 
 -- ---- every element

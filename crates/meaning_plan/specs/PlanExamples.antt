@@ -12,7 +12,7 @@ use Rattle.meaning.specs.Events.{join, route, event, start}
 use Rattle.meaning.specs.Computing.{computing}
 use Rattle.meaning.specs.Examples.{NoneWrong, heard}
 use Rattle.meaning.specs.Corners.{scarce, left}
-use Rattle.meaning.specs.Save.{padded, spaced, spacedIn}
+use Rattle.meaning_save.specs.Save.{padded, spaced, spacedIn}
 use Rattle.meaning_plan.specs.Plan.{Move, moveFor, Allowed, allowedFor, setOf, permits, goesBy, needList, mayHave, isMove, listedOnce, accepts, Verdict, refusal, rejected, accepted, checked, goesFirst, cheapest, choice, isBelow, isBefore, insert, asMove, through, chosen, proposal, isFound, Plan, refused, none, listed, planned, ordered, carriedOut, answers, isTaken, noRefusal, someThrough}
 use Rattle.meaning_plan.specs.PlanOctets.{spaceRoot, setIn, setsIn, allowedIn, entryOf, listOf, entryIn, entriesIn, isList, listIn, checkedOctets, plannedOctets}
 

@@ -13,7 +13,7 @@ use Rattle.meaning.specs.Octets.{pick, twoAt}
 use Rattle.meaning.specs.Wire.{rootLimit}
 use Rattle.meaning.specs.Card.{Card, routeLimit}
 use Rattle.meaning.specs.Events.{noNeighbour}
-use Rattle.meaning.specs.Save.{spaced, spacedIn}
+use Rattle.meaning_save.specs.Save.{spaced, spacedIn}
 use Rattle.meaning_laws.specs.SaveFields.{spaced-length, spaced-back}
 use Rattle.meaning_plan.specs.Plan.{Move, Allowed, accepts, Verdict, refusal, rejected, accepted, Plan, planned}
 

@@ -16,7 +16,7 @@ use Rattle.meaning.specs.Card.{Route, Card, routeOf, freeLabels}
 use Rattle.meaning.specs.Events.{needAll, noNeighbour}
 use Rattle.memory.specs.Memory.{rootName, routeIn, entryIn as rowIn}
 use Rattle.save_rules_rows.proofs.RowRules.{At}
-use Rattle.meaning.specs.Save.{spacedIn}
+use Rattle.meaning_save.specs.Save.{spacedIn}
 use Rattle.meaning_plan.specs.Plan.{Move, moveFor, Allowed, allowedFor, setOf, permits, goesBy, needList, mayHave, isMove, listedOnce, accepts, refusal, rejected, accepted}
 use Rattle.meaning_plan.specs.PlanOctets.{spaceRoot, setSize, setIn, allowedIn, entrySize, entryIn, isList, listIn, checkedOctets}
 use Rattle.meaning_plan.specs.Loops.{entries-length, entry-at, sets-length, set-at}

@@ -15,7 +15,7 @@ use Rattle.meaning.specs.Card.{Route, Card, freeLabels}
 use Rattle.meaning.specs.Events.{noNeighbour}
 use Rattle.meaning.specs.Lists.{by-test, picked}
 use Rattle.meaning.specs.Calls.{over}
-use Rattle.meaning.specs.Save.{spaced}
+use Rattle.meaning_save.specs.Save.{spaced}
 use Rattle.octets.specs.Part.{mid}
 use Rattle.octets.proofs.Tab.{tab-length}
 use Rattle.memory.specs.Memory.{upTo, textAt, rootName}

@@ -9,7 +9,7 @@ use Rattle.meaning.specs.Octets.{two, four, twoAt}
 use Rattle.meaning.specs.Wire.{nextId, messageIn, recordsF, recordsIn}
 use Rattle.meaning.specs.Card.{Card, withNext, treeOf, treePlace, treeAt, useOf, heldFor, freeLabels, routeOf, routePlace}
 use Rattle.meaning.specs.Events.{Out, refuse, accept, roomShort, noNeighbour, holderOf, start}
-use Rattle.meaning.specs.Save.{Form, saved, save, ruled, isSave, restore, fitsSave}
+use Rattle.meaning_save.specs.Save.{Form, saved, save, ruled, isSave, restore, fitsSave}
 use Rattle.meaning.specs.Notice.{noticeDue, noticeRecord, notice}
 use Rattle.meaning.specs.Lists.{picked}
 use Rattle.meaning_laws.specs.Counts.{Counted, counted-same}

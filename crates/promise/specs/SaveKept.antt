@@ -14,7 +14,7 @@ use Rattle.meaning.specs.Wire.{mapping, withdraw, messageIn, elementRefusal}
 use Rattle.meaning.specs.Card.{Tree, Use, free, mapped, awaiting, Card, fresh, withNext, bare, treeOf, treeAt, isBranch, isEmpty, useOf, withLast, treePlace, heldFor, freeLabels, routeOf, routePlace}
 use Rattle.meaning.specs.Events.{Out, refuse, accept, Event, receive, join, leave, route, baseOutside, start, holderOf, lost}
 use Rattle.meaning.specs.Lists.{by-test, picked, same-refl}
-use Rattle.meaning.specs.Save.{Form, old, new, isName, isBranchLabel, isTree, isUse, isCarried, isMappedFor, carriesOwn, keepsRules, saved, restore, fitsSave, settled, carriedBy, lastRight, ruled, tableIn, isSave, Moved, move}
+use Rattle.meaning_save.specs.Save.{Form, old, new, isName, isBranchLabel, isTree, isUse, isCarried, isMappedFor, carriesOwn, keepsRules, saved, restore, fitsSave, settled, carriedBy, lastRight, ruled, tableIn, isSave, Moved, move}
 use Rattle.meaning_laws.specs.SaveFields.{all-cons}
 use Rattle.meaning_laws.specs.RoundTrip.{both}
 use Rattle.meaning_laws.specs.SaveRules.{all-of, Rules, rules-kept}

@@ -15,7 +15,7 @@ use Rattle.meaning.specs.Lists.{by-test, picked, no-when}
 use Rattle.meaning_laws.specs.RoundTrip.{Heard, heard, Sendable, AllSendable}
 use Rattle.meaning_laws.specs.RoutesStay.{relabel-routes, part-routes}
 use Rattle.meaning_laws.specs.Counts.{plain, plains, recount-plain, without-plain}
-use Rattle.meaning.specs.Save.{isRoute}
+use Rattle.meaning_save.specs.Save.{isRoute}
 use Rattle.meaning_laws.specs.SaveFields.{all-cons}
 use Rattle.promise.specs.Promise.{Given, isAbout, mark, remove, noteSent, noteAll, noteTaken, Step, Past, answerTo, sends, isTaken, liveAt, acceptedAt, thenStep, thenSteps, Each, without}
 use Rattle.promise.specs.CardLaws.{swept-routes}

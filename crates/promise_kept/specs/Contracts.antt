@@ -14,7 +14,7 @@ use denote.Ref.{now}
 use Rattle.meaning.specs.Card.{freeLabels, lookupLabel, lookupName}
 use Rattle.meaning.specs.Events.{Event, receive, join, leave, route, lost, event, start}
 use Rattle.meaning.specs.Notice.{notice}
-use Rattle.meaning.specs.Save.{Form, old, new, formOf, save, restore, move, newer, older}
+use Rattle.meaning_save.specs.Save.{Form, old, new, formOf, save, restore, move, newer, older}
 use Rattle.meaning.specs.Calls.{Hands, feedIn}
 use Rattle.meaning_laws.specs.Handed.{handed}
 use Rattle.memory.specs.Memory.{cardOf}

@@ -14,7 +14,7 @@ use Rattle.meaning.specs.Card.{noEntry, Route, Card, noRoute, withNext, isFor, 
 use Rattle.meaning.specs.Events.{Out, accept, needAll, notRoot, route, event}
 use Rattle.meaning.specs.Lists.{by-test, picked, place-finds, place-count, place-only, getD-out, getD-same, same-eq, same-refl}
 use Rattle.meaning_laws.specs.RoundTrip.{both}
-use Rattle.meaning.specs.Save.{isRoute}
+use Rattle.meaning_save.specs.Save.{isRoute}
 use Rattle.meaning_laws.specs.SaveFields.{all-cons}
 use Rattle.meaning_laws.specs.SaveRules.{all-at}
 use Rattle.promise.specs.Promise.{Given}

@@ -10,7 +10,7 @@ use lib.Dec.{eqb}
 use borrow.Author.Tests.{eqb-true, not-false}
 use Rattle.meaning.specs.Card.{Card}
 use Rattle.meaning.specs.Events.{noNeighbour, notRoot}
-use Rattle.meaning.specs.Save.{keepsRules}
+use Rattle.meaning_save.specs.Save.{keepsRules}
 use Rattle.meaning_laws.specs.SaveLists.{either}
 use Rattle.meaning_laws.specs.SaveRules.{rules}
 use Rattle.meaning_plan.specs.Plan.{Move, accepted, listed}

@@ -14,7 +14,7 @@ use Rattle.meaning.specs.Card.{noEntry, Route, Card, routeOf, freeLabels, sentL
 use Rattle.meaning.specs.Events.{noNeighbour, needAll}
 use Rattle.meaning.specs.Lists.{by-test, picked}
 use Rattle.meaning_laws.specs.RoundTrip.{both}
-use Rattle.meaning.specs.Save.{keepsRules, lastRight}
+use Rattle.meaning_save.specs.Save.{keepsRules, lastRight}
 use Rattle.meaning_laws.specs.SaveRules.{all-at, all-of, rules}
 use Rattle.promise.specs.Promise.{Step, history}
 use Rattle.promise.specs.SaveKept.{history-keeps-rules, history-last}

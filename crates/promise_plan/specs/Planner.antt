@@ -14,7 +14,7 @@ use Rattle.meaning.specs.Card.{noEntry, Route, Card, isFor, routeOf, freeLabels
 use Rattle.meaning.specs.Events.{needAll}
 use Rattle.meaning.specs.Lists.{by-test, picked, place-finds, place-count, count-some, same-eq, same-refl}
 use Rattle.meaning_laws.specs.RoundTrip.{both}
-use Rattle.meaning.specs.Save.{isRoute}
+use Rattle.meaning_save.specs.Save.{isRoute}
 use Rattle.meaning_laws.specs.SaveFields.{all-cons}
 use Rattle.meaning_laws.specs.SaveRules.{all-at, all-of}
 use Rattle.meaning_plan.specs.Plan.{Move, moveFor, Allowed, goesBy, needList, mayHave, isMove, listedOnce, accepts, choice, asMove, through, chosen, proposal, isFound}

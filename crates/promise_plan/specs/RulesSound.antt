@@ -13,7 +13,7 @@ use Rattle.meaning.specs.Octets.{pick, count, all}
 use Rattle.meaning.specs.Card.{Tree, Use, free, mapped, awaiting, Card, bare, treePlace, treeOf, treeAt, isEmpty, isFree, useOf, freeLabels, labelCount}
 use Rattle.meaning.specs.Lists.{by-test, picked, same-eq, getD-out, append-nil}
 use Rattle.meaning_laws.specs.RoundTrip.{both}
-use Rattle.meaning.specs.Save.{isName, isBranchLabel, isTree, isUse, isCarried, isMappedFor, carriesOwn, lastRight}
+use Rattle.meaning_save.specs.Save.{isName, isBranchLabel, isTree, isUse, isCarried, isMappedFor, carriesOwn, lastRight}
 use Rattle.meaning_laws.specs.Standing.{standing-at, not-standing}
 use Rattle.meaning_laws.specs.SaveFields.{all-cons}
 use Rattle.meaning_laws.specs.SaveCounts.{right-counted}

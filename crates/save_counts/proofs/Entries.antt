@@ -14,7 +14,7 @@ use Rattle.meaning.specs.Lists.{by-test, place-finds, same-eq, same-refl, same-
 use Rattle.meaning.specs.Wire.{rootIn}
 use Rattle.meaning.specs.Card.{Route, Tree, Card, noEntry, withRoutes, isFor, isBranch, isEmpty, isLone, bare, treeAt, treeLimit}
 use Rattle.meaning.specs.Events.{ofRoot, total, inRoot, oneStanding, oneLone, workedOut, changed, recountedFor, recount, recounted}
-use Rattle.meaning.specs.Save.{onceEach, sameRoot, allWorkedOut}
+use Rattle.meaning_save.specs.Save.{onceEach, sameRoot, allWorkedOut}
 use Rattle.save_counts.specs.Counted.{counted}
 use Rattle.save_counts.proofs.Places.{one-changed}
 

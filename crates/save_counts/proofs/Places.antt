@@ -7,7 +7,7 @@ use Prim.Native.Nat.{ℕ}
 use lib.ListN.{getD, set}
 use Rattle.meaning.specs.Octets.{place, any, same}
 use Rattle.meaning.specs.Lists.{by-test, same-eq}
-use Rattle.meaning.specs.Save.{onceEach}
+use Rattle.meaning_save.specs.Save.{onceEach}
 use Rattle.memory.proofs.Marks.{never}
 
 module _ {A : Type 0} (key : A → List ℕ) (g : A → A) (a : List ℕ) (still : (x : A) → same (key x) a ≡ false → g x ≡ x) where

@@ -5,7 +5,7 @@ ghost use mathlib.Core.List.{[]};
 ghost use Prim.Native.Nat.{_<_};
 ghost use Rattle.meaning.specs.Card.{treeAt, bare, treeLimit};
 ghost use Rattle.meaning.specs.Events.{recounted};
-ghost use Rattle.meaning.specs.Save.{onceEach, sameRoot, allWorkedOut};
+ghost use Rattle.meaning_save.specs.Save.{onceEach, sameRoot, allWorkedOut};
 ghost use Rattle.memory.specs.Sizes.{Numbers, Names};
 ghost use Rattle.memory.specs.Memory.{cardOf, treeCount};
 ghost use Rattle.save_counts.specs.Counted.{counted};

@@ -12,7 +12,7 @@ use Rattle.meaning.specs.Lists.{by-test}
 use Rattle.meaning_laws.specs.RoundTrip.{both}
 use Rattle.meaning.specs.Events.{baseOutside}
 use Rattle.meaning.specs.Card.{Tree, Use, free, Card, withRoutes, withTrees, labelCount}
-use Rattle.meaning.specs.Save.{Form, new, formOf, lastPlace, routesRead, treesRead, treesEnd, usesRead, allLabelled, onceEach, sameName, sameRoot, keepsRules, tableIn, isSave, headSize, routeSize, countsRight, keepsRows}
+use Rattle.meaning_save.specs.Save.{Form, new, formOf, lastPlace, routesRead, treesRead, treesEnd, usesRead, allLabelled, onceEach, sameName, sameRoot, keepsRules, tableIn, isSave, headSize, routeSize, countsRight, keepsRows}
 use Rattle.meaning_laws.specs.SaveLaws.{Head, head-of-save, last-of-save, ruled-keeps, taken-is-save}
 use Rattle.memory.proofs.Marks.{never}
 use Rattle.save_rows.specs.Stages.{treesBegin, rowsRead}

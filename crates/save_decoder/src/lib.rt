@@ -4,7 +4,7 @@ ghost use mathlib.Core.Bool.{true, false};
 ghost use Prim.Native.Nat.{_≤_};
 ghost use lib.ListN.{getD};
 ghost use Rattle.meaning.specs.Octets.{fourAt};
-ghost use Rattle.meaning.specs.Save.{Form, formOf, lastPlace, onceEach, sameName, sameRoot, tableIn, isSave};
+ghost use Rattle.meaning_save.specs.Save.{Form, formOf, lastPlace, onceEach, sameName, sameRoot, tableIn, isSave};
 ghost use Rattle.meaning.specs.Card.{routeLimit, treeLimit};
 ghost use Rattle.memory.specs.Sizes.{Numbers, Names};
 ghost use Rattle.memory.specs.Memory.{cardOf};

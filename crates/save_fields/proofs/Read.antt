@@ -12,7 +12,7 @@ use borrow.Author.Tests.{ltb-true, ltb-false}
 use Rattle.meaning.specs.Octets.{pick, two, twoAt, fourAt}
 use Rattle.meaning.specs.Lists.{by-test, picked}
 use Rattle.meaning.specs.Wire.{element, rootLimit, nameLimit}
-use Rattle.meaning.specs.Save.{old, new, formOf, spacedIn, nameIn, extent, savedOpaque, spacedName}
+use Rattle.meaning_save.specs.Save.{old, new, formOf, spacedIn, nameIn, extent, savedOpaque, spacedName}
 use Rattle.meaning_laws.specs.SavePlaces.{extent-there}
 use Rattle.octets.specs.Part.{mid}
 use Rattle.octets.proofs.Parts.{mid-length}

@@ -6,7 +6,7 @@ ghost use lib.ListN.{length, take, drop};
 ghost use Rattle.meaning.specs.Octets.{pick, two, fourAt};
 ghost use Rattle.meaning.specs.Wire.{nameLimit};
 ghost use lib.Dec.{eqb};
-ghost use Rattle.meaning.specs.Save.{old, new, formOf, spacedIn, nameIn, extent, savedOpaque};
+ghost use Rattle.meaning_save.specs.Save.{old, new, formOf, spacedIn, nameIn, extent, savedOpaque};
 ghost use Rattle.memory.specs.Memory.{upTo};
 use meaning::NAME_LIMIT;
 use meaning::ROOT_LIMIT;

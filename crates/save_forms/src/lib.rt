@@ -2,7 +2,7 @@
 // the form is the new one.
 ghost use mathlib.Core.Path.{_≡_};
 ghost use Prim.Native.Nat.{_≤_};
-ghost use Rattle.meaning.specs.Save.{formOf, headKind, treeKind, useKind, headSize, lastPlace};
+ghost use Rattle.meaning_save.specs.Save.{formOf, headKind, treeKind, useKind, headSize, lastPlace};
 use meaning::LAST_END;
 use meaning::LAST_PLACE;
 

@@ -14,7 +14,7 @@ use Rattle.meaning.specs.Octets.{pick, place, any, same, twoAt, fourAt}
 use Rattle.meaning.specs.Lists.{by-test, place-finds, same-eq, same-refl, same-flip}
 use Rattle.meaning.specs.Card.{Route, Tree, Use, free, mapped, awaiting, Card, fresh, withNext, withRoutes, withTrees, withLabels, withLabel, bare, treeAt, treePlace, named, labelCount, withLast, isFree}
 use Rattle.meaning.specs.Events.{setLabel, total, workedOut}
-use Rattle.meaning.specs.Save.{Form, formOf, lastPlace, nameIn, extent, useRead, useEnd, usesRead, useBeside, isMappedFor, labelled, allLabelled, onceEach, sameName, sameRoot, allWorkedOut, routesRead, routeRead, headSize, routeSize, tableIn, highestUsed, lastIn}
+use Rattle.meaning_save.specs.Save.{Form, formOf, lastPlace, nameIn, extent, useRead, useEnd, usesRead, useBeside, isMappedFor, labelled, allLabelled, onceEach, sameName, sameRoot, allWorkedOut, routesRead, routeRead, headSize, routeSize, tableIn, highestUsed, lastIn}
 use Rattle.meaning_laws.specs.SavePlaces.{usesEnd, use-there, uses-end-more, uses-read-more}
 use Rattle.memory.specs.Memory.{cardOf, baseIn, treeCount, labelIn, labelName, isFreeAt, isMappedAt, labelBefore}
 use Rattle.memory.proofs.Memory.{base-range, trees-length, labels-length}

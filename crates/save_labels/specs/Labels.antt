@@ -7,7 +7,7 @@ use lib.ListN.{length}
 use lib.Dec.{eqb}
 use Rattle.meaning.specs.Octets.{pick}
 use Rattle.meaning.specs.Card.{Tree, Use, Card, withLabel, treeAt, labelCount}
-use Rattle.meaning.specs.Save.{isMappedFor}
+use Rattle.meaning_save.specs.Save.{isMappedFor}
 
 -- no tree carries a label
 abbrev pub Unlabelled : Card → Type 0

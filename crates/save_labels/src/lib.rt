@@ -8,7 +8,7 @@ ghost use Prim.Native.Nat.{ℕ, _+_, _-_, _<_};
 ghost use lib.ListN.{length, drop, set};
 ghost use Rattle.meaning.specs.Octets.{fourAt};
 ghost use Rattle.meaning.specs.Card.{withTrees, withLabels, withLast, treeAt, labelCount, treeLimit};
-ghost use Rattle.meaning.specs.Save.{formOf, lastPlace, useRead, usesRead, allLabelled, sameName, sameRoot, onceEach, tableIn, highestUsed, lastIn};
+ghost use Rattle.meaning_save.specs.Save.{formOf, lastPlace, useRead, usesRead, allLabelled, sameName, sameRoot, onceEach, tableIn, highestUsed, lastIn};
 ghost use Rattle.memory.specs.Sizes.{Numbers, Names};
 ghost use Rattle.memory.specs.Memory.{cardOf, baseIn, treeCount, labelIn, labelBefore};
 ghost use Rattle.save_tags.specs.Tags.{Tagged};

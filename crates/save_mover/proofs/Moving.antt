@@ -9,7 +9,7 @@ use Rattle.meaning.specs.Lists.{by-test}
 use Rattle.meaning.specs.Card.{Card}
 use Rattle.meaning.specs.Events.{roomShort, refuse}
 use Rattle.meaning.specs.Calls.{over, Does}
-use Rattle.meaning.specs.Save.{Form, old, new, formOf, saved, fitsSave, save, tableIn, isSave, Moved, notMoved, move, newer, older}
+use Rattle.meaning_save.specs.Save.{Form, old, new, formOf, saved, fitsSave, save, tableIn, isSave, Moved, notMoved, move, newer, older}
 use Rattle.save_mover.specs.Moves.{Moves, Gives}
 
 module _ (f g : Form) (room : ℕ) (o : List ℕ) where

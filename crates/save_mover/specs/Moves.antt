@@ -4,7 +4,7 @@ use Prim.Native.Nat.{ℕ}
 use mathlib.Core.Path.{_≡_, sym, _∙_}
 use mathlib.Core.List.{List}
 use lib.ListN.{length}
-use Rattle.meaning.specs.Save.{Moved}
+use Rattle.meaning_save.specs.Save.{Moved}
 use Rattle.meaning.specs.Calls.{over}
 
 -- A call with the outcome m gave this answer, wrote so many octets, and made `after` of the buffer `before`.

@@ -5,7 +5,7 @@ ghost use mathlib.Core.Path.{_≡_};
 ghost use mathlib.Core.Bool.{not};
 ghost use lib.ListN.{length};
 ghost use denote.Ref.{ptr};
-ghost use Rattle.meaning.specs.Save.{formOf, move, newer, older};
+ghost use Rattle.meaning_save.specs.Save.{formOf, move, newer, older};
 ghost use Rattle.save_mover.specs.Moves.{Moves, Gives};
 use meaning::SAVE_LIMIT;
 use memory::NUMBER_COUNT;

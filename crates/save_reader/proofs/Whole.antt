@@ -16,7 +16,7 @@ use Rattle.meaning.specs.Calls.{over}
 use Rattle.memory.specs.Memory.{cardOf, baseIn}
 use Rattle.memory.proofs.Memory.{base-range}
 use Rattle.save_records.proofs.Records.{last-none, last-some}
-use Rattle.meaning.specs.Save.{Form, new, formOf, saveLimit, keepsRows, keepsRules, lastRight, rowsRuled, saved, tableIn, isSave, restore}
+use Rattle.meaning_save.specs.Save.{Form, new, formOf, saveLimit, keepsRows, keepsRules, lastRight, rowsRuled, saved, tableIn, isSave, restore}
 use Rattle.meaning_laws.specs.SaveCounts.{read-ruled}
 use Rattle.meaning_laws.specs.SaveLaws.{ruled-keeps, saved-short}
 

@@ -5,7 +5,7 @@ ghost use mathlib.Core.List.{List};
 ghost use Prim.Native.Nat.{ℕ, _≤_};
 ghost use lib.ListN.{length};
 ghost use Rattle.meaning.specs.Octets.{same};
-ghost use Rattle.meaning.specs.Save.{new, formOf, saved, saveLimit, onceEach, sameName, sameRoot, keepsRules, tableIn, lastRight, rowsRuled, isSave, restore};
+ghost use Rattle.meaning_save.specs.Save.{new, formOf, saved, saveLimit, onceEach, sameName, sameRoot, keepsRules, tableIn, lastRight, rowsRuled, isSave, restore};
 ghost use Rattle.memory.specs.Sizes.{Numbers, Names};
 ghost use Rattle.memory.specs.Memory.{cardOf};
 use meaning::LABEL_COUNT;

@@ -7,7 +7,7 @@ use mathlib.Core.List.{List, [], _∷_, _++_}
 use lib.ListN.{length}
 use Rattle.meaning.specs.Octets.{two, four}
 use Rattle.meaning.specs.Card.{Use, free, mapped, awaiting, Card, isFree}
-use Rattle.meaning.specs.Save.{Form, old, new, nameSaved, marked, lastSaved, headSaved, useSaved, headSize, useBeside}
+use Rattle.meaning_save.specs.Save.{Form, old, new, nameSaved, marked, lastSaved, headSaved, useSaved, headSize, useBeside}
 use Rattle.meaning_laws.specs.SaveFields.{nameSize, name-length}
 
 pub head-length : (f : Form) (c : Card) → length (headSaved f c) ≡ headSize f

@@ -6,7 +6,7 @@ ghost use Prim.Native.Nat.{ℕ, _+_, _*_, _<_};
 ghost use lib.ListN.{length};
 ghost use Rattle.meaning.specs.Octets.{pick, four};
 ghost use Rattle.meaning.specs.Card.{treeAt, labelCount, neighbourCount, routeLimit, treeLimit};
-ghost use Rattle.meaning.specs.Save.{formOf, nameSaved, marked, treeKind, useKind, headSaved, routeSaved, foursOf, treeSaved, useSaved, headSize, routeSize, treeBeside, useBeside};
+ghost use Rattle.meaning_save.specs.Save.{formOf, nameSaved, marked, treeKind, useKind, headSaved, routeSaved, foursOf, treeSaved, useSaved, headSize, routeSize, treeBeside, useBeside};
 ghost use Rattle.meaning_laws.specs.SaveFields.{nameSize};
 ghost use Rattle.memory.specs.Sizes.{Numbers, Names};
 ghost use Rattle.memory.specs.Memory.{cardOf, baseIn, treeCount, routeIn, isFreeAt, labelIn, labelName};

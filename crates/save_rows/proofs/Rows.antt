@@ -12,7 +12,7 @@ use lib.Dec.{eqb}
 use Rattle.meaning.specs.Octets.{fourAt}
 use Rattle.meaning.specs.Wire.{rootLimit}
 use Rattle.meaning.specs.Card.{Route, Tree, Card, fresh, withNext, withRoutes, withTrees, withBranch, withLeaf, bare, treeAt}
-use Rattle.meaning.specs.Save.{Form, spacedIn, nameIn, extent, routeRead, treeRead, treeEnd, foursIn, routesRead, treesRead, treesEnd, headSize, routeSize, treeBeside}
+use Rattle.meaning_save.specs.Save.{Form, spacedIn, nameIn, extent, routeRead, treeRead, treeEnd, foursIn, routesRead, treesRead, treesEnd, headSize, routeSize, treeBeside}
 use Rattle.meaning_laws.specs.SavePlaces.{tree-there, trees-end-more, trees-read-more}
 use Rattle.octets.proofs.Parts.{front, front-more, copy-done}
 use Rattle.memory.specs.Memory.{cardOf, treeCount, routeCount}

@@ -4,7 +4,7 @@ use mathlib.Core.List.{List}
 use lib.ListN.{drop, getD}
 use Rattle.meaning.specs.Octets.{fourAt}
 use Rattle.meaning.specs.Card.{Tree, Card, fresh, withNext, withRoutes, withTrees}
-use Rattle.meaning.specs.Save.{Form, routesRead, treesRead, treesEnd, headSize, routeSize}
+use Rattle.meaning_save.specs.Save.{Form, routesRead, treesRead, treesEnd, headSize, routeSize}
 
 unfoldable pub withBranches : List ℕ → Tree → Tree
 withBranches bs t = record { name = t .name; branches = bs; leaf = t .leaf; label = t .label }

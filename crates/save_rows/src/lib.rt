@@ -5,7 +5,7 @@ ghost use Prim.Native.Nat.{ℕ, _+_, _*_, _≤_, _<_};
 ghost use lib.ListN.{drop, set, getD};
 ghost use Rattle.meaning.specs.Octets.{fourAt};
 ghost use Rattle.meaning.specs.Card.{withRoutes, withTrees, bare, treeAt, routeLimit, treeLimit};
-ghost use Rattle.meaning.specs.Save.{formOf, nameIn, extent, routeRead, treeRead, foursIn, routesRead, treesRead, treesEnd};
+ghost use Rattle.meaning_save.specs.Save.{formOf, nameIn, extent, routeRead, treeRead, foursIn, routesRead, treesRead, treesEnd};
 ghost use Rattle.memory.specs.Sizes.{Numbers, Names};
 ghost use Rattle.memory.specs.Memory.{cardOf, treeCount, routeCount};
 ghost use Rattle.save_rows.specs.Stages.{withBranches, rowsRead, labelsBegin};

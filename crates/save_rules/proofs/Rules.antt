@@ -12,7 +12,7 @@ use Rattle.meaning.specs.Octets.{place, any, same, all}
 use Rattle.meaning.specs.Lists.{by-test, place-finds, place-skips, getD-out, getD-same, same-eq, same-refl, any-count, count-some}
 use Rattle.meaning.specs.Card.{Tree, mapped, awaiting, Card, treeOf, treePlace, bare, named, carries, isFree, mappedTo, useOf, labelCount, routeLimit, treeLimit}
 use Rattle.meaning.specs.Events.{baseOutside}
-use Rattle.meaning.specs.Save.{isName, onceEach, isRoute, sameRoot, isTree, sameName, isUse, isCarried, allCarried, isMappedFor, carriesOwn, holdsRight, keepsRows}
+use Rattle.meaning_save.specs.Save.{isName, onceEach, isRoute, sameRoot, isTree, sameName, isUse, isCarried, allCarried, isMappedFor, carriesOwn, holdsRight, keepsRows}
 use Rattle.memory.specs.Memory.{baseIn, nextIn, treeCount, isFreeAt, isMappedAt, labelName, labelIn, cardOf, InBlock}
 use Rattle.memory.proofs.Memory.{routeCount-le, treeCount-le, base-range, routes-length, trees-length, labels-length}
 use Rattle.memory.proofs.Marks.{never, by-use, mapped-use, label-free, label-mapped}

@@ -7,7 +7,7 @@ ghost use mathlib.Core.List.{List};
 ghost use Prim.Native.Nat.{ℕ, _+_, _<_};
 ghost use Rattle.meaning.specs.Octets.{all};
 ghost use Rattle.meaning.specs.Card.{treeAt, labelCount, treeLimit};
-ghost use Rattle.meaning.specs.Save.{isName, isUse, isCarried, allCarried, isMappedFor, carriesOwn, holdsRight, onceEach, sameName, sameRoot, keepsRows};
+ghost use Rattle.meaning_save.specs.Save.{isName, isUse, isCarried, allCarried, isMappedFor, carriesOwn, holdsRight, onceEach, sameName, sameRoot, keepsRows};
 ghost use Rattle.memory.specs.Sizes.{Numbers, Names};
 ghost use Rattle.memory.specs.Memory.{cardOf, baseIn, isFreeAt, isMappedAt, labelIn, labelName, treeCount};
 use meaning::LABEL_COUNT;

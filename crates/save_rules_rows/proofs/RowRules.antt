@@ -14,7 +14,7 @@ use Rattle.meaning.specs.Lists.{getD-same}
 use Rattle.meaning.specs.Wire.{rootIn}
 use Rattle.meaning.specs.Card.{Route, Tree, Use, Card, treeAt, bare, isBranch, isEmpty, isFor, named, routeOf, heldFor, labelCount}
 use Rattle.meaning.specs.Events.{notRoot, upstream, holderOf, holder}
-use Rattle.meaning.specs.Save.{isName, onceEach, isRoute, sameRoot, isBranchLabel, isTree, sameName, isCarried, allCarried, holdsRight}
+use Rattle.meaning_save.specs.Save.{isName, onceEach, isRoute, sameRoot, isBranchLabel, isTree, sameName, isCarried, allCarried, holdsRight}
 use Rattle.octets.proofs.Tab.{tab-get}
 use Rattle.memory.specs.Memory.{baseIn, routeCount, treeCount, rootName, entryIn, routeIn, labelIn, cardOf}
 use Rattle.memory.proofs.Memory.{routes-length, trees-length, labels-length}

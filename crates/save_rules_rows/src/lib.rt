@@ -6,7 +6,7 @@ ghost use Prim.Native.Nat.{ℕ, _+_, _<_};
 ghost use lib.ListN.{drop};
 ghost use Rattle.meaning.specs.Octets.{any, all};
 ghost use Rattle.meaning.specs.Card.{treeAt, isEmpty, isFor, routeLimit, treeLimit};
-ghost use Rattle.meaning.specs.Save.{isName, onceEach, isRoute, sameRoot, isBranchLabel, isTree};
+ghost use Rattle.meaning_save.specs.Save.{isName, onceEach, isRoute, sameRoot, isBranchLabel, isTree};
 ghost use Rattle.memory.specs.Sizes.{Numbers, Names};
 ghost use Rattle.memory.specs.Memory.{cardOf, routeIn, treeCount};
 

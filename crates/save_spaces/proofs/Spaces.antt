@@ -5,7 +5,7 @@ use mathlib.Core.Bool.{true, false}
 use mathlib.Core.List.{List}
 use Rattle.meaning.specs.Octets.{all}
 use Rattle.meaning.specs.Card.{Card, isFree}
-use Rattle.meaning.specs.Save.{Form, isShort, isShortTree, isShortUse, fitsSave}
+use Rattle.meaning_save.specs.Save.{Form, isShort, isShortTree, isShortUse, fitsSave}
 use Rattle.memory.specs.Memory.{labelName, labelIn}
 use Rattle.memory.proofs.Marks.{by-use}
 

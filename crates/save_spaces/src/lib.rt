@@ -3,7 +3,7 @@ ghost use mathlib.Core.Path.{_≡_};
 ghost use Prim.Native.Nat.{_<_};
 ghost use Rattle.meaning.specs.Octets.{all};
 ghost use Rattle.meaning.specs.Card.{treeAt, treeLimit, labelCount};
-ghost use Rattle.meaning.specs.Save.{formOf, isShortTree, isShortUse, fitsSave};
+ghost use Rattle.meaning_save.specs.Save.{formOf, isShortTree, isShortUse, fitsSave};
 ghost use Rattle.memory.specs.Sizes.{Numbers, Names};
 ghost use Rattle.memory.specs.Memory.{cardOf, treeCount, labelIn};
 use meaning::LABEL_COUNT;

@@ -11,7 +11,7 @@ use borrow.Author.Tests.{eqb-true, eqb-false, ltb-true, ltb-false, lt-ltb, le-lt
 use Rattle.meaning.specs.Octets.{place, any, same, fourAt}
 use Rattle.meaning.specs.Lists.{by-test, same-eq}
 use Rattle.meaning.specs.Card.{Tree, named}
-use Rattle.meaning.specs.Save.{sameName}
+use Rattle.meaning_save.specs.Save.{sameName}
 use Rattle.octets.specs.Part.{tab}
 use Rattle.memory.specs.Memory.{cardOf, treeCount, treeIn, treeName}
 use Rattle.save_rules_rows.proofs.RowRules.{name-like}

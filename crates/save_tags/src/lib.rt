@@ -5,7 +5,7 @@ ghost use Prim.Native.Nat.{_+_, _≤_, _<_};
 ghost use lib.ListN.{length, drop, getD};
 ghost use Rattle.meaning.specs.Octets.{place, same};
 ghost use Rattle.meaning.specs.Card.{named, treeLimit};
-ghost use Rattle.meaning.specs.Save.{onceEach, sameName};
+ghost use Rattle.meaning_save.specs.Save.{onceEach, sameName};
 ghost use Rattle.memory.specs.Sizes.{Numbers, Names};
 ghost use Rattle.memory.specs.Memory.{cardOf, treeCount, treeName};
 ghost use Rattle.save_tags.specs.Tags.{tagOf, Tagged};

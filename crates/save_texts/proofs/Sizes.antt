@@ -4,7 +4,7 @@ use native.Mathlib.Omega.{arith}
 use mathlib.Core.Path.{_≡_}
 use mathlib.Core.List.{List, [], _∷_}
 use lib.ListN.{length, take, length-append, length-replicate}
-use Rattle.meaning.specs.Save.{padded, spaced}
+use Rattle.meaning_save.specs.Save.{padded, spaced}
 
 pub taken-le : (n : ℕ) (o : List ℕ) → length (take n o) ≤ n
 taken-le zero o = omega arith

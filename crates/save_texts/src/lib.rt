@@ -4,7 +4,7 @@ ghost use mathlib.Core.Path.{_≡_};
 ghost use Prim.Native.Nat.{_+_, _≤_};
 ghost use lib.ListN.{length, take, replicate};
 ghost use Rattle.meaning.specs.Wire.{opaqueIn};
-ghost use Rattle.meaning.specs.Save.{old, formOf, padded, spaced, nameSaved, nameMost, isShort, spacedName};
+ghost use Rattle.meaning_save.specs.Save.{old, formOf, padded, spaced, nameSaved, nameMost, isShort, spacedName};
 ghost use Rattle.meaning_laws.specs.SaveFields.{nameSize};
 use meaning::NAME_LIMIT;
 use meaning::ROOT_LIMIT;

@@ -5,7 +5,7 @@ ghost use mathlib.Core.List.{List};
 ghost use Prim.Native.Nat.{ℕ, _+_, _*_, _≤_, _<_};
 ghost use lib.ListN.{length};
 ghost use denote.Ref.{ptr};
-ghost use Rattle.meaning.specs.Save.{new, formOf, useSaved, routesSaved, treesSaved, usesSaved, saved, save, saveLimit, treeBeside, useBeside, nameMost};
+ghost use Rattle.meaning_save.specs.Save.{new, formOf, useSaved, routesSaved, treesSaved, usesSaved, saved, save, saveLimit, treeBeside, useBeside, nameMost};
 ghost use Rattle.meaning_laws.specs.SaveFields.{nameSize};
 ghost use Rattle.meaning.specs.Calls.{over, Does, Hands};
 ghost use Rattle.meaning.specs.Card.{labelCount, treeAt, treeLimit};

@@ -14,7 +14,7 @@ use Rattle.meaning.specs.Octets.{_when_else_}
 use Rattle.meaning.specs.Lists.{by-test}
 use Rattle.meaning.specs.Card.{Card}
 use Rattle.meaning.specs.Events.{Out, event, lost, noNeighbour}
-use Rattle.meaning.specs.Save.{new, saveLimit}
+use Rattle.meaning_save.specs.Save.{new, saveLimit}
 use Rattle.meaning.specs.Calls.{Hands}
 use Rattle.session.specs.Stream.{Stream, empty}
 use Rattle.session.specs.Session.{afterLoss}

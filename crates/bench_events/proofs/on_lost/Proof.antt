@@ -1,6 +1,6 @@
 -- `bench_events::on_lost` meets its contract: the card's `lost`, told as every order that writes records. Assumes nothing.
 use native.Mathlib.Omega.{arith}
-use Rattle.meaning.specs.Save.{new, saveLimit}
+use Rattle.meaning_save.specs.Save.{new, saveLimit}
 use Rattle.meaning.specs.Events.{event, lost}
 use Rattle.memory.specs.Memory.{cardOf}
 use Rattle.bench_words.specs.Words.{ascii}

@@ -2,7 +2,7 @@
 use Rattle.bench_saves.proofs.Saves.{says-restored}
 use Rattle.bench_replies.proofs.Reply.{decoded}
 use Rattle.memory.specs.Memory.{cardOf}
-use Rattle.meaning.specs.Save.{formOf}
+use Rattle.meaning_save.specs.Save.{formOf}
 use native.Mathlib.Omega.{arith}
 use borrow.Author.Needs.{needs}
 use Rattle.bench_saves.proofs.on_restore.Statement.{statement}

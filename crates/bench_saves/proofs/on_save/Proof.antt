@@ -1,7 +1,7 @@
 -- `bench_saves::on_save` meets its contract. Assumes nothing.
 use Rattle.bench_saves.proofs.Saves.{says-saved}
 use Rattle.bench_replies.proofs.Reply.{save-fits, part-fits}
-use Rattle.meaning.specs.Save.{new, formOf, saveLimit}
+use Rattle.meaning_save.specs.Save.{new, formOf, saveLimit}
 use lib.Seq.{length-take-le}
 use lib.ListN.{length, take}
 use Prim.Native.Nat.{min}

@@ -2,7 +2,7 @@ use native.Mathlib.Omega.{arith}
 use mathlib.Core.Path.{sym, _∙_}
 use Prim.Native.Nat.{_*_}
 use lib.Seq.{length-take-le}
-use Rattle.meaning.specs.Save.{new, saveLimit}
+use Rattle.meaning_save.specs.Save.{new, saveLimit}
 use borrow.Author.Needs.{needs}
 use Rattle.bench_words.proofs.Words.{hex-short}
 use Rattle.layers.proofs.Printed.{shown-hex, shown-other}

@@ -1,6 +1,6 @@
 use native.Mathlib.Omega.{arith}
 use mathlib.Core.Path.{refl}
-use Rattle.meaning.specs.Save.{formOf}
+use Rattle.meaning_save.specs.Save.{formOf}
 use Rattle.save_forms.proofs.head_size.Statement.{statement}
 use Rattle.save_forms.proofs.head_size.Tie as tie
 

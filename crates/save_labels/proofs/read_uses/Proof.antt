@@ -3,7 +3,7 @@ use borrow.Author.Needs.{needs}
 use Rattle.save_labels.proofs.Labels.{labels-none, none-behind, unlabelled-kept, labels-more, label-behind}
 use Rattle.memory.specs.Memory.{cardOf}
 use Rattle.meaning_laws.specs.SavePlaces.{usesEnd}
-use Rattle.meaning.specs.Save.{formOf, usesRead}
+use Rattle.meaning_save.specs.Save.{formOf, usesRead}
 use Rattle.meaning.specs.Card.{withLabels}
 use lib.ListN.{drop, length}
 use Prim.Native.Nat.{_+_, _*_, _-_, _≤_}

@@ -1,4 +1,4 @@
-use Rattle.meaning.specs.Save.{marked}
+use Rattle.meaning_save.specs.Save.{marked}
 use Rattle.meaning.specs.Octets.{two, four}
 use mathlib.Core.Path.{_∙_}
 use Rattle.save_records.proofs.Records.{head-is}

@@ -1,4 +1,4 @@
-use Rattle.meaning.specs.Save.{marked}
+use Rattle.meaning_save.specs.Save.{marked}
 use Rattle.meaning.specs.Octets.{four}
 use mathlib.Core.List.{[], _∷_, _++_}
 use Prim.Native.Nat.{ℕ}

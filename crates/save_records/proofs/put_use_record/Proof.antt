@@ -1,5 +1,5 @@
 use mathlib.Core.List.{List}
-use Rattle.meaning.specs.Save.{formOf, useBeside}
+use Rattle.meaning_save.specs.Save.{formOf, useBeside}
 use Rattle.meaning_laws.specs.SaveFields.{nameSize}
 -- `save_records::put_use_record` meets its contract: the label is mapped, or it awaits release; its record is that of the definition. Assumes nothing.
 use mathlib.Core.Path.{sym, ap, _∙_}

@@ -3,7 +3,7 @@ use native.Mathlib.Omega.{arith}
 use mathlib.Core.Path.{_≡_, refl, _∙_}
 use lib.ListN.{length, drop}
 use borrow.Author.Needs.{needs}
-use Rattle.meaning.specs.Save.{routesRead}
+use Rattle.meaning_save.specs.Save.{routesRead}
 use Rattle.meaning.specs.Card.{withRoutes}
 use Rattle.memory.specs.Memory.{cardOf}
 use Rattle.save_rows.proofs.Rows.{routes-none, routes-more, routes-room}

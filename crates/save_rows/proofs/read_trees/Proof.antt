@@ -2,7 +2,7 @@
 use borrow.Author.Needs.{needs}
 use Rattle.save_rows.proofs.Rows.{trees-none, none-behind, trees-room, trees-more, tree-behind}
 use Rattle.memory.specs.Memory.{cardOf}
-use Rattle.meaning.specs.Save.{formOf, treesRead, treesEnd}
+use Rattle.meaning_save.specs.Save.{formOf, treesRead, treesEnd}
 use Rattle.meaning.specs.Card.{withTrees}
 use lib.ListN.{drop, length}
 use Prim.Native.Nat.{_+_, _*_, _-_, _≤_}

@@ -5,7 +5,7 @@ use mathlib.Core.Bool.{true}
 use mathlib.Core.List.{List}
 use lib.ListN.{drop}
 use Rattle.meaning.specs.Octets.{all}
-use Rattle.meaning.specs.Save.{allCarried, carriesOwn, onceEach, sameName}
+use Rattle.meaning_save.specs.Save.{allCarried, carriesOwn, onceEach, sameName}
 use Rattle.meaning.specs.Card.{labelCount}
 use Rattle.memory.specs.Memory.{cardOf, baseIn}
 use Rattle.save_rules_rows.proofs.RowRules.{carried-start, carried-hit, carried-miss, carried-none, label-there, labels-end}

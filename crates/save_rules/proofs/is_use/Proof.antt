@@ -1,6 +1,6 @@
 use mathlib.Core.Path.{sym, ap, _∙_}
 use mathlib.Core.Bool.{Bool, _&&_}
-use Rattle.meaning.specs.Save.{isName}
+use Rattle.meaning_save.specs.Save.{isName}
 use Rattle.memory.specs.Memory.{labelName}
 use Rattle.save_rules.proofs.Rules.{use-none}
 use borrow.Author.Needs.{needs}

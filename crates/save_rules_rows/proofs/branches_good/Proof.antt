@@ -5,7 +5,7 @@ use lib.ListN.{drop}
 use mathlib.Core.List.{List}
 use Rattle.meaning.specs.Octets.{all}
 use Rattle.meaning.specs.Card.{treeAt}
-use Rattle.meaning.specs.Save.{isBranchLabel}
+use Rattle.meaning_save.specs.Save.{isBranchLabel}
 use Rattle.memory.specs.Memory.{cardOf}
 use Rattle.save_rules_rows.proofs.RowRules.{all-hit, all-miss, all-none, branch-there, branches-end}
 use borrow.Author.Needs.{needs}

@@ -1,7 +1,7 @@
 use Prim.Native.Nat.{ℕ}
 use mathlib.Core.Path.{ap}
 use lib.Dec.{eqb}
-use Rattle.meaning.specs.Save.{isName}
+use Rattle.meaning_save.specs.Save.{isName}
 use borrow.Author.Needs.{needs}
 use Rattle.save_rules_rows.proofs.is_name.Statement.{statement}
 use Rattle.save_rules_rows.proofs.is_name.Tie as tie

@@ -1,5 +1,5 @@
 use mathlib.Core.Path.{sym, ap, _∙_}
-use Rattle.meaning.specs.Save.{isName}
+use Rattle.meaning_save.specs.Save.{isName}
 use Rattle.memory.proofs.Trees.{branches-length}
 use Rattle.save_rules_rows.proofs.RowRules.{tree-parts, and-then, and-not}
 use borrow.Author.Needs.{needs}

@@ -2,7 +2,7 @@ use Prim.Native.Nat.{_-_, _≤_}
 use native.Mathlib.Omega.{arith}
 use mathlib.Core.Path.{_≡_, refl, sym, _∙_}
 use lib.ListN.{drop}
-use Rattle.meaning.specs.Save.{onceEach, sameRoot}
+use Rattle.meaning_save.specs.Save.{onceEach, sameRoot}
 use Rattle.memory.specs.Memory.{cardOf}
 use Rattle.save_rules_rows.proofs.RowRules.{once-hit, once-miss, once-none, route-there, root-like, routes-end}
 use borrow.Author.Needs.{needs}

@@ -4,7 +4,7 @@ use mathlib.Core.Path.{_≡_, refl, sym, _∙_}
 use lib.ListN.{drop}
 use Rattle.meaning.specs.Octets.{all}
 use Rattle.meaning.specs.Card.{labelCount}
-use Rattle.meaning.specs.Save.{formOf, isShortUse}
+use Rattle.meaning_save.specs.Save.{formOf, isShortUse}
 use Rattle.memory.specs.Memory.{cardOf}
 use Rattle.save_rules_rows.proofs.RowRules.{all-hit, all-miss, all-none, label-there, labels-end}
 use borrow.Author.Needs.{needs}

@@ -1,7 +1,7 @@
 -- `save_writer::labels_size` meets its contract: the invariant is that the sum is that of p labels. Assumes nothing.
 use borrow.Author.Needs.{needs}
 use Rattle.save_records.proofs.Rows.{joined}
-use Rattle.meaning.specs.Save.{new, formOf, useBeside, nameMost}
+use Rattle.meaning_save.specs.Save.{new, formOf, useBeside, nameMost}
 use Rattle.meaning.specs.Card.{labelCount}
 use lib.ListN.{length}
 use Prim.Native.Nat.{_+_, _*_, _-_, _≤_}

@@ -1,6 +1,6 @@
 -- `save_writer::put_label` meets its contract: of a free label the record is empty. Assumes nothing.
 use Rattle.memory.specs.Memory.{baseIn}
-use Rattle.meaning.specs.Save.{formOf}
+use Rattle.meaning_save.specs.Save.{formOf}
 use Prim.Native.Nat.{_+_}
 use Rattle.save_writer.proofs.Saved.{label-skip, label-put, use-sized}
 use mathlib.Core.Path.{_≡_, refl, sym, ap, _∙_}

@@ -1,4 +1,4 @@
-use Rattle.meaning.specs.Save.{formOf}
+use Rattle.meaning_save.specs.Save.{formOf}
 -- `save_writer::put_labels` meets its contract: the invariant is that the rows of p labels stand; that of a free label is empty. Assumes nothing.
 use Prim.Native.Nat.{_-_, _≤_, _<_}
 use native.Mathlib.Omega.{arith}

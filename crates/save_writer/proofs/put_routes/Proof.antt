@@ -2,7 +2,7 @@
 use Prim.Native.Nat.{_-_, _<_}
 use native.Mathlib.Omega.{arith}
 use borrow.Author.Needs.{needs}
-use Rattle.meaning.specs.Save.{routeSize}
+use Rattle.meaning_save.specs.Save.{routeSize}
 use Rattle.memory.specs.Memory.{routeCount, routeIn}
 use Rattle.save_records.proofs.Rows.{Rows, rows-none, rows-room, rows-lent, rows-done}
 use Rattle.meaning_laws.specs.SaveFields.{route-length}

@@ -3,7 +3,7 @@ use borrow.Author.Needs.{needs}
 use Rattle.save_records.proofs.Rows.{Rows, rows-none, rows-room, rows-lent, rows-done}
 use Rattle.memory.proofs.Memory.{tree-at}
 use Rattle.memory.specs.Memory.{treeCount}
-use Rattle.meaning.specs.Save.{formOf, treeSaved}
+use Rattle.meaning_save.specs.Save.{formOf, treeSaved}
 use Prim.Native.Nat.{_-_, _<_}
 use Rattle.save_writer.proofs.Saved.{treeRow, trees-lot, tree-size}
 use mathlib.Core.Path.{_≡_, refl, sym, ap, _∙_}

@@ -2,7 +2,7 @@
 use borrow.Author.Needs.{needs}
 use Rattle.save_records.proofs.Rows.{joined}
 use Rattle.memory.specs.Memory.{treeCount}
-use Rattle.meaning.specs.Save.{new, formOf, treeBeside, nameMost}
+use Rattle.meaning_save.specs.Save.{new, formOf, treeBeside, nameMost}
 use lib.ListN.{length}
 use Prim.Native.Nat.{_+_, _*_, _-_, _≤_, _<_}
 use Rattle.save_writer.proofs.Saved.{treeRow, trees-rows, tree-size, sum-none, sum-more, sum-done}

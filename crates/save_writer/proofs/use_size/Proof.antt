@@ -1,6 +1,6 @@
 -- `save_writer::use_size` meets its contract. Assumes nothing.
 use Rattle.meaning_laws.specs.SaveFields.{nameSize}
-use Rattle.meaning.specs.Save.{useBeside}
+use Rattle.meaning_save.specs.Save.{useBeside}
 use Prim.Native.Nat.{ℕ, _+_}
 use mathlib.Core.Path.{_≡_, refl, sym, ap, _∙_}
 use native.Mathlib.Omega.{arith}

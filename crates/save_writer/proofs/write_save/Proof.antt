@@ -1,7 +1,7 @@
 -- `save_writer::write_save` meets its contract: the head, the routes, the trees and the labels, each behind the one before, are the save. Assumes nothing.
 use mathlib.Core.Path.{_≡_}
 use Prim.Native.Nat.{_-_}
-use Rattle.meaning.specs.Save.{formOf}
+use Rattle.meaning_save.specs.Save.{formOf}
 use Rattle.save_writer.proofs.Saved.{parts-length, parts-laid}
 use native.Mathlib.Omega.{arith}
 use borrow.Author.Needs.{needs}

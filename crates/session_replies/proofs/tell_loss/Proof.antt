@@ -1,6 +1,6 @@
 -- `session_replies::tell_loss` meets its contract: told as on the bench, and the stream. Assumes nothing.
 use native.Mathlib.Omega.{arith}
-use Rattle.meaning.specs.Save.{new, saveLimit}
+use Rattle.meaning_save.specs.Save.{new, saveLimit}
 use Rattle.meaning.specs.Events.{event, lost}
 use Rattle.card.specs.Table.{cardOf}
 use Rattle.bench_words.specs.Words.{ascii}

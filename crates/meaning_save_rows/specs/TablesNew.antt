@@ -12,11 +12,11 @@ use Rattle.meaning.specs.Card.{Route, Tree, Use, mapped, awaiting, Card, fresh,
 use Rattle.meaning.specs.Corners.{load}
 use Rattle.meaning.specs.Computing.{computing}
 use Rattle.meaning.specs.Examples.{NoneWrong}
-use Rattle.meaning.specs.Save.{allWorkedOut, old, new, saved, save, keepsRules, lastRight}
-use Rattle.meaning.specs.SaveExample.{computingSaves, headOf, routeA, treeA, treeB, label16, label17, example}
-use Rattle.meaning_saves.specs.NewExample.{headNew, treeNewA, treeNewB, labelNew16, labelNew17, exampleNew}
-use Rattle.meaning.specs.SaveRows.{Row, takes, refuses, right, wrong}
-use Rattle.meaning_saves.specs.Tables.{over, otherRoute}
+use Rattle.meaning_save.specs.Save.{allWorkedOut, old, new, saved, save, keepsRules, lastRight}
+use Rattle.meaning_save.specs.SaveExample.{computingSaves, headOf, routeA, treeA, treeB, label16, label17, example}
+use Rattle.meaning_save_rows.specs.NewExample.{headNew, treeNewA, treeNewB, labelNew16, labelNew17, exampleNew}
+use Rattle.meaning_save.specs.SaveRows.{Row, takes, refuses, right, wrong}
+use Rattle.meaning_save_rows.specs.Tables.{over, otherRoute}
 
 -- a head with other counts and another last label given, and what follows it
 unfoldable pub counted : ℕ → ℕ → ℕ → ℕ → List ℕ → List ℕ

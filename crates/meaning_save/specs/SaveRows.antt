@@ -1,12 +1,12 @@
--- A row of octets that are taken as a save, or refused by 19, and when it is right. The crate `meaning_saves` has tables of them.
+-- A row of octets that are taken as a save, or refused by 19, and when it is right. The crate `meaning_save_rows` has tables of them.
 -- Assumes nothing.
 use Prim.Native.Nat.{ℕ, suc}
 use mathlib.Core.Bool.{Bool, true, false, _&&_}
 use mathlib.Core.List.{List, [], _∷_}
 use lib.Dec.{eqb}
 use Rattle.meaning.specs.Octets.{pick, same}
 use Rattle.meaning.specs.Card.{fresh}
-use Rattle.meaning.specs.Save.{Form, saved, restore}
+use Rattle.meaning_save.specs.Save.{Form, saved, restore}
 
 -- Octets, and whether they are taken. Where they are, the table that stands afterwards writes them; where they are not, the answer is 19 and the table that stood, of base 99, stays.
 pub record Row : Type 0 where

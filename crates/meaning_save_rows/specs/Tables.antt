@@ -6,9 +6,9 @@ use lib.ListN.{take, drop, replicate, length}
 use Rattle.meaning.specs.Octets.{four}
 use Rattle.meaning.specs.Computing.{computing}
 use Rattle.meaning.specs.Examples.{NoneWrong}
-use Rattle.meaning.specs.Save.{old}
-use Rattle.meaning.specs.SaveExample.{computingSaves, headOf, routeA, treeA, treeB, label16, label17, example}
-use Rattle.meaning.specs.SaveRows.{Row, takes, refuses, right, wrong}
+use Rattle.meaning_save.specs.Save.{old}
+use Rattle.meaning_save.specs.SaveExample.{computingSaves, headOf, routeA, treeA, treeB, label16, label17, example}
+use Rattle.meaning_save.specs.SaveRows.{Row, takes, refuses, right, wrong}
 
 -- other octets from place i on
 unfoldable pub over : List ℕ → ℕ → List ℕ → List ℕ

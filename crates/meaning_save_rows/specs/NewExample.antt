@@ -12,8 +12,8 @@ use Rattle.meaning.specs.Card.{Card, fresh, withLast}
 use Rattle.meaning.specs.Events.{join, leave}
 use Rattle.meaning.specs.Computing.{computing}
 use Rattle.meaning.specs.Examples.{A, wide, heard}
-use Rattle.meaning.specs.Save.{old, new, saved, save, restore, isSave, settled, Moved, newer, older}
-use Rattle.meaning.specs.SaveExample.{computingSaves, B, after, swapped, inBoth, inAwaiting, headOf, routeA, treeA, treeB, label16, label17, example}
+use Rattle.meaning_save.specs.Save.{old, new, saved, save, restore, isSave, settled, Moved, newer, older}
+use Rattle.meaning_save.specs.SaveExample.{computingSaves, B, after, swapped, inBoth, inAwaiting, headOf, routeA, treeA, treeB, label16, label17, example}
 
 -- ---- one whole example
 

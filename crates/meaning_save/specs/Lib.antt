@@ -1,0 +1,3 @@
+pub mod Save
+pub mod SaveExample
+pub mod SaveRows
