@@ -23,7 +23,7 @@ fn on_label(numbers: &[u64; NUMBER_COUNT], label: u32, text: &mut [u8]) -> usize
         r (now (text .exit)) (cardOf (now (numbers .entry)) os)) ⌝ }
 {
     let mut branches = [0u64; 16];
-    let leaf = card::lookup_label_core(numbers, label, &mut branches);
+    let leaf = card_lookups::lookup_label_core(numbers, label, &mut branches);
     bench_lines::put_feed(text, b"label", leaf, &branches)
 }
 
@@ -41,7 +41,7 @@ fn on_tree(
     let mut element = bench_replies::input();
     let n = bench_words::decode_hex(hex, &mut element);
     let mut branches = [0u64; 16];
-    let leaf = card::lookup_name_core(numbers, names, &element[..n], &mut branches);
+    let leaf = card_lookups::lookup_name_core(numbers, names, &element[..n], &mut branches);
     bench_lines::put_feed(text, b"tree", leaf, &branches)
 }
 
@@ -72,7 +72,11 @@ fn obey(
         Order::Room(n) => bench_lines::put_count(text, b"room", n as u64),
         Order::Label(label) => on_label(numbers, label, text),
         Order::Tree { start, end } => on_tree(numbers, names, &line[start..end], text),
-        Order::Free => bench_lines::put_count(text, b"free", card::free_labels(numbers) as u64),
+        Order::Free => bench_lines::put_count(
+            text,
+            b"free",
+            card_lookups::free_labels(numbers) as u64,
+        ),
         Order::Save(second) => bench_saves::on_save(numbers, names, second, room, text),
         Order::Restore { second, start, end } => {
             bench_saves::on_restore(numbers, names, second, &line[start..end], text)

@@ -1,13 +1,12 @@
-// The label part: start, events, lookups. The card lies in two arrays that the caller lends; any content of them denotes a card.
+// The label part: start and events; `card_lookups` has the lookups. The card lies in two arrays that the caller lends; any content of them denotes a card.
 // Each event has a core, which says what becomes of the whole output, and a call that hands back the part that holds the records.
 ghost use mathlib.Core.Path.{_≡_};
 ghost use mathlib.Core.List.{List};
 ghost use Prim.Native.Nat.{ℕ};
 ghost use lib.ListN.{length};
 ghost use denote.Ref.{ptr};
-ghost use Rattle.meaning.specs.Card.{freeLabels, lookupLabel, lookupName};
 ghost use Rattle.meaning.specs.Events.{start, event, receive, join, leave, route, lost, notRoot};
-ghost use Rattle.meaning.specs.Calls.{Does, Hands, feedIn};
+ghost use Rattle.meaning.specs.Calls.{Does, Hands};
 ghost use Rattle.memory.specs.Memory.{cardOf};
 // The lengths of the card's two arrays, and in specs/Table the card that they denote, are handed on: whoever is above needs no more of the memory.
 pub use memory::NUMBER_COUNT;
@@ -212,55 +211,4 @@ pub fn lost<'a>(
 {
     let n = lost_core(numbers, names, gone, &mut *out, answer);
     &mut out[..n]
-}
-
-// ---- lookups: a core lays the branches into a lent array and hands back the leaf mark, a call hands both back by value
-
-// Sixteen branch labels, one for each neighbour and 0 for none, and the leaf mark. Nothing is no branch and no leaf.
-pub struct Feed {
-    pub leaf: bool,
-    pub branches: [u64; 16],
-}
-
-pub fn lookup_label_core(
-    numbers: &[u64; NUMBER_COUNT],
-    label: u32,
-    branches: &mut [u64; 16],
-) -> bool
-    ensures { λ r. ⌜ ((os : List ℕ) → feedIn (now (branches .exit)) r ≡ lookupLabel label (cardOf (now (numbers .entry)) os)) ⌝ }
-{
-    card_lookups::find_label(numbers, label as u64, branches)
-}
-
-pub fn lookup_label(numbers: &[u64; NUMBER_COUNT], label: u32) -> Feed
-    ensures { λ r. ⌜ ((os : List ℕ) → feedIn (r .branches) (r .leaf) ≡ lookupLabel label (cardOf (now (numbers .entry)) os)) ⌝ }
-{
-    let mut branches = [0u64; 16];
-    let leaf = lookup_label_core(numbers, label, &mut branches);
-    Feed { leaf, branches }
-}
-
-pub fn lookup_name_core(
-    numbers: &[u64; NUMBER_COUNT],
-    names: &[u8; OCTET_COUNT],
-    element: &[u8],
-    branches: &mut [u64; 16],
-) -> bool
-    ensures { λ r. ⌜ feedIn (now (branches .exit)) r ≡ lookupName (now (element .entry)) (cardOf (now (numbers .entry)) (now (names .entry))) ⌝ }
-{
-    card_lookups::find_name(numbers, names, element, branches)
-}
-
-pub fn lookup_name(numbers: &[u64; NUMBER_COUNT], names: &[u8; OCTET_COUNT], element: &[u8]) -> Feed
-    ensures { λ r. ⌜ feedIn (r .branches) (r .leaf) ≡ lookupName (now (element .entry)) (cardOf (now (numbers .entry)) (now (names .entry))) ⌝ }
-{
-    let mut branches = [0u64; 16];
-    let leaf = lookup_name_core(numbers, names, element, &mut branches);
-    Feed { leaf, branches }
-}
-
-pub fn free_labels(numbers: &[u64; NUMBER_COUNT]) -> u32
-    ensures { λ r. ⌜ ((os : List ℕ) → r ≡ freeLabels (cardOf (now (numbers .entry)) os)) ⌝ }
-{
-    memory_labels::free_labels(numbers) as u32
 }

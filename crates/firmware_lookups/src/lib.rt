@@ -5,6 +5,7 @@ ghost use Prim.Native.Nat.{ℕ};
 ghost use Rattle.meaning.specs.Card.{freeLabels, lookupLabel, lookupName};
 ghost use Rattle.memory.specs.Memory.{cardOf};
 ghost use Rattle.meaning.specs.Calls.{feedIn};
+use meaning::NEIGHBOUR_COUNT;
 use memory::NUMBER_COUNT;
 use memory::OCTET_COUNT;
 
@@ -12,11 +13,11 @@ use memory::OCTET_COUNT;
 pub extern "C" fn card_lookup_label(
     numbers: &[u64; NUMBER_COUNT],
     label: u32,
-    branches: &mut [u64; 16],
+    branches: &mut [u64; NEIGHBOUR_COUNT],
 ) -> bool
     ensures { λ r. ⌜ ((os : List ℕ) → feedIn (now (branches .exit)) r ≡ lookupLabel label (cardOf (now (numbers .entry)) os)) ⌝ }
 {
-    card::lookup_label_core(numbers, label, branches)
+    card_lookups::lookup_label_core(numbers, label, branches)
 }
 
 #[no_mangle]
@@ -24,16 +25,16 @@ pub extern "C" fn card_lookup_name(
     numbers: &[u64; NUMBER_COUNT],
     names: &[u8; OCTET_COUNT],
     element: &[u8],
-    branches: &mut [u64; 16],
+    branches: &mut [u64; NEIGHBOUR_COUNT],
 ) -> bool
     ensures { λ r. ⌜ feedIn (now (branches .exit)) r ≡ lookupName (now (element .entry)) (cardOf (now (numbers .entry)) (now (names .entry))) ⌝ }
 {
-    card::lookup_name_core(numbers, names, element, branches)
+    card_lookups::lookup_name_core(numbers, names, element, branches)
 }
 
 #[no_mangle]
 pub extern "C" fn card_free_labels(numbers: &[u64; NUMBER_COUNT]) -> u32
     ensures { λ r. ⌜ ((os : List ℕ) → r ≡ freeLabels (cardOf (now (numbers .entry)) os)) ⌝ }
 {
-    card::free_labels(numbers)
+    card_lookups::free_labels(numbers)
 }

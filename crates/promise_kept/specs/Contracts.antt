@@ -29,11 +29,11 @@ use Rattle.card.proofs.route.Reads as route-reads
 use Rattle.card.proofs.route_core.Reads as route-core-reads
 use Rattle.card.proofs.lost.Reads as lost-reads
 use Rattle.card.proofs.lost_core.Reads as lost-core-reads
-use Rattle.card.proofs.lookup_label.Reads as lookup-label-reads
-use Rattle.card.proofs.lookup_label_core.Reads as lookup-label-core-reads
-use Rattle.card.proofs.lookup_name.Reads as lookup-name-reads
-use Rattle.card.proofs.lookup_name_core.Reads as lookup-name-core-reads
-use Rattle.card.proofs.free_labels.Reads as free-labels-reads
+use Rattle.card_lookups.proofs.lookup_label.Reads as lookup-label-reads
+use Rattle.card_lookups.proofs.lookup_label_core.Reads as lookup-label-core-reads
+use Rattle.card_lookups.proofs.lookup_name.Reads as lookup-name-reads
+use Rattle.card_lookups.proofs.lookup_name_core.Reads as lookup-name-core-reads
+use Rattle.card_lookups.proofs.free_labels.Reads as free-labels-reads
 use Rattle.firmware_events.proofs.card_start.Reads as card-start-reads
 use Rattle.firmware_events.proofs.card_receive.Reads as card-receive-reads
 use Rattle.firmware_events.proofs.card_join.Reads as card-join-reads

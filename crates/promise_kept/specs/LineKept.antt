@@ -13,6 +13,7 @@ use Rattle.promise_line.specs.Line
 use Rattle.promise_line.specs.LineProof.{two-boxes}
 use Rattle.promise_kept.specs.Contracts.{Call, Called, made, Telling, Told, told, Started, began}
 use Rattle.promise_kept.specs.Kept.{Done, call, tell, liveBy, acceptedBy, stepOf, pastOf, called-deed, told-deed}
+use Rattle.meaning.specs.Card.{neighbourCount}
 
 -- ---- a box at its end of the line, as its program sees it
 
@@ -59,7 +60,7 @@ worldOf x y = record { upper = boxOf x; lower = boxOf y }
 
 -- REQUEST 14 OF THE CODE, proved below: at every moment, from either end
 abbrev pub TwoMemories : Type 0
-TwoMemories = (b p d q : ℕ) → p < 16 → q < 16 → (x y : Desk) → Joined b p d q x y → OnOneLine (worldOf x y) × OnOneLine (worldOf y x)
+TwoMemories = (b p d q : ℕ) → p < neighbourCount → q < neighbourCount → (x y : Desk) → Joined b p d q x y → OnOneLine (worldOf x y) × OnOneLine (worldOf y x)
 
 -- ---- a call is an act
 

@@ -13,7 +13,7 @@ use lib.Dec.{eqb, ltb}
 use borrow.Author.Tests.{eq-eqb, ne-eqb, ltb-false}
 use denote.Ref.{now}
 use Rattle.meaning.specs.Octets.{pick}
-use Rattle.meaning.specs.Card.{Branch, Feed, isBranch, branchesFrom}
+use Rattle.meaning.specs.Card.{Branch, Feed, isBranch, branchesFrom, neighbourCount}
 use Rattle.meaning.specs.Calls.{feedIn, does-one, hands-one}
 use Rattle.meaning.specs.Lists.{by-test}
 use Rattle.memory.specs.Memory.{cardOf}
@@ -28,11 +28,11 @@ use Rattle.card.proofs.route.Reads as route-reads
 use Rattle.card.proofs.route_core.Reads as route-core-reads
 use Rattle.card.proofs.lost.Reads as lost-reads
 use Rattle.card.proofs.lost_core.Reads as lost-core-reads
-use Rattle.card.proofs.lookup_label.Reads as lookup-label-reads
-use Rattle.card.proofs.lookup_label_core.Reads as lookup-label-core-reads
-use Rattle.card.proofs.lookup_name.Reads as lookup-name-reads
-use Rattle.card.proofs.lookup_name_core.Reads as lookup-name-core-reads
-use Rattle.card.proofs.free_labels.Reads as free-labels-reads
+use Rattle.card_lookups.proofs.lookup_label.Reads as lookup-label-reads
+use Rattle.card_lookups.proofs.lookup_label_core.Reads as lookup-label-core-reads
+use Rattle.card_lookups.proofs.lookup_name.Reads as lookup-name-reads
+use Rattle.card_lookups.proofs.lookup_name_core.Reads as lookup-name-core-reads
+use Rattle.card_lookups.proofs.free_labels.Reads as free-labels-reads
 use Rattle.notice_writer.proofs.notice.Reads as notice-reads
 use Rattle.notice_writer.proofs.notice_core.Reads as notice-core-reads
 use Rattle.notice_reader.proofs.read_notice.Reads as read-notice-reads
@@ -170,7 +170,7 @@ card-lost-one κs a r r′ s s′ h h′ = does-one _ _ _ _ _ _ _ _ _ _ h h′
 
 -- ---- lookups: the leaf mark and the sixteen labels
 
-pub lookup-label-one : (κs : _) (a : _) (r r′ : _) (s s′ : _) → lookup-label-reads.Learnt κs a r s → lookup-label-reads.Learnt κs a r′ s′ → length (r .branches) ≡ 16 → length (r′ .branches) ≡ 16 → (r .leaf ≡ r′ .leaf) × (r .branches ≡ r′ .branches)
+pub lookup-label-one : (κs : _) (a : _) (r r′ : _) (s s′ : _) → lookup-label-reads.Learnt κs a r s → lookup-label-reads.Learnt κs a r′ s′ → length (r .branches) ≡ neighbourCount → length (r′ .branches) ≡ neighbourCount → (r .leaf ≡ r′ .leaf) × (r .branches ≡ r′ .branches)
 lookup-label-one κs a r r′ s s′ h h′ n n′ = feed-one _ _ _ _ n n′ (h [] ∙ sym (h′ []))
 
 pub lookup-label-core-one : (κs : _) (a : _) (r r′ : _) (s s′ : _) → lookup-label-core-reads.Learnt κs a r s → lookup-label-core-reads.Learnt κs a r′ s′ → length (now (s .1 .1 .0)) ≡ 16 → length (now (s′ .1 .1 .0)) ≡ 16 → (r ≡ r′) × (now (s .1 .1 .0) ≡ now (s′ .1 .1 .0))
@@ -179,7 +179,7 @@ lookup-label-core-one κs a r r′ s s′ h h′ n n′ = feed-one _ _ _ _ n n�
 pub card-lookup-label-one : (κs : _) (a : _) (r r′ : _) (s s′ : _) → card-lookup-label-reads.Learnt κs a r s → card-lookup-label-reads.Learnt κs a r′ s′ → length (now (s .1 .1 .0)) ≡ 16 → length (now (s′ .1 .1 .0)) ≡ 16 → (r ≡ r′) × (now (s .1 .1 .0) ≡ now (s′ .1 .1 .0))
 card-lookup-label-one κs a r r′ s s′ h h′ n n′ = feed-one _ _ _ _ n n′ (h [] ∙ sym (h′ []))
 
-pub lookup-name-one : (κs : _) (a : _) (r r′ : _) (s s′ : _) → lookup-name-reads.Learnt κs a r s → lookup-name-reads.Learnt κs a r′ s′ → length (r .branches) ≡ 16 → length (r′ .branches) ≡ 16 → (r .leaf ≡ r′ .leaf) × (r .branches ≡ r′ .branches)
+pub lookup-name-one : (κs : _) (a : _) (r r′ : _) (s s′ : _) → lookup-name-reads.Learnt κs a r s → lookup-name-reads.Learnt κs a r′ s′ → length (r .branches) ≡ neighbourCount → length (r′ .branches) ≡ neighbourCount → (r .leaf ≡ r′ .leaf) × (r .branches ≡ r′ .branches)
 lookup-name-one κs a r r′ s s′ h h′ n n′ = feed-one _ _ _ _ n n′ (h ∙ sym h′)
 
 pub lookup-name-core-one : (κs : _) (a : _) (r r′ : _) (s s′ : _) → lookup-name-core-reads.Learnt κs a r s → lookup-name-core-reads.Learnt κs a r′ s′ → length (now (s .1 .1 .1 .0)) ≡ 16 → length (now (s′ .1 .1 .1 .0)) ≡ 16 → (r ≡ r′) × (now (s .1 .1 .1 .0) ≡ now (s′ .1 .1 .1 .0))

@@ -1,4 +1,4 @@
--- `firmware_lookups::card_lookup_label` meets its contract: it is that of `card::lookup_label_core`. Assumes nothing.
+-- `firmware_lookups::card_lookup_label` meets its contract: it is that of `card_lookups::lookup_label_core`. Assumes nothing.
 use borrow.Author.Needs.{needs}
 use Rattle.firmware_lookups.proofs.card_lookup_label.Statement.{statement}
 use Rattle.firmware_lookups.proofs.card_lookup_label.Tie as tie
