@@ -10,7 +10,7 @@ use borrow.Author.Tests.{eq-eqb, ne-eqb, eqb-true, le-leb, lt-leb, le-ltb, lt-lt
 use Rattle.meaning.specs.Octets.{_when_else_}
 use Rattle.meaning.specs.Lists.{positive, by-test}
 use Rattle.meaning.specs.Wire.{elementRefusal}
-use Rattle.meaning.specs.Card.{Card, fresh, withNext}
+use Rattle.meaning.specs.Card.{Card, fresh, withNext, neighbourCount}
 use Rattle.meaning.specs.Events.{unless, refuse, accept, finish, noNeighbour, onOctets, onJoin, onLeave, notRoute, notRoot, onRoute, part, onLost, receive, join, leave, route, lost, outcome, event, baseOutside, start}
 use Rattle.meaning.specs.Calls.{Does}
 use Rattle.event_join.specs.Order.{joinOf}
@@ -23,7 +23,7 @@ use Rattle.card_messages.proofs.Messages.{unless-refused, unless-none}
 -- ---- start
 
 module _ (base : ℕ) where
-  outside-low : base < 16 → baseOutside base ≡ true
+  outside-low : base < neighbourCount → baseOutside base ≡ true
   unfolding baseOutside
   outside-low h = rw (lt-leb 16 base h) refl
 
@@ -39,7 +39,7 @@ module _ (base : ℕ) where
   unfolding start
   starts-refused e = rw e (unfold refuse in (refl, refl))
 
-  pub starts-low : base < 16 → (17 ≡ start base .answer) × (fresh 16 ≡ start base .card)
+  pub starts-low : base < neighbourCount → (17 ≡ start base .answer) × (fresh 16 ≡ start base .card)
   starts-low h = starts-refused (outside-low h)
 
   pub starts-high : 1048320 < base → (17 ≡ start base .answer) × (fresh 16 ≡ start base .card)

@@ -10,7 +10,7 @@ use borrow.Author.Tests.{eq-eqb, ne-eqb, leb-true, leb-false, ltb-true, ltb-fals
 use Rattle.meaning.specs.Octets.{place}
 use Rattle.meaning.specs.Lists.{by-test, getD-out, set-replicate}
 use Rattle.meaning.specs.Wire.{rootIn, elementRefusal}
-use Rattle.meaning.specs.Card.{Card, Tree, Use, free, mapped, awaiting, Feed, noRoute, bare, treePlace, treeAt, isBranch, notHeld, mappedTo, useOf, routeOf, Branch, nothing, branchesFrom, feedOf, carries, carrier, feedOfUse, lookupLabel, lookupName, labelCount}
+use Rattle.meaning.specs.Card.{Card, Tree, Use, free, mapped, awaiting, Feed, noRoute, bare, treePlace, treeAt, isBranch, notHeld, mappedTo, useOf, routeOf, Branch, nothing, branchesFrom, feedOf, carries, carrier, feedOfUse, lookupLabel, lookupName, labelCount, neighbourCount}
 use Rattle.meaning_laws.specs.Standing.{standing-at, not-standing}
 use Rattle.octets.specs.Part.{tab}
 use Rattle.octets.proofs.Tab.{tab-length}
@@ -20,7 +20,7 @@ use Rattle.memory.proofs.Marks.{label-free, label-mapped, label-awaiting}
 use Rattle.memory.proofs.Labels.{use-in}
 use Rattle.meaning.specs.Calls.{feedIn}
 
-pub empty-feed : feedIn (replicate 16 0) false ≡ nothing
+pub empty-feed : feedIn (replicate neighbourCount 0) false ≡ nothing
 unfolding nothing branchesFrom isBranch
 empty-feed = refl
 

@@ -9,6 +9,7 @@ ghost use Rattle.memory.specs.Sizes.{Numbers, Names};
 ghost use Rattle.memory.specs.Memory.{cardOf};
 ghost use Rattle.card_messages.specs.Messages.{onRead};
 use wire_reader::Read;
+ghost use Rattle.meaning.specs.Card.{neighbourCount};
 
 fn on_message(
     numbers: &mut [u64],
@@ -20,7 +21,7 @@ fn on_message(
     out: &mut [u8],
     answer: &mut u32,
 ) -> usize
-    requires { ⌜ Numbers (now numbers) × Names (now names) × (n < 16) × (16 ≤ label) × (length (now name) ≤ nameLimit) ⌝ }
+    requires { ⌜ Numbers (now numbers) × Names (now names) × (n < neighbourCount) × (16 ≤ label) × (length (now name) ≤ nameLimit) ⌝ }
     ensures { λ r. ⌜ (let c = cardOf (now (numbers .entry)) (now (names .entry)) in Does (finish (length (now (out .entry))) c (onMessage c n (record { kind = kind; name = now (name .entry); label = label })))
         (now (answer .exit)) r (now (out .entry)) (now (out .exit)) (cardOf (now (numbers .exit)) (now (names .exit)))) ⌝ }
 {
@@ -47,7 +48,7 @@ pub fn on_read(
     out: &mut [u8],
     answer: &mut u32,
 ) -> usize
-    requires { ⌜ Numbers (now numbers) × Names (now names) × (n < 16) ⌝ }
+    requires { ⌜ Numbers (now numbers) × Names (now names) × (n < neighbourCount) ⌝ }
     ensures { λ r. ⌜ (let c = cardOf (now (numbers .entry)) (now (names .entry)) in Does (finish (length (now (out .entry))) c (onRead c n (now (message .entry))))
         (now (answer .exit)) r (now (out .entry)) (now (out .exit)) (cardOf (now (numbers .exit)) (now (names .exit)))) ⌝ }
 {

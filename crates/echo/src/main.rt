@@ -124,7 +124,7 @@ fn is_missized(message: &[u8]) -> bool {
 fn is_right(out: &[u8], sent: Sent, name: &[u8]) -> bool
     requires { ⌜ 25 + length (now name) ≤ length (now out) ⌝ }
 {
-    let end = 24 + name.len();
+    let end = RECORD_BESIDE + name.len();
     let less = end - 1;
     let more = end + 1;
     if !is_whole(&out[0..end], sent) {

@@ -8,7 +8,7 @@ use lib.ListN.{length, set}
 use lib.Seq.{set-out}
 use Rattle.meaning.specs.Octets.{any}
 use Rattle.meaning.specs.Lists.{by-test, picked}
-use Rattle.meaning.specs.Card.{Tree, nobody, isBranch, notHeld, leadsOn, withBranch, withLeaf}
+use Rattle.meaning.specs.Card.{Tree, nobody, isBranch, notHeld, leadsOn, withBranch, withLeaf, neighbourCount}
 use Rattle.meaning.specs.Events.{holder}
 
 module _ (u n x : ℕ) (t : Tree) (leaf : Bool) where
@@ -25,7 +25,7 @@ module _ (u n x : ℕ) (t : Tree) (leaf : Bool) where
   held-none e k = rw (e, k) refl
 
 -- sixteen places: a store at the seventeenth is none
-pub with-none : (t : Tree) (leaf : Bool) (x : ℕ) → length (t .branches) ≡ 16 → withLeaf leaf (withBranch 16 x t) ≡ withLeaf leaf t
+pub with-none : (t : Tree) (leaf : Bool) (x : ℕ) → length (t .branches) ≡ neighbourCount → withLeaf leaf (withBranch 16 x t) ≡ withLeaf leaf t
 unfolding withLeaf withBranch
 with-none t leaf x e = ap (λ (bs : List ℕ). record { name = t .name; branches = bs; leaf = leaf; label = t .label }) (set-out (t .branches) 16 x (omega arith))
 

@@ -5,7 +5,7 @@ use mathlib.Core.Path.{_≡_, refl}
 use mathlib.Core.Bool.{false}
 use borrow.Author.Tests.{eq-eqb, ne-eqb, lt-ltb, le-ltb}
 use Rattle.meaning.specs.Wire.{recordSize}
-use Rattle.meaning.specs.Card.{Tree, Card, heldFor, freeLabels}
+use Rattle.meaning.specs.Card.{Tree, Card, heldFor, freeLabels, neighbourCount}
 use Rattle.meaning.specs.Events.{needMove, need, labelsShort, upstream}
 use Rattle.event_holder.specs.Move.{moveSize, relabelSize}
 
@@ -66,10 +66,10 @@ short-none c n e = rw (le-ltb (freeLabels c) n (omega arith)) refl
 abbrev pub Upstream : ℕ → ℕ → Type 0
 Upstream r via = (r ≡ upstream via) × (r ≤ 17) × (r ≡ 16 → ⊥)
 
-pub upstream-some : (via : ℕ) → via < 16 → Upstream via via
+pub upstream-some : (via : ℕ) → via < neighbourCount → Upstream via via
 unfolding upstream
-upstream-some via h = (rw (lt-ltb via 16 h) refl, omega arith, λ e. omega arith)
+upstream-some via h = (rw (lt-ltb via neighbourCount h) refl, omega arith, λ e. omega arith)
 
-pub upstream-none : (via : ℕ) → 16 ≤ via → Upstream 17 via
+pub upstream-none : (via : ℕ) → neighbourCount ≤ via → Upstream 17 via
 unfolding upstream
-upstream-none via h = (rw (le-ltb via 16 h) refl, omega arith, λ e. omega arith)
+upstream-none via h = (rw (le-ltb via neighbourCount h) refl, omega arith, λ e. omega arith)

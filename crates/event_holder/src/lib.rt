@@ -3,18 +3,21 @@ ghost use mathlib.Core.Path.{_≡_};
 ghost use mathlib.Core.List.{List};
 ghost use Prim.Native.Nat.{ℕ, _+_, _*_, _≤_, _<_};
 ghost use Rattle.meaning.specs.Wire.{rootIn, recordLimit};
-ghost use Rattle.meaning.specs.Card.{withBranch, withLeaf, treeAt, routeOf, routePlace, treeLimit};
+ghost use Rattle.meaning.specs.Card.{withBranch, withLeaf, treeAt, routeOf, routePlace, treeLimit, thisNode};
 ghost use Rattle.meaning.specs.Events.{need, labelsShort, upstream, holder};
 ghost use Rattle.memory.specs.Sizes.{Numbers, Names};
 ghost use Rattle.memory.specs.Memory.{cardOf, treeCount};
 ghost use Rattle.event_holder.specs.Move.{moveSize, relabelSize};
+use meaning::RECORD_BESIDE;
+use memory::NEIGHBOURS;
+use memory::NO_NEIGHBOUR;
 
 // How many octets the records of a move have.
 pub fn move_size(numbers: &[u64], names: &[u8], i: usize, u: u64) -> usize
     requires { ⌜ Numbers (now numbers) × Names (now names) × (i < treeCount (now numbers)) × (i < treeLimit) ⌝ }
     ensures { λ r. ⌜ (r ≡ moveSize (treeAt i (cardOf (now (numbers .entry)) (now (names .entry)))) u) × (r ≤ 2 * recordLimit) ⌝ }
 {
-    let size = 24 + memory_trees::tree_name(names, i).len();
+    let size = RECORD_BESIDE + memory_trees::tree_name(names, i).len();
     if memory_trees::tree_label(numbers, i) == 0 {
         if u == 17 {
             return 0;
@@ -53,15 +56,15 @@ pub fn no_label_for(numbers: &[u64], i: usize, u: u64) -> bool
 
 // The neighbour that a route leads to; 17 for none.
 pub fn upstream_via(via: u64) -> u64
-    ensures { λ r. ⌜ (r ≡ upstream via) × (r ≤ 17) × (r ≡ 16 → ⊥) ⌝ }
+    ensures { λ r. ⌜ (r ≡ upstream via) × (r ≤ 17) × (r ≡ thisNode → ⊥) ⌝ }
 {
-    if via < 16 { via } else { 17 }
+    if via < NEIGHBOURS { via } else { 17 }
 }
 
 // The upstream of the trees whose root's place is k; 17 for none.
 pub fn upstream_at(numbers: &[u64], k: usize) -> u64
     requires { ⌜ Numbers (now numbers) ⌝ }
-    ensures { λ r. ⌜ ((os root : List ℕ) → (let c = cardOf (now (numbers .entry)) os in k ≡ routePlace root c → r ≡ upstream (routeOf root c))) × (r ≤ 17) × (r ≡ 16 → ⊥) ⌝ }
+    ensures { λ r. ⌜ ((os root : List ℕ) → (let c = cardOf (now (numbers .entry)) os in k ≡ routePlace root c → r ≡ upstream (routeOf root c))) × (r ≤ 17) × (r ≡ thisNode → ⊥) ⌝ }
 {
     upstream_via(memory_routes::route_at(numbers, k))
 }
@@ -69,12 +72,12 @@ pub fn upstream_at(numbers: &[u64], k: usize) -> u64
 // The neighbour that a tree of this name, if it is not empty, holds a label for; 17 for none.
 pub fn upstream_of(numbers: &[u64], names: &[u8], name: &[u8]) -> u64
     requires { ⌜ Numbers (now numbers) × Names (now names) ⌝ }
-    ensures { λ r. ⌜ (r ≡ upstream (routeOf (rootIn (now (name .entry))) (cardOf (now (numbers .entry)) (now (names .entry))))) × (r ≤ 17) × (r ≡ 16 → ⊥) ⌝ }
+    ensures { λ r. ⌜ (r ≡ upstream (routeOf (rootIn (now (name .entry))) (cardOf (now (numbers .entry)) (now (names .entry))))) × (r ≤ 17) × (r ≡ thisNode → ⊥) ⌝ }
 {
     upstream_via(memory_routes::route_of(numbers, names, wire_name::root_of(name)))
 }
 
-// The neighbour for which the tree at place i holds a label where u is its upstream, once neighbour n's branch is x (16: nobody's
+// The neighbour for which the tree at place i holds a label where u is its upstream, once neighbour n's branch is x (NO_NEIGHBOUR: nobody's
 // changes) and its leaf mark is `leaf`; 17 for none.
 pub fn holder_then(numbers: &[u64], i: usize, n: usize, x: u64, leaf: bool, u: u64) -> u64
     requires { ⌜ Numbers (now numbers) × (i < treeCount (now numbers)) × (i < treeLimit) ⌝ }
@@ -94,5 +97,12 @@ pub fn holder(numbers: &[u64], i: usize, u: u64) -> u64
     requires { ⌜ Numbers (now numbers) × (i < treeCount (now numbers)) × (i < treeLimit) ⌝ }
     ensures { λ r. ⌜ ((os : List ℕ) → r ≡ holder u (treeAt i (cardOf (now (numbers .entry)) os))) ⌝ }
 {
-    holder_then(numbers, i, 16, 0, memory_trees::is_leaf(numbers, i), u)
+    holder_then(
+        numbers,
+        i,
+        NO_NEIGHBOUR,
+        0,
+        memory_trees::is_leaf(numbers, i),
+        u,
+    )
 }

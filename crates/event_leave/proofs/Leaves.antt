@@ -7,7 +7,7 @@ use mathlib.Core.List.{List, []}
 use lib.ListN.{length, set}
 use lib.Seq.{set-set, set-out}
 use Rattle.meaning.specs.Octets.{any, _when_else_}
-use Rattle.meaning.specs.Card.{Tree, Card, free, withLeaf, bare, treePlace, treeAt, isBranch, isEmpty, useOf}
+use Rattle.meaning.specs.Card.{Tree, Card, free, withLeaf, bare, treePlace, treeAt, isBranch, isEmpty, useOf, neighbourCount}
 use Rattle.meaning.specs.Events.{refused, unless, finish, need, labelsShort, holderOf, treeRefusal, enter, become, notLeaf}
 use Rattle.meaning.specs.Calls.{Does}
 use Rattle.event_leave.specs.Order.{leaveOf}
@@ -23,7 +23,7 @@ module _ (c : Card) (i : ℕ) (ei : i ≡ treePlace (treeAt i c .name) c) (h : i
   left-standing eu = record { place = unfold withLeaf in ei; within = h; label = unfold withLeaf in refl; name = unfold withLeaf in refl; upstream = eu }
 
 -- no branch changes, and none is set apart
-pub leaf-gone : (t : Tree) (x : Bool) → length (t .branches) ≡ 16 → x ≡ any isBranch (set (set (t .branches) 16 0) 16 0) → not x ≡ isEmpty (withLeaf false t)
+pub leaf-gone : (t : Tree) (x : Bool) → length (t .branches) ≡ neighbourCount → x ≡ any isBranch (set (set (t .branches) 16 0) 16 0) → not x ≡ isEmpty (withLeaf false t)
 leaf-gone t x l e = rw (e, set-set (t .branches) 16 0 0, set-out (t .branches) 16 0 (omega arith)) (unfold isEmpty withLeaf in sym (and-true (not (any isBranch (t .branches)))))
 
 -- ---- the order

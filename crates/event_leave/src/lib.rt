@@ -8,6 +8,7 @@ ghost use Rattle.meaning.specs.Calls.{Does};
 ghost use Rattle.memory.specs.Sizes.{Numbers, Names};
 ghost use Rattle.memory.specs.Memory.{cardOf, treeCount};
 ghost use Rattle.event_leave.specs.Order.{leaveOf};
+use memory::NO_NEIGHBOUR;
 
 // The leaf of the tree at place i leaves.
 fn leave_standing(
@@ -22,7 +23,7 @@ fn leave_standing(
     ensures { λ r. ⌜ (let c = cardOf (now (numbers .entry)) (now (names .entry)) in Does (finish (length (now (out .entry))) c (leaveOf c (treeAt i c .name)))
         (now (answer .exit)) r (now (out .entry)) (now (out .exit)) (cardOf (now (numbers .exit)) (now (names .exit)))) ⌝ }
 {
-    let empty = !memory_trees::any_branch(numbers, i, 16, 0, 16);
+    let empty = !memory_trees::any_branch(numbers, i, NO_NEIGHBOUR, 0, NO_NEIGHBOUR);
     let k = memory_counts::its_root(numbers, names, i);
     let u = event_tree::leaf_holder(numbers, i, k, false);
     if !memory_trees::is_leaf(numbers, i) {

@@ -7,7 +7,7 @@ use mathlib.Core.List.{List}
 use borrow.Author.Tests.{eq-eqb, ne-eqb}
 use Rattle.meaning.specs.Lists.{by-test}
 use Rattle.meaning.specs.Wire.{recordSize}
-use Rattle.meaning.specs.Card.{Tree, Card, withBranch, withLeaf, treeAt, leadsOn, mappedTo, heldFor}
+use Rattle.meaning.specs.Card.{Tree, Card, withBranch, withLeaf, treeAt, leadsOn, mappedTo, heldFor, neighbourCount}
 use Rattle.meaning.specs.Events.{holder}
 use Rattle.meaning_laws.specs.Losses.{lossSize}
 use Rattle.memory.specs.Memory.{cardOf, baseIn, treeCount, carriesAt, ownPlace, markAt, markUse}
@@ -51,7 +51,7 @@ own-leaf : (n : ℕ) (t : Tree) (leaf : Bool) → leaf ≡ t .leaf → withLeaf 
 own-leaf n t leaf e = rw e (unfold withLeaf withBranch in refl)
 
 module _ (n : ℕ) (c : Card) (t : Tree) (u : ℕ) (eu : u ≡ heldFor c t) where
-  pub loss-bare : n < 16 → u ≡ 17 → t .label ≡ 0 → 0 ≡ lossSize n c t
+  pub loss-bare : n < neighbourCount → u ≡ 17 → t .label ≡ 0 → 0 ≡ lossSize n c t
   unfolding lossSize
   loss-bare near z l =
       rw (← eu, ne-eqb u n (λ k. omega arith), eq-eqb (t .label) 0 l)

@@ -6,7 +6,7 @@ ghost use Prim.Native.Nat.{ℕ, _+_, _*_, _≤_, _<_};
 ghost use lib.ListN.{length};
 ghost use lib.Dec.{ltb};
 ghost use Rattle.meaning.specs.Wire.{records, recordLimit};
-ghost use Rattle.meaning.specs.Card.{treeAt, treeLimit};
+ghost use Rattle.meaning.specs.Card.{treeAt, treeLimit, neighbourCount};
 ghost use Rattle.meaning.specs.Events.{finish, swept, shed, shedFrom, sweptBelow, part};
 ghost use Rattle.meaning_laws.specs.Losses.{lossSize};
 ghost use Rattle.meaning.specs.Calls.{Does};
@@ -16,13 +16,14 @@ ghost use Rattle.event_holder.specs.Move.{Wrote};
 ghost use Rattle.event_tree.specs.End.{Ended};
 ghost use Rattle.event_lost.specs.Lost.{lostTo, lossAll};
 use event_move::Written;
+use meaning::RECORD_BESIDE;
 use meaning::RECORD_LIMIT;
 
 // ---- how much it writes
 
 // How many octets the Withdraw of the tree at place i has, once neighbour n is lost; 0 where it sends none.
 fn loss_of(numbers: &[u64], names: &[u8], i: usize, n: usize) -> usize
-    requires { ⌜ Numbers (now numbers) × Names (now names) × (i < treeCount (now numbers)) × (i < treeLimit) × (n < 16) ⌝ }
+    requires { ⌜ Numbers (now numbers) × Names (now names) × (i < treeCount (now numbers)) × (i < treeLimit) × (n < neighbourCount) ⌝ }
     ensures { λ r. ⌜ (let c = cardOf (now (numbers .entry)) (now (names .entry)) in (r ≡ lossSize n c (treeAt i c)) × (r ≤ recordLimit)) ⌝ }
 {
     let u = memory_trees::held_for(numbers, i);
@@ -34,14 +35,14 @@ fn loss_of(numbers: &[u64], names: &[u8], i: usize, n: usize) -> usize
     }
     let leaf = memory_trees::is_leaf(numbers, i);
     if event_holder::holder_then(numbers, i, n, 0, leaf, u) == 17 {
-        return 24 + memory_trees::tree_name(names, i).len();
+        return RECORD_BESIDE + memory_trees::tree_name(names, i).len();
     }
     0
 }
 
 // Of all trees, as they stand before it.
 fn loss_size(numbers: &[u64], names: &[u8], n: usize) -> usize
-    requires { ⌜ Numbers (now numbers) × Names (now names) × (n < 16) ⌝ }
+    requires { ⌜ Numbers (now numbers) × Names (now names) × (n < neighbourCount) ⌝ }
     ensures { λ r. ⌜ (r ≡ lossAll n (cardOf (now (numbers .entry)) (now (names .entry)))) × (r ≤ treeLimit * recordLimit) ⌝ }
 {
     let k = memory::tree_count(numbers);
@@ -56,7 +57,7 @@ fn loss_size(numbers: &[u64], names: &[u8], n: usize) -> usize
 
 // 16. Where there is room for a record of each tree that stands, none of them need be looked at.
 fn is_short(numbers: &[u64], names: &[u8], n: usize, room: usize) -> bool
-    requires { ⌜ Numbers (now numbers) × Names (now names) × (n < 16) ⌝ }
+    requires { ⌜ Numbers (now numbers) × Names (now names) × (n < neighbourCount) ⌝ }
     ensures { λ r. ⌜ r ≡ ltb room (lossAll n (cardOf (now (numbers .entry)) (now (names .entry)))) ⌝ }
 {
     if memory::tree_count(numbers) * RECORD_LIMIT <= room {
@@ -136,7 +137,7 @@ fn sweep(numbers: &mut [u64], names: &mut [u8])
 // ---- all of it
 
 fn part(numbers: &mut [u64], names: &mut [u8], n: usize, out: &mut [u8]) -> usize
-    requires { ⌜ Numbers (now numbers) × Names (now names) × (n < 16) × (lossAll n (cardOf (now numbers) (now names)) ≤ length (now out)) ⌝ }
+    requires { ⌜ Numbers (now numbers) × Names (now names) × (n < neighbourCount) × (lossAll n (cardOf (now numbers) (now names)) ≤ length (now out)) ⌝ }
     ensures { λ r. ⌜ (let c = cardOf (now (numbers .entry)) (now (names .entry)) in Ended (lostTo c n) (c .next) 0 (now (out .entry)) (now (out .exit)) (cardOf (now (numbers .exit)) (now (names .exit))) r) ⌝ }
 {
     let id = memory::next_id(numbers);
@@ -157,7 +158,7 @@ pub fn lose(
     out: &mut [u8],
     answer: &mut u32,
 ) -> usize
-    requires { ⌜ Numbers (now numbers) × Names (now names) × (n < 16) ⌝ }
+    requires { ⌜ Numbers (now numbers) × Names (now names) × (n < neighbourCount) ⌝ }
     ensures { λ r. ⌜ (let c = cardOf (now (numbers .entry)) (now (names .entry)) in Does (finish (length (now (out .entry))) c (part c n))
         (now (answer .exit)) r (now (out .entry)) (now (out .exit)) (cardOf (now (numbers .exit)) (now (names .exit)))) ⌝ }
 {

@@ -8,7 +8,7 @@ use lib.Dec.{eqb}
 use borrow.Author.Tests.{eq-eqb, ne-eqb}
 use Rattle.meaning.specs.Octets.{_when_else_}
 use Rattle.meaning.specs.Lists.{positive}
-use Rattle.meaning.specs.Card.{Tree, Card, free, withBranch, bare, treePlace, treeAt, isEmpty, useOf}
+use Rattle.meaning.specs.Card.{Tree, Card, free, withBranch, bare, treePlace, treeAt, isEmpty, useOf, neighbourCount}
 use Rattle.meaning.specs.Events.{unless, finish, holderOf, become, branch, otherLabel, onMapping}
 use Rattle.meaning.specs.Calls.{Does}
 use Rattle.event_tree.proofs.Found.{found-tree}
@@ -55,7 +55,7 @@ pub branch-left : (t : Tree) (n l : ℕ) → n < length (t .branches) → (l ≡
 branch-left t n l h z = sym (branch-full t n l h (positive l z))
 
 module _ (c : Card) (a : List ℕ) (i u : ℕ) (ei : i ≡ treePlace a c) (h : i ≡ length (c .trees)) (z : useOf 0 c ≡ free) where
-  pub mapped-new : (n l : ℕ) → n < 16 → 0 < l → u ≡ holderOf c (withBranch n l (bare a)) → Newcomer c (withBranch n l (bare a)) a i u
+  pub mapped-new : (n l : ℕ) → n < neighbourCount → 0 < l → u ≡ holderOf c (withBranch n l (bare a)) → Newcomer c (withBranch n l (bare a)) a i u
   mapped-new n l k p eu = record {
     name = unfold withBranch bare in refl;
     place = unfold withBranch bare in ei;

@@ -8,7 +8,7 @@ use lib.Dec.{eqb, ltb}
 use borrow.Author.Tests.{ltb-true, ltb-false, eq-eqb, ne-eqb, eqb-true, eqb-false}
 use Rattle.meaning.specs.Octets.{pick}
 use Rattle.meaning.specs.Lists.{by-test}
-use Rattle.meaning.specs.Card.{Tree, Use, free, Card, withTrees, withLabels, withLabel, treeAt, mappedTo, heldFor, labelCount}
+use Rattle.meaning.specs.Card.{Tree, Use, free, Card, withTrees, withLabels, withLabel, treeAt, mappedTo, heldFor, labelCount, neighbourCount}
 use Rattle.meaning.specs.Events.{isOf, freedOf, usesWithout}
 use Rattle.octets.specs.Part.{tab}
 use Rattle.octets.proofs.Tab.{tab-ext}
@@ -35,7 +35,7 @@ module _ (n : ℕ) (ns : List ℕ) (p : ℕ) where
   of-other f ne = rw (f, ne-eqb _ _ ne) refl
 
   -- the same of the use that the card says
-  of-use : n < 16 → (os : List ℕ) → isOf n (labelIn ns os p) ≡ isOfAt n ns p
+  of-use : n < neighbourCount → (os : List ℕ) → isOf n (labelIn ns os p) ≡ isOfAt n ns p
   of-use h os =
       by-test (isFreeAt ns p)
       (λ e. rw (label-free ns p os e, of-free e) (unfold isOf in refl))
@@ -100,7 +100,7 @@ unfolding labelsWithout tab
 trees-tab n c zero f = refl
 trees-tab n c (suc k) f = ap (λ (l : List Tree). withLabel (pick (eqb (heldFor c (f 0)) n) 0 (f 0 .label)) (f 0) ∷ l) (trees-tab n c k (λ i. f (suc i)))
 
-module _ (n : ℕ) (near : n < 16) (ns ms : List ℕ) (r : Freed n 0 labelCount ns ms) (os : List ℕ) where
+module _ (n : ℕ) (near : n < neighbourCount) (ns ms : List ℕ) (r : Freed n 0 labelCount ns ms) (os : List ℕ) where
   freed-label : (q : ℕ) → q < labelCount → labelIn ms os q ≡ freedOf n (labelIn ns os q)
   unfolding freedOf
   freed-label q h =

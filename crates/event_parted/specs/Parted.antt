@@ -6,7 +6,7 @@ use mathlib.Core.List.{List, [], _∷_}
 use lib.ListN.{length, getD}
 use lib.Dec.{eqb}
 use Rattle.meaning.specs.Octets.{pick}
-use Rattle.meaning.specs.Card.{Tree, Card, withBranch, withLabel, heldFor, labelCount}
+use Rattle.meaning.specs.Card.{Tree, Card, withBranch, withLabel, heldFor, labelCount, neighbourCount}
 use Rattle.memory.specs.Sizes.{markColumn}
 use Rattle.memory.specs.Memory.{isFreeAt, markAt, markUse}
 
@@ -22,7 +22,7 @@ labelsWithout n c (t ∷ ts) = withLabel (pick (eqb (heldFor c t) n) 0 (t .label
 
 -- whether the label at place p is n's: mapped to it, or awaiting its release
 unfoldable pub isOfAt : ℕ → List ℕ → ℕ → Bool
-isOfAt n ns p = not (isFreeAt ns p) && (eqb (markUse (markAt ns p)) n || eqb (markUse (markAt ns p)) (16 + n))
+isOfAt n ns p = not (isFreeAt ns p) && (eqb (markUse (markAt ns p)) n || eqb (markUse (markAt ns p)) (neighbourCount + n))
 
 -- Of the labels from place a on and before place e those that are n's are free, and all else is as it was. (The mark of a free label is not read.)
 pub record Freed (n a e : ℕ) (ns ms : List ℕ) : Type 0 where

@@ -5,19 +5,20 @@ ghost use Prim.Native.Nat.{ℕ, _+_, _<_};
 ghost use lib.ListN.{getD, set};
 ghost use lib.Dec.{eqb};
 ghost use Rattle.meaning.specs.Octets.{pick, cut};
-ghost use Rattle.meaning.specs.Card.{noEntry, labelCount, routeLimit, treeLimit, treeAt, withBranch, withRoutes, withTrees, withLabels};
+ghost use Rattle.meaning.specs.Card.{noEntry, labelCount, routeLimit, treeLimit, treeAt, withBranch, withRoutes, withTrees, withLabels, neighbourCount};
 ghost use Rattle.meaning.specs.Events.{usesWithout, recounted, recountedWithout, routesWithout, parted};
 ghost use Rattle.memory.specs.Sizes.{Numbers, Names};
 ghost use Rattle.memory.specs.Memory.{cardOf, routeCount, treeCount};
 ghost use Rattle.event_parted.specs.Parted.{branchesWithout, labelsWithout, isOfAt, Freed};
 use meaning::LABEL_COUNT;
 use memory::MARK_COLUMN;
+use memory::NEIGHBOURS;
 
 // ---- branches
 
 // The tree at place i loses neighbour n's branch, where it has one, and is counted so.
 fn end_branch(numbers: &mut [u64], names: &[u8], i: usize, n: usize)
-    requires { ⌜ Numbers (now numbers) × Names (now names) × (i < treeCount (now numbers)) × (i < treeLimit) × (n < 16) ⌝ }
+    requires { ⌜ Numbers (now numbers) × Names (now names) × (i < treeCount (now numbers)) × (i < treeLimit) × (n < neighbourCount) ⌝ }
     ensures { λ _. ⌜ (let c = cardOf (now (numbers .entry)) (now (names .entry)) in let t = withBranch n 0 (treeAt i c) in
         cardOf (now (numbers .exit)) (now (names .entry)) ≡ recounted (treeAt i c) t (withTrees (set (c .trees) i t) c)) ⌝ }
 {
@@ -30,7 +31,7 @@ fn end_branch(numbers: &mut [u64], names: &[u8], i: usize, n: usize)
 
 // Every tree loses neighbour n's branch.
 pub fn end_branches(numbers: &mut [u64], names: &[u8], n: usize)
-    requires { ⌜ Numbers (now numbers) × Names (now names) × (n < 16) ⌝ }
+    requires { ⌜ Numbers (now numbers) × Names (now names) × (n < neighbourCount) ⌝ }
     ensures { λ _. ⌜ (let c = cardOf (now (numbers .entry)) (now (names .entry)) in cardOf (now (numbers .exit)) (now (names .entry))
         ≡ withRoutes (recountedWithout n (c .trees) (c .routes)) (withTrees (branchesWithout n (c .trees)) c)) ⌝ }
 {
@@ -46,7 +47,7 @@ pub fn end_branches(numbers: &mut [u64], names: &[u8], n: usize)
 
 // Whether the label at place p of the block is neighbour n's: mapped to it, or awaiting its release.
 fn is_of(numbers: &[u64], p: usize, n: u64) -> bool
-    requires { ⌜ Numbers (now numbers) × (p < labelCount) × (n < 16) ⌝ }
+    requires { ⌜ Numbers (now numbers) × (p < labelCount) × (n < neighbourCount) ⌝ }
     ensures { λ r. ⌜ r ≡ isOfAt n (now (numbers .entry)) p ⌝ }
 {
     if memory_labels::is_free(numbers, p) {
@@ -56,11 +57,11 @@ fn is_of(numbers: &[u64], p: usize, n: u64) -> bool
     if u == n {
         return true;
     }
-    u == 16 + n
+    u == NEIGHBOURS + n
 }
 
 fn free_one(numbers: &mut [u64], p: usize, n: u64)
-    requires { ⌜ Numbers (now numbers) × (p < labelCount) × (n < 16) ⌝ }
+    requires { ⌜ Numbers (now numbers) × (p < labelCount) × (n < neighbourCount) ⌝ }
     ensures { λ _. ⌜ Freed n p (p + 1) (now (numbers .entry)) (now (numbers .exit)) ⌝ }
 {
     if is_of(numbers, p, n) {
@@ -71,7 +72,7 @@ fn free_one(numbers: &mut [u64], p: usize, n: u64)
 
 // Every label of neighbour n is free at once, mapped or awaiting. A tree whose label it was has none: a free label has no carrier.
 pub fn free_labels(numbers: &mut [u64], n: u64)
-    requires { ⌜ Numbers (now numbers) × (n < 16) ⌝ }
+    requires { ⌜ Numbers (now numbers) × (n < neighbourCount) ⌝ }
     ensures { λ _. ⌜ ((os : List ℕ) → (let c = cardOf (now (numbers .entry)) os in cardOf (now (numbers .exit)) os
         ≡ withTrees (labelsWithout n c (c .trees)) (withLabels (usesWithout n (c .labels)) c))) ⌝ }
 {
@@ -111,7 +112,7 @@ pub fn end_routes(numbers: &mut [u64], names: &mut [u8], n: u64)
 // ---- all of it
 
 pub fn part_from(numbers: &mut [u64], names: &mut [u8], n: usize)
-    requires { ⌜ Numbers (now numbers) × Names (now names) × (n < 16) ⌝ }
+    requires { ⌜ Numbers (now numbers) × Names (now names) × (n < neighbourCount) ⌝ }
     ensures { λ _. ⌜ cardOf (now (numbers .exit)) (now (names .exit)) ≡ parted n (cardOf (now (numbers .entry)) (now (names .entry))) ⌝ }
 {
     end_branches(numbers, names, n);

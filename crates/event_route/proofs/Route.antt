@@ -10,7 +10,7 @@ use borrow.Author.Tests.{eq-eqb, ne-eqb, eqb-true, le-ltb, lt-ltb, ltb-true, ltb
 use Rattle.meaning.specs.Octets.{put, cut, _when_else_}
 use Rattle.meaning.specs.Lists.{by-test, getD-out}
 use Rattle.meaning.specs.Wire.{records, idsAfter}
-use Rattle.meaning.specs.Card.{Route, Tree, Card, noRoute, noEntry, withNext, withRoutes, routePlace, routeOf, treeAt, freeLabels, routeLimit}
+use Rattle.meaning.specs.Card.{Route, Tree, Card, noRoute, noEntry, withNext, withRoutes, routePlace, routeOf, treeAt, freeLabels, routeLimit, neighbourCount}
 use Rattle.meaning.specs.Events.{taken, unless, finish, still, labelsShort, upstream, moveOne, moveFrom, moveAll, sumFrom, needAll, workedOut, entryOf, entryWith, routesWith, quickNo, runsOut, routesFull, routeRefusal, reRoute}
 use Rattle.meaning_laws.specs.RoutesStay.{all-routes}
 use Rattle.meaning_laws.specs.Counts.{twelve-cases}
@@ -88,21 +88,21 @@ module _ (ns os r : List ℕ) (k : ℕ) (e : k ≡ routePlace r (cardOf ns os)) 
   entry-new h = unfold entryOf in rw (← e) (sym (getD-out (cardOf ns os .routes) k _ (rw routes-length h)))
 
 module _ (c : Card) (via standing lone : ℕ) where
-  pub surely-far : 16 ≤ via → false ≡ (ltb via 16 && ltb (freeLabels c + lone) standing)
-  surely-far h = rw (le-ltb via 16 h) refl
+  pub surely-far : neighbourCount ≤ via → false ≡ (ltb via neighbourCount && ltb (freeLabels c + lone) standing)
+  surely-far h = rw (le-ltb via neighbourCount h) refl
 
-  pub surely-none : standing ≤ lone → false ≡ (ltb via 16 && ltb (freeLabels c + lone) standing)
-  surely-none h = rw (le-ltb (freeLabels c + lone) standing (omega arith)) (sym (and-false (ltb via 16)))
+  pub surely-none : standing ≤ lone → false ≡ (ltb via neighbourCount && ltb (freeLabels c + lone) standing)
+  surely-none h = rw (le-ltb (freeLabels c + lone) standing (omega arith)) (sym (and-false (ltb via neighbourCount)))
 
-  pub surely-some : (b : Bool) → via < 16 → lone < standing → b ≡ labelsShort c (standing - lone) → b ≡ (ltb via 16 && ltb (freeLabels c + lone) standing)
+  pub surely-some : (b : Bool) → via < neighbourCount → lone < standing → b ≡ labelsShort c (standing - lone) → b ≡ (ltb via neighbourCount && ltb (freeLabels c + lone) standing)
   unfolding labelsShort
   surely-some b near h e =
-      e ∙ rw (lt-ltb via 16 near) (by-test (ltb (freeLabels c) (standing - lone))
+      e ∙ rw (lt-ltb via neighbourCount near) (by-test (ltb (freeLabels c) (standing - lone))
       (λ t. rw (t, lt-ltb (freeLabels c + lone) standing (let q = ltb-true (freeLabels c) (standing - lone) t in omega arith)) refl)
       (λ t. rw (t, le-ltb (freeLabels c + lone) standing (let q = ltb-false (freeLabels c) (standing - lone) t in omega arith)) refl))
 
   -- by the root's entry
-  pub quick-is : (r : List ℕ) → standing ≡ entryOf r c .standing → lone ≡ entryOf r c .lone → (ltb via 16 && ltb (freeLabels c + lone) standing) ≡ quickNo c r via
+  pub quick-is : (r : List ℕ) → standing ≡ entryOf r c .standing → lone ≡ entryOf r c .lone → (ltb via neighbourCount && ltb (freeLabels c + lone) standing) ≡ quickNo c r via
   unfolding quickNo
   quick-is r es el = rw (es, el) refl
 

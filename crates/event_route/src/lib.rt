@@ -7,7 +7,7 @@ ghost use mathlib.Core.Bool.{_&&_};
 ghost use lib.Dec.{eqb, leb, ltb};
 ghost use Rattle.meaning.specs.Octets.{_when_else_};
 ghost use Rattle.meaning.specs.Wire.{rootLimit};
-ghost use Rattle.meaning.specs.Card.{noRoute, routeOf, routePlace, freeLabels, withRoutes, routeLimit};
+ghost use Rattle.meaning.specs.Card.{noRoute, routeOf, routePlace, freeLabels, withRoutes, routeLimit, neighbourCount, thisNode};
 ghost use Rattle.meaning.specs.Events.{finish, entryOf, routesFull, needAll, upstream};
 ghost use Rattle.meaning.specs.Calls.{Does};
 ghost use Rattle.memory.specs.Sizes.{Numbers, Names};
@@ -16,6 +16,7 @@ ghost use Rattle.event_holder.specs.Move.{sizeAll};
 ghost use Rattle.event_tree.specs.End.{Ended};
 ghost use Rattle.event_route.specs.Order.{labelsFew, routesTo, movedTo, routeOrder};
 use meaning::ROUTE_LIMIT;
+use memory::NEIGHBOURS;
 use memory_counts::Counts;
 
 // 15, for a root whose route was `old` and is to be another.
@@ -46,9 +47,9 @@ fn entry_counts(numbers: &[u64], names: &[u8], k: usize, root: &[u8]) -> Counts
 // 12 at once, without a walk: the trees that are not lone are more than the free labels, and each needs one whatever neighbour is the upstream.
 fn surely_short(numbers: &[u64], via: u64, standing: u64, lone: u64) -> bool
     requires { ⌜ Numbers (now numbers) ⌝ }
-    ensures { λ r. ⌜ ((os : List ℕ) → r ≡ (ltb via 16 && ltb (freeLabels (cardOf (now (numbers .entry)) os) + lone) standing)) ⌝ }
+    ensures { λ r. ⌜ ((os : List ℕ) → r ≡ (ltb via neighbourCount && ltb (freeLabels (cardOf (now (numbers .entry)) os) + lone) standing)) ⌝ }
 {
-    if 16 <= via {
+    if NEIGHBOURS <= via {
         return false;
     }
     if standing <= lone {
@@ -118,7 +119,7 @@ fn re_route(
     lone: u64,
     out: &mut [u8],
 ) -> usize
-    requires { ⌜ (let c = cardOf (now numbers) (now names) in Numbers (now numbers) × Names (now names) × (length (now root) ≤ rootLimit) × (u ≡ upstream via) × (u ≤ 17) × (u ≡ 16 → ⊥)
+    requires { ⌜ (let c = cardOf (now numbers) (now names) in Numbers (now numbers) × Names (now names) × (length (now root) ≤ rootLimit) × (u ≡ upstream via) × (u ≤ 17) × (u ≡ thisNode → ⊥)
         × (routePlace (now root) c ≡ length (c .routes) → (via ≡ 17 → ⊥) × (length (c .routes) < routeLimit))
         × (needAll (now root) u c ≤ freeLabels c) × (sizeAll (now root) u c ≤ length (now out))
         × (via ≤ 17) × (standing ≡ entryOf (now root) c .standing) × (lone ≡ entryOf (now root) c .lone) × (standing < 256) × (lone < 256) × (i ≡ routePlace (now root) c) × (i ≤ length (c .routes))) ⌝ }

@@ -11,7 +11,7 @@ use borrow.Author.Tests.{lt-ltb}
 use Rattle.meaning.specs.Octets.{any}
 use Rattle.meaning.specs.Lists.{picked, set-replicate}
 use Rattle.meaning.specs.Wire.{rootIn}
-use Rattle.meaning.specs.Card.{Tree, Card, noRoute, withBranch, withLeaf, bare, isBranch, notHeld, leadsOn, routeOf}
+use Rattle.meaning.specs.Card.{Tree, Card, noRoute, withBranch, withLeaf, bare, isBranch, notHeld, leadsOn, routeOf, neighbourCount}
 use Rattle.meaning.specs.Events.{upstream, holder, holderOf}
 use Rattle.event_holder.proofs.Held.{holder-range, with-none}
 
@@ -32,14 +32,14 @@ any-set (b ∷ bs) zero l h k = rw (lt-ltb 0 l k) refl
 any-set (b ∷ bs) (suc n) l h k = picked (λ (x : Bool). x ≡ true) (ltb 0 b) (λ _. refl) (λ _. any-set bs n l (le-of-suc-le-suc h) k)
 
 -- a new tree with one branch: held, where that is the upstream's own
-module _ (c : Card) (a : List ℕ) (n l u : ℕ) (near : n < 16) (some : 0 < l) (eu : u ≡ upstream (routeOf (rootIn a) c)) where
+module _ (c : Card) (a : List ℕ) (n l u : ℕ) (near : n < neighbourCount) (some : 0 < l) (eu : u ≡ upstream (routeOf (rootIn a) c)) where
   pub new-held : u ≡ n → noRoute ≡ holderOf c (withBranch n l (bare a))
   unfolding holderOf holder leadsOn notHeld withBranch bare
-  new-held e = rw (← eu, e) (rw (set-set (replicate 16 0) n l 0, any-zeros 16 n) refl)
+  new-held e = rw (← eu, e) (rw (set-set (replicate neighbourCount 0) n l 0, any-zeros 16 n) refl)
 
   pub new-led : (u ≡ n → ⊥) → u ≡ holderOf c (withBranch n l (bare a))
   unfolding holderOf holder leadsOn notHeld withBranch bare
-  new-led d = rw (← eu) (rw (set-comm (replicate 16 0) n u l 0 (λ e. d (sym e)), any-set (set (replicate 16 0) u 0) n l (rw (length-set {A = ℕ} (replicate 16 0) u 0) near) some) refl)
+  new-led d = rw (← eu) (rw (set-comm (replicate neighbourCount 0) n u l 0 (λ e. d (sym e)), any-set (set (replicate neighbourCount 0) u 0) n l (rw (length-set {A = ℕ} (replicate neighbourCount 0) u 0) near) some) refl)
 
 -- what the code finds for a tree t, whose upstream is u
 
@@ -50,5 +50,5 @@ pub branch-held : (c : Card) (t : Tree) (n x : ℕ) (leaf : Bool) (u r : ℕ) �
 unfolding withLeaf withBranch holderOf
 branch-held c t n x leaf u r el eu e = rw (← eu, ← el) e
 
-pub leaf-held : (c : Card) (t : Tree) (leaf : Bool) (u r : ℕ) → length (t .branches) ≡ 16 → u ≡ upstream (routeOf (rootIn (t .name)) c) → r ≡ holder u (withLeaf leaf (withBranch 16 0 t)) → r ≡ holderOf c (withLeaf leaf t)
+pub leaf-held : (c : Card) (t : Tree) (leaf : Bool) (u r : ℕ) → length (t .branches) ≡ neighbourCount → u ≡ upstream (routeOf (rootIn (t .name)) c) → r ≡ holder u (withLeaf leaf (withBranch 16 0 t)) → r ≡ holderOf c (withLeaf leaf t)
 leaf-held c t leaf u r sized eu e = e ∙ ap (holder u) (with-none t leaf 0 sized) ∙ (unfold holderOf withLeaf in rw eu refl)

@@ -12,7 +12,7 @@ use borrow.Author.Tests.{eq-eqb, ne-eqb}
 use Rattle.meaning.specs.Octets.{pick, any, _when_else_}
 use Rattle.meaning.specs.Lists.{by-test}
 use Rattle.meaning.specs.Wire.{Sent, recordOf, nextId, records, idsAfter, release, recordSize}
-use Rattle.meaning.specs.Card.{Tree, Card, free, withNext, withTrees, withLabels, withBranch, bare, treePlace, treeAt, isBranch, isEmpty, isAwaiting, useOf}
+use Rattle.meaning.specs.Card.{Tree, Card, free, withNext, withTrees, withLabels, withBranch, bare, treePlace, treeAt, isBranch, isEmpty, isAwaiting, useOf, neighbourCount}
 use Rattle.meaning.specs.Events.{taken, unless, finish, Moved, followedBy, tell, setUse, relabel, become, branch, lessBranch, onWithdraw, onRelease, notAwaited}
 use Rattle.meaning.specs.Calls.{Does}
 use Rattle.octets.specs.Part.{mid}
@@ -71,7 +71,7 @@ module _ (t : Tree) (n : ℕ) where
   unfolding isEmpty withBranch
   leaf-left l e = rw e (sym (and-false (not (any isBranch (set (t .branches) n l)))))
 
-  pub none-left : (x : Bool) (l : ℕ) → length (t .branches) ≡ 16 → x ≡ any isBranch (set (set (t .branches) n l) 16 0) → t .leaf ≡ false → not x ≡ isEmpty (withBranch n l t)
+  pub none-left : (x : Bool) (l : ℕ) → length (t .branches) ≡ neighbourCount → x ≡ any isBranch (set (set (t .branches) n l) 16 0) → t .leaf ≡ false → not x ≡ isEmpty (withBranch n l t)
   unfolding isEmpty withBranch
   none-left x l h e k =
       let past : set (set (t .branches) n l) 16 0 ≡ set (t .branches) n l = set-out (set (t .branches) n l) 16 0 (omega (arith, length-set (t .branches) n l)) in

@@ -4,15 +4,16 @@ ghost use mathlib.Core.List.{List};
 ghost use Prim.Native.Nat.{ℕ, _≤_, _<_};
 ghost use lib.ListN.{length};
 ghost use Rattle.meaning.specs.Wire.{nameLimit};
-ghost use Rattle.meaning.specs.Card.{treeAt, treePlace, withBranch, isEmpty, treeLimit};
+ghost use Rattle.meaning.specs.Card.{treeAt, treePlace, withBranch, isEmpty, treeLimit, neighbourCount};
 ghost use Rattle.meaning.specs.Events.{finish, lessBranch, onWithdraw, onRelease};
 ghost use Rattle.meaning.specs.Calls.{Does};
 ghost use Rattle.memory.specs.Sizes.{Numbers, Names};
 ghost use Rattle.memory.specs.Memory.{cardOf, treeCount};
+use memory::NO_NEIGHBOUR;
 
 // What a Withdraw of a label from neighbour n leaves of the tree at place i: its branch there, and whether it is empty.
 fn less_branch(numbers: &[u64], i: usize, n: usize, label: u64) -> u64
-    requires { ⌜ Numbers (now numbers) × (i < treeCount (now numbers)) × (i < treeLimit) × (n < 16) ⌝ }
+    requires { ⌜ Numbers (now numbers) × (i < treeCount (now numbers)) × (i < treeLimit) × (n < neighbourCount) ⌝ }
     ensures { λ r. ⌜ ((os : List ℕ) → (let c = cardOf (now (numbers .entry)) os in withBranch n r (treeAt i c) ≡ lessBranch n label (treeAt i c))) ⌝ }
 {
     let b = memory_trees::branch(numbers, i, n);
@@ -20,13 +21,13 @@ fn less_branch(numbers: &[u64], i: usize, n: usize, label: u64) -> u64
 }
 
 fn less_empty(numbers: &[u64], i: usize, n: usize, left: u64) -> bool
-    requires { ⌜ Numbers (now numbers) × (i < treeCount (now numbers)) × (i < treeLimit) × (n < 16) ⌝ }
+    requires { ⌜ Numbers (now numbers) × (i < treeCount (now numbers)) × (i < treeLimit) × (n < neighbourCount) ⌝ }
     ensures { λ r. ⌜ ((os : List ℕ) → r ≡ isEmpty (withBranch n left (treeAt i (cardOf (now (numbers .entry)) os)))) ⌝ }
 {
     if memory_trees::is_leaf(numbers, i) {
         return false;
     }
-    !memory_trees::any_branch(numbers, i, n, left, 16)
+    !memory_trees::any_branch(numbers, i, n, left, NO_NEIGHBOUR)
 }
 
 // A Withdraw for the tree at place i: the Release goes first.
@@ -39,7 +40,7 @@ fn withdraw_standing(
     out: &mut [u8],
     answer: &mut u32,
 ) -> usize
-    requires { ⌜ (let c = cardOf (now numbers) (now names) in Numbers (now numbers) × Names (now names) × (i < treeCount (now numbers)) × (i < treeLimit) × (n < 16)
+    requires { ⌜ (let c = cardOf (now numbers) (now names) in Numbers (now numbers) × Names (now names) × (i < treeCount (now numbers)) × (i < treeLimit) × (n < neighbourCount)
         × (i ≡ treePlace (treeAt i c .name) c)) ⌝ }
     ensures { λ r. ⌜ (let c = cardOf (now (numbers .entry)) (now (names .entry)) in Does (finish (length (now (out .entry))) c (onWithdraw c n (treeAt i c .name) label))
         (now (answer .exit)) r (now (out .entry)) (now (out .exit)) (cardOf (now (numbers .exit)) (now (names .exit)))) ⌝ }
@@ -79,7 +80,7 @@ fn withdraw_unknown(
     out: &mut [u8],
     answer: &mut u32,
 ) -> usize
-    requires { ⌜ Numbers (now numbers) × Names (now names) × (n < 16) × (16 ≤ label) × (length (now name) ≤ nameLimit) × (treePlace (now name) (cardOf (now numbers) (now names)) ≡ treeCount (now numbers)) ⌝ }
+    requires { ⌜ Numbers (now numbers) × Names (now names) × (n < neighbourCount) × (16 ≤ label) × (length (now name) ≤ nameLimit) × (treePlace (now name) (cardOf (now numbers) (now names)) ≡ treeCount (now numbers)) ⌝ }
     ensures { λ r. ⌜ (let c = cardOf (now (numbers .entry)) (now (names .entry)) in Does (finish (length (now (out .entry))) c (onWithdraw c n (now (name .entry)) label))
         (now (answer .exit)) r (now (out .entry)) (now (out .exit)) (cardOf (now (numbers .exit)) (now (names .entry)))) ⌝ }
 {
@@ -111,7 +112,7 @@ pub fn withdraw(
     out: &mut [u8],
     answer: &mut u32,
 ) -> usize
-    requires { ⌜ Numbers (now numbers) × Names (now names) × (n < 16) × (16 ≤ label) × (length (now name) ≤ nameLimit) ⌝ }
+    requires { ⌜ Numbers (now numbers) × Names (now names) × (n < neighbourCount) × (16 ≤ label) × (length (now name) ≤ nameLimit) ⌝ }
     ensures { λ r. ⌜ (let c = cardOf (now (numbers .entry)) (now (names .entry)) in Does (finish (length (now (out .entry))) c (onWithdraw c n (now (name .entry)) label))
         (now (answer .exit)) r (now (out .entry)) (now (out .exit)) (cardOf (now (numbers .exit)) (now (names .exit)))) ⌝ }
 {
@@ -130,7 +131,7 @@ pub fn release(
     label: u64,
     answer: &mut u32,
 )
-    requires { ⌜ Numbers (now numbers) × Names (now names) × (n < 16) ⌝ }
+    requires { ⌜ Numbers (now numbers) × Names (now names) × (n < neighbourCount) ⌝ }
     ensures { λ _. ⌜ (let c = cardOf (now (numbers .entry)) (now (names .entry)) in ((s : List ℕ) → Does (finish (length s) c (onRelease c n (now (name .entry)) label))
         (now (answer .exit)) 0 s s (cardOf (now (numbers .exit)) (now (names .entry))))) ⌝ }
 {

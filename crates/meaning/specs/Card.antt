@@ -126,7 +126,7 @@ named a t = same (t .name) a
 
 -- with neither branch nor leaf nor label
 unfoldable pub bare : List ℕ → Tree
-bare a = record { name = a; branches = replicate 16 0; leaf = false; label = 0 }
+bare a = record { name = a; branches = replicate neighbourCount 0; leaf = false; label = 0 }
 
 unfoldable pub treePlace : List ℕ → Card → ℕ
 treePlace a c = place (named a) (c .trees)

@@ -7,7 +7,7 @@ use lib.ListN.{getD, length, set}
 use lib.Dec.{eqb, leb, ltb}
 use Rattle.meaning.specs.Octets.{pick, place, same, put, cut, _when_else_}
 use Rattle.meaning.specs.Wire.{rootIn, elementRefusal, Message, messageIn, messageRefusal, mapping, withdraw, release, Sent, records, idsAfter}
-use Rattle.meaning.specs.Card.{noRoute, nobody, noEntry, Route, Tree, Use, free, mapped, awaiting, Card, fresh, withNext, withRoutes, withTrees, withLabels, withCounts, withBranch, withLeaf, withLabel, isFor, routePlace, routeOf, treePlace, treeOf, treeAt, stands, isEmpty, isLone, leadsOn, isAwaiting, useOf, heldFor, freeLabels, treeLimit, routeLimit, withLast, nextFree}
+use Rattle.meaning.specs.Card.{noRoute, nobody, noEntry, Route, Tree, Use, free, mapped, awaiting, Card, fresh, withNext, withRoutes, withTrees, withLabels, withCounts, withBranch, withLeaf, withLabel, isFor, routePlace, routeOf, treePlace, treeOf, treeAt, stands, isEmpty, isLone, leadsOn, isAwaiting, useOf, heldFor, freeLabels, treeLimit, routeLimit, withLast, nextFree, neighbourCount}
 
 -- ---- what an event hands back
 
@@ -123,7 +123,7 @@ labelsShort c needed = ltb (freeLabels c) needed
 
 -- the upstream of the trees of a root with this route; nobody where it is no neighbour
 unfoldable pub upstream : ℕ → ℕ
-upstream via = pick (ltb via 16) via nobody
+upstream via = pick (ltb via neighbourCount) via nobody
 
 -- For whom a tree with upstream u is to hold a label: exactly while u is a neighbour and it has a leaf or a branch from another, for u; else for nobody.
 unfoldable pub holder : ℕ → Tree → ℕ
@@ -325,7 +325,7 @@ quickYes c r = leb (entryOf r c .standing) (freeLabels c)
 
 -- where those of them that are not lone are more than the free labels, and the new route is a neighbour, they don't: each of these leads on whatever neighbour is the upstream
 unfoldable pub quickNo : Card → List ℕ → ℕ → Bool
-quickNo c r via = ltb via 16 && ltb (freeLabels c + entryOf r c .lone) (entryOf r c .standing)
+quickNo c r via = ltb via neighbourCount && ltb (freeLabels c + entryOf r c .lone) (entryOf r c .standing)
 
 -- 12 in a route order: only between the two are the trees walked
 unfoldable pub routeShort : Card → List ℕ → ℕ → Bool

@@ -50,13 +50,17 @@ rootLimit = 16
 abbrev pub nameLimit : ℕ
 nameLimit = 6 + rootLimit + opaqueLimit
 
--- how many octets the record of a message that names a tree has: 24 besides its name
+-- what a record has beside the name: the mark, the neighbour, the message's head, the heads of both TLVs, the label
+abbrev pub recordBeside : ℕ
+recordBeside = 24
+
+-- how many octets the record of a message that names a tree has
 abbrev pub recordSize : List ℕ → ℕ
-recordSize name = 24 + length name
+recordSize name = recordBeside + length name
 
 -- the longest
 abbrev pub recordLimit : ℕ
-recordLimit = 24 + nameLimit
+recordLimit = recordBeside + nameLimit
 
 -- what 7 asks
 unfoldable pub isOpaque : List ℕ → Bool

@@ -6,7 +6,9 @@ pub const ROOT_LIMIT: usize = 16;
 
 pub const NAME_LIMIT: usize = 6 + ROOT_LIMIT + OPAQUE_LIMIT;
 
-pub const RECORD_LIMIT: usize = 24 + NAME_LIMIT;
+pub const RECORD_BESIDE: usize = 24;
+
+pub const RECORD_LIMIT: usize = RECORD_BESIDE + NAME_LIMIT;
 
 pub const TREE_LIMIT: usize = 64;
 

@@ -14,7 +14,7 @@ use Rattle.meaning.specs.Octets.{pick, place, count, any, _when_else_}
 use Rattle.meaning.specs.Lists.{by-test, picked, getD-out, no-when, any-count, count-any}
 use Rattle.meaning.specs.Wire.{rootIn}
 use Rattle.meaning_laws.specs.RoundTrip.{both}
-use Rattle.meaning.specs.Card.{Route, Tree, Card, noRoute, noEntry, withCounts, withBranch, isFor, routePlace, routeOf, bare, treeAt, isBranch, isEmpty, isLone, notHeld, leadsOn, freeLabels}
+use Rattle.meaning.specs.Card.{Route, Tree, Card, noRoute, noEntry, withCounts, withBranch, isFor, routePlace, routeOf, bare, treeAt, isBranch, isEmpty, isLone, notHeld, leadsOn, freeLabels, neighbourCount}
 use Rattle.meaning.specs.Events.{needMove, labelsShort, upstream, holder, ofRoot, total, inRoot, oneStanding, oneLone, workedOut, entryOf, changed, recountedFor, recount, needOne, sumFrom, needAll, routesFull, quickYes, quickNo, routeShort, runsOut, routeRefusal, recountedWithout}
 
 -- ---- sums over the trees
@@ -99,7 +99,7 @@ one-need u t =
     (λ e. rw (e, empty-leads u t e) zero-le)
     (λ e. rw e (picked (λ (k : ℕ). k ≤ 1) (eqb (pick (leadsOn u t) u noRoute) noRoute) (λ _. zero-le) (λ _. le-refl 1)))
 
-one-must : (u : ℕ) → u < 16 → (t : Tree) → oneStanding t ≤ needMove (holder u t) + oneLone t
+one-must : (u : ℕ) → u < neighbourCount → (t : Tree) → oneStanding t ≤ needMove (holder u t) + oneLone t
 unfolding holder oneStanding oneLone needMove
 one-must u near t =
     by-test (isLone t)
@@ -113,7 +113,7 @@ need-less : (r : List ℕ) (u : ℕ) (t : Tree) → needOne r u t ≤ inRoot r o
 unfolding needOne inRoot
 need-less r u t = by-test (ofRoot r t) (λ e. rw e (one-need u t)) (λ e. rw e zero-le)
 
-need-must : (r : List ℕ) (u : ℕ) → u < 16 → (t : Tree) → inRoot r oneStanding t ≤ needOne r u t + inRoot r oneLone t
+need-must : (r : List ℕ) (u : ℕ) → u < neighbourCount → (t : Tree) → inRoot r oneStanding t ≤ needOne r u t + inRoot r oneLone t
 unfolding needOne inRoot
 need-must r u near t = by-test (ofRoot r t) (λ e. rw e (one-must u near t)) (λ e. rw e zero-le)
 
@@ -121,7 +121,7 @@ pub all-less : (r : List ℕ) (u : ℕ) (c : Card) → needAll r u c ≤ total (
 unfolding needAll
 all-less r u c = rw (sum-total (needOne r u) c) (total-le _ _ (need-less r u) (c .trees))
 
-pub all-must : (r : List ℕ) (u : ℕ) → u < 16 → (c : Card) → total (inRoot r oneStanding) (c .trees) ≤ needAll r u c + total (inRoot r oneLone) (c .trees)
+pub all-must : (r : List ℕ) (u : ℕ) → u < neighbourCount → (c : Card) → total (inRoot r oneStanding) (c .trees) ≤ needAll r u c + total (inRoot r oneLone) (c .trees)
 unfolding needAll
 all-must r u near c = rw (sum-total (needOne r u) c) (total-sum _ _ _ (need-must r u near) (c .trees))
 
@@ -138,14 +138,14 @@ unfolding routeShort quickYes quickNo labelsShort
 quick-exact c r via C =
     by-test (leb (entryOf r c .standing) (freeLabels c))
     (λ e. rw e (sym (le-ltb (freeLabels c) (needAll r (upstream via) c) (omega (arith, leb-true (entryOf r c .standing) (freeLabels c) e, C .standing, all-less r (upstream via) c)))))
-    (λ e. rw e (by-test (ltb via 16)
+    (λ e. rw e (by-test (ltb via neighbourCount)
     (λ n. rw n (by-test (ltb (freeLabels c + entryOf r c .lone) (entryOf r c .standing))
-    (λ k. rw k (sym (lt-ltb (freeLabels c) (needAll r (upstream via) c) (must (ltb-true via 16 n) (ltb-true _ _ k)))))
+    (λ k. rw k (sym (lt-ltb (freeLabels c) (needAll r (upstream via) c) (must (ltb-true via neighbourCount n) (ltb-true _ _ k)))))
     (λ k. rw k refl)))
     (λ n. rw n refl)))
   where
-    must : via < 16 → freeLabels c + entryOf r c .lone < entryOf r c .standing → freeLabels c < needAll r (upstream via) c
-    must near more = let there : upstream via ≡ via = unfold upstream in rw (lt-ltb via 16 near) refl in rw there (omega (arith, C .standing, C .lone, all-must r via near c))
+    must : via < neighbourCount → freeLabels c + entryOf r c .lone < entryOf r c .standing → freeLabels c < needAll r (upstream via) c
+    must near more = let there : upstream via ≡ via = unfold upstream in rw (lt-ltb via neighbourCount near) refl in rw there (omega (arith, C .standing, C .lone, all-must r via near c))
 
 -- On any card, whatever the counts: an order that is not refused does not run out of labels.
 pub enough-labels : (c : Card) (r : List ℕ) (via : ℕ) → routeRefusal c r via ≡ 0 → needAll r (upstream via) c ≤ freeLabels c
@@ -156,8 +156,8 @@ enough-labels c r via e = ltb-false _ _ (no-when 11 _ 0 (no-when 11 _ _ (no-when
 pub twelve-cases : (c : Card) (r : List ℕ) (via : ℕ) → routeRefusal c r via ≡ 15 when routesFull c r via else 12 when (quickNo c r via || runsOut c r via) else 0
 unfolding routeRefusal routeShort runsOut quickYes quickNo _when_else_
 twelve-cases c r via =
-    by-test (ltb via 16 && ltb (freeLabels c + entryOf r c .lone) (entryOf r c .standing))
-    (λ n. let more : freeLabels c + entryOf r c .lone < entryOf r c .standing = ltb-true _ _ (both (ltb via 16) (ltb (freeLabels c + entryOf r c .lone) (entryOf r c .standing)) n .1) in
+    by-test (ltb via neighbourCount && ltb (freeLabels c + entryOf r c .lone) (entryOf r c .standing))
+    (λ n. let more : freeLabels c + entryOf r c .lone < entryOf r c .standing = ltb-true _ _ (both (ltb via neighbourCount) (ltb (freeLabels c + entryOf r c .lone) (entryOf r c .standing)) n .1) in
     rw (n, lt-leb (entryOf r c .standing) (freeLabels c) (omega arith)) refl)
     (λ n. rw n (by-test (leb (entryOf r c .standing) (freeLabels c))
     (λ y. rw y refl)
@@ -192,7 +192,7 @@ need-none r (t ∷ ts) = omega (arith, one, need-none r ts)
     one = picked (λ (k : ℕ). k ≤ 0) (ofRoot r t) (λ _. picked (λ (u : ℕ). pick (eqb u noRoute) 0 1 ≤ 0) (leadsOn noRoute t) (λ _. zero-le) (λ _. zero-le)) (λ _. zero-le)
 
 -- A route that is no neighbour needs no label, on any card.
-pub none-needed : (c : Card) (r : List ℕ) (via : ℕ) → ltb via 16 ≡ false → routeShort c r via ≡ false
+pub none-needed : (c : Card) (r : List ℕ) (via : ℕ) → ltb via neighbourCount ≡ false → routeShort c r via ≡ false
 unfolding routeShort quickNo labelsShort
 none-needed c r via far =
     picked (λ (b : Bool). b ≡ false) (quickYes c r)

@@ -12,7 +12,7 @@ use lib.Dec.{eqb, leb}
 use borrow.Author.Tests.{eqb-true, eqb-false, ne-eqb, leb-true, lt-leb}
 use Rattle.meaning.specs.Octets.{pick, place, count, cut, two, four}
 use Rattle.meaning.specs.Wire.{recordSize, tlv, octetsOf, Sent, recordOf, nextId, records}
-use Rattle.meaning.specs.Card.{Tree, Route, Use, free, mapped, awaiting, Card, noRoute, noEntry, withRoutes, withTrees, withLabels, withBranch, withLabel, named, bare, treePlace, treeOf, treeAt, notHeld, leadsOn, mappedTo, useOf, heldFor}
+use Rattle.meaning.specs.Card.{Tree, Route, Use, free, mapped, awaiting, Card, noRoute, noEntry, withRoutes, withTrees, withLabels, withBranch, withLabel, named, bare, treePlace, treeOf, treeAt, notHeld, leadsOn, mappedTo, useOf, heldFor, neighbourCount}
 use Rattle.meaning.specs.Events.{Moved, still, followedBy, setUse, setLabel, giveUp, letGo, sumFrom, isOf, freedOf, usesWithout, treeWithout, treesWithout, routesWithout, parted, shed, shedFrom}
 use Rattle.meaning.specs.Lists.{by-test, picked, set-replicate, append-nil}
 
@@ -55,7 +55,7 @@ without-label n c t = refl
 pub without-bare : (n : ℕ) (c : Card) (a : List ℕ) → treeWithout n c (bare a) ≡ bare a
 unfolding treeWithout bare withLabel withBranch
 without-bare n c a =
-    let none : set {A = ℕ} (replicate 16 0) n 0 ≡ replicate 16 0 = set-replicate 16 n 0 in
+    let none : set {A = ℕ} (replicate neighbourCount 0) n 0 ≡ replicate neighbourCount 0 = set-replicate neighbourCount n 0 in
     λ i. record { name = a; branches = none i; leaf = false; label = no-label (eqb (heldFor c (bare a)) n) i }
   where
     no-label : (b : Bool) → pick {X = ℕ} b 0 0 ≡ 0

@@ -15,6 +15,7 @@ use Rattle.meaning.specs.Octets.{any, two, four, twoAt, fourAt, _when_else_}
 use Rattle.meaning.specs.Wire.{addressLength, familyIn, rootLength, opaqueLength, rootIn, opaqueIn, isElement, opaqueLimit, isOpaque, isFilled, elementRefusal, element, framed, after, tlvs, tlv, Message, isKind, isSized, isLabel, isOrdered, isOverrun, messageIn, octetsOf, messageRefusal, fecOf, labelOf, bodyOf, found, Sent, recordOf, records, nextId, recordsF, nameLimit}
 use Rattle.meaning_laws.specs.WireLaws.{tlvs-end, tlvs-step, element-0}
 use Rattle.meaning.specs.Lists.{by-test, no-when}
+use Rattle.meaning.specs.Card.{neighbourCount}
 
 pub both : (a b : Bool) → (a && b) ≡ true → (a ≡ true) × (b ≡ true)
 both true true e = (refl, refl)
@@ -206,7 +207,7 @@ module _ (id : ℕ) (m : Message) (g : Sayable m) where
 -- ---- records: what is written is read back
 
 pub record Sendable (m : Sent) : Type 0 where
-  pub near : m .to < 16
+  pub near : m .to < neighbourCount
   pub says : Sayable (m .message)
 
 unfoldable pub AllSendable : List Sent → Type 0
@@ -255,7 +256,7 @@ records-back (suc f) id (m ∷ ms) h p =
 -- ---- what a message that is not refused says
 
 pub record Heard (n : ℕ) (a : List ℕ) (l : ℕ) : Type 0 where
-  pub near : n < 16
+  pub near : n < neighbourCount
   pub name : elementRefusal a ≡ 0
   pub low : 16 ≤ l
   pub high : l ≤ 1048575
@@ -267,7 +268,7 @@ label-ok v e =
     let b = both (eqb (length v) 4) (leb 16 (fourAt v 0)) (a .0) in
     (leb-true _ _ (b .1), leb-true _ _ (a .1))
 
-pub heard : (n : ℕ) (s : List ℕ) → n < 16 → messageRefusal s ≡ 0 → Heard n (messageIn s .name) (messageIn s .label)
+pub heard : (n : ℕ) (s : List ℕ) → n < neighbourCount → messageRefusal s ≡ 0 → Heard n (messageIn s .name) (messageIn s .label)
 unfolding messageRefusal messageIn
 heard n s near e =
     let p2 = no-when 1 _ _ e in

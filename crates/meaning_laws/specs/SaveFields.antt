@@ -13,7 +13,7 @@ use borrow.Author.Tests.{eqb-true, leb-true, le-leb}
 use Rattle.meaning.specs.Octets.{pick, two, four, fourAt, twoAt, all}
 use Rattle.meaning.specs.Lists.{by-test, positive}
 use Rattle.meaning.specs.Wire.{addressLength, familyIn, rootLength, rootIn, opaqueIn, elementRefusal, element, rootLimit, nameLimit}
-use Rattle.meaning.specs.Card.{Route, Tree, mapped, awaiting, withLabel}
+use Rattle.meaning.specs.Card.{Route, Tree, mapped, awaiting, withLabel, neighbourCount}
 use Rattle.meaning_laws.specs.Counts.{plain}
 use Rattle.meaning_laws.specs.WireLaws.{element-family}
 use Rattle.meaning_laws.specs.RoundTrip.{both, Whole, whole, root-size, element-parts, name-fits}
@@ -168,16 +168,16 @@ fours-back (b ∷ bs) rest h = let p = all-cons isBranchLabel b bs h in ap₂ _�
 -- ---- a tree: 68 octets, and its name
 
 -- as it is read, from its name on
-tree-fields : (f : Form) (o : List ℕ) → treeRead f o ≡ record { name = nameIn f (drop 3 o); branches = foursIn 16 (drop (suc (extent f (drop 3 o))) (drop 3 o)); leaf = not (eqb (getD (drop 3 o) (extent f (drop 3 o)) 0) 0); label = 0 }
+tree-fields : (f : Form) (o : List ℕ) → treeRead f o ≡ record { name = nameIn f (drop 3 o); branches = foursIn neighbourCount (drop (suc (extent f (drop 3 o))) (drop 3 o)); leaf = not (eqb (getD (drop 3 o) (extent f (drop 3 o)) 0) 0); label = 0 }
 unfolding treeRead
 tree-fields f o =
     let n : ℕ = extent f (drop 3 o) in
     let at : 3 + suc n ≡ 4 + n = omega arith in
     let branches : drop (4 + n) o ≡ drop (suc n) (drop 3 o) = sym (drop-drop (suc n) 3 o ∙ ap (λ (k : ℕ). drop k o) at) in
     let leaf : getD o (3 + n) 0 ≡ getD (drop 3 o) n 0 = sym (getD-drop 3 o n 0) in
-    λ i. record { name = nameIn f (drop 3 o); branches = foursIn 16 (branches i); leaf = not (eqb (leaf i) 0); label = 0 }
+    λ i. record { name = nameIn f (drop 3 o); branches = foursIn neighbourCount (branches i); leaf = not (eqb (leaf i) 0); label = 0 }
 
-module _ (f : Form) (t : Tree) (sixteen : length (t .branches) ≡ 16) where
+module _ (f : Form) (t : Tree) (sixteen : length (t .branches) ≡ neighbourCount) where
   pub tree-length : length (treeSaved f t) ≡ treeBeside + nameSize f (t .name)
   unfolding treeSaved marked
   tree-length = simp length-append (omega (arith, name-length f (t .name), fours-length (t .branches)))
@@ -206,7 +206,7 @@ module _ (f : Form) (t : Tree) (sixteen : length (t .branches) ≡ 16) where
         let its-leaf : getD (name ++ behind-name) n 0 ≡ pick (t .leaf) 1 0 = getD-at name (pick (t .leaf) 1 0) (foursOf (t .branches) ++ rest) 0 n long in
         let one-on : n + 1 ≡ suc n = omega arith in
         let after : drop (suc n) (name ++ behind-name) ≡ foursOf (t .branches) ++ rest = ap (λ (k : ℕ). drop k (name ++ behind-name)) (sym one-on) ∙ sym (drop-drop 1 n (name ++ behind-name)) ∙ ap (drop 1) (drop-at name behind-name n long) in
-        let its-branches : foursIn 16 (drop (suc n) (name ++ behind-name)) ≡ t .branches = ap (foursIn 16) after ∙ subst (λ (k : ℕ). foursIn k (foursOf (t .branches) ++ rest) ≡ t .branches) sixteen (fours-back (t .branches) rest h) in
+        let its-branches : foursIn neighbourCount (drop (suc n) (name ++ behind-name)) ≡ t .branches = ap (foursIn neighbourCount) after ∙ subst (λ (k : ℕ). foursIn k (foursOf (t .branches) ++ rest) ≡ t .branches) sixteen (fours-back (t .branches) rest h) in
         ap (treeRead f) spread ∙ tree-fields f (0x4C ∷ 0x53 ∷ treeKind f ∷ (name ++ behind-name)) ∙ (λ i. record { name = name-back f (t .name) ok room behind-name i; branches = its-branches i; leaf = (ap (λ (k : ℕ). not (eqb k 0)) its-leaf ∙ leaf-back (t .leaf)) i; label = 0 })
       where
         leaf-back : (b : Bool) → not (eqb (pick b 1 0) 0) ≡ b
@@ -237,6 +237,6 @@ module _ (f : Form) (l state n : ℕ) (a : List ℕ) where
     unfolding useEnd
     use-after = rw use-there (drop-append-seam (useRecord f l state n a) rest)
 
-    pub use-back : elementRefusal a ≡ 0 → isShort f a ≡ true → n < 16 → useRead f (useRecord f l state n a ++ rest) ≡ pick (eqb state 1) (mapped n a) (awaiting n a)
+    pub use-back : elementRefusal a ≡ 0 → isShort f a ≡ true → n < neighbourCount → useRead f (useRecord f l state n a ++ rest) ≡ pick (eqb state 1) (mapped n a) (awaiting n a)
     unfolding useRead useRecord marked four
     use-back ok room near = let same : n % 16 ≡ n = omega arith in ap₂ (λ (m : ℕ) (b : List ℕ). pick (eqb state 1) (mapped m b) (awaiting m b)) same (name-back f a ok room rest)

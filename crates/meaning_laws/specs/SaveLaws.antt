@@ -13,7 +13,7 @@ use lib.Dec.{eqb, leb, ltb}
 use borrow.Author.Tests.{eqb-true, eqb-false, eq-eqb, ne-eqb, le-leb, leb-true, ltb-true, ltb-false, lt-ltb, le-ltb}
 use Rattle.meaning.specs.Octets.{pick, place, count, all, same, two, four, twoAt, fourAt}
 use Rattle.meaning.specs.Lists.{by-test, getD-same, getD-out, place-finds, place-count, place-only, count-some, same-eq, same-refl}
-use Rattle.meaning.specs.Card.{Tree, Use, free, mapped, awaiting, Card, treeLimit, routeLimit, labelCount, named, bare, treePlace, treeOf, treeAt, useOf, isFree, freeLabels, withLast, heldFor, routeOf, routePlace}
+use Rattle.meaning.specs.Card.{Tree, Use, free, mapped, awaiting, Card, treeLimit, routeLimit, labelCount, named, bare, treePlace, treeOf, treeAt, useOf, isFree, freeLabels, withLast, heldFor, routeOf, routePlace, neighbourCount}
 use Rattle.meaning.specs.Events.{refuse, roomShort, holderOf}
 use Rattle.meaning_laws.specs.RoundTrip.{both, two-back}
 use Rattle.meaning_laws.specs.NoticeLaws.{four-back}
@@ -65,7 +65,7 @@ head-length old c = refl
 head-length new c = refl
 
 -- for any table whose trees have sixteen branches
-pub length-is : (f : Form) (c : Card) → ((i : ℕ) → i < length (c .trees) → length (treeAt i c .branches) ≡ 16) → length (saved f c) ≡ headSize f + routeSize * length (c .routes) + treesSize f (c .trees) + usesSize f (c .labels)
+pub length-is : (f : Form) (c : Card) → ((i : ℕ) → i < length (c .trees) → length (treeAt i c .branches) ≡ neighbourCount) → length (saved f c) ≡ headSize f + routeSize * length (c .routes) + treesSize f (c .trees) + usesSize f (c .labels)
 unfolding saved treeAt
 length-is f c sixteen = simp length-append (omega (arith, head-length f c, routes-length (c .routes), trees-length f (c .trees) sixteen, uses-length f (c .base) (c .labels)))
 
@@ -75,13 +75,13 @@ module _ (c : Card) (many : length (c .labels) ≡ labelCount) where
   used-count = let n = used-free (c .labels) in omega arith
 
   -- of the old form
-  pub length-old : ((i : ℕ) → i < length (c .trees) → length (treeAt i c .branches) ≡ 16) → length (saved old c) ≡ headSize old + routeSize * length (c .routes) + (treeBeside + spacedName) * length (c .trees) + (useBeside + spacedName) * (labelCount - freeLabels c)
+  pub length-old : ((i : ℕ) → i < length (c .trees) → length (treeAt i c .branches) ≡ neighbourCount) → length (saved old c) ≡ headSize old + routeSize * length (c .routes) + (treeBeside + spacedName) * length (c .trees) + (useBeside + spacedName) * (labelCount - freeLabels c)
   length-old sixteen = omega (arith, length-is old c sixteen, trees-old (c .trees), uses-old (c .labels), used-count)
 
 -- ---- a table that keeps the rules
 
 module _ (c : Card) (R : Rules c) where
-  sixteen-each : (i : ℕ) → i < length (c .trees) → length (treeAt i c .branches) ≡ 16
+  sixteen-each : (i : ℕ) → i < length (c .trees) → length (treeAt i c .branches) ≡ neighbourCount
   unfolding treeAt
   sixteen-each i h = tree-ok (getD (c .trees) i (bare [])) (all-at isTree (c .trees) (bare []) (R .trees) i h) .sixteen
 

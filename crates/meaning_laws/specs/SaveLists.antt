@@ -13,7 +13,7 @@ use borrow.Author.Tests.{eqb-true, leb-true, ltb-true, not-true, not-false}
 use Rattle.meaning.specs.Octets.{pick, place, count, all, fourAt}
 use Rattle.meaning.specs.Lists.{by-test, picked}
 use Rattle.meaning.specs.Wire.{elementRefusal, rootLimit, nameLimit}
-use Rattle.meaning.specs.Card.{Route, Tree, Use, free, mapped, awaiting, withLabel, bare, isFree, isEmpty}
+use Rattle.meaning.specs.Card.{Route, Tree, Use, free, mapped, awaiting, withLabel, bare, isFree, isEmpty, neighbourCount}
 use Rattle.meaning.specs.Events.{notRoot}
 use Rattle.meaning_laws.specs.Counts.{plains}
 use Rattle.meaning_laws.specs.RoundTrip.{both}
@@ -41,25 +41,25 @@ route-ok r h =
 
 pub record TreeOk (t : Tree) : Type 0 where
   pub name : elementRefusal (t .name) ≡ 0
-  pub sixteen : length (t .branches) ≡ 16
+  pub sixteen : length (t .branches) ≡ neighbourCount
   pub labels : all isBranchLabel (t .branches) ≡ true
   pub full : isEmpty t ≡ false
 
 pub tree-ok : (t : Tree) → isTree t ≡ true → TreeOk t
 unfolding isTree
 tree-ok t h =
-    let p = both (isName (t .name) && eqb (length (t .branches)) 16 && all isBranchLabel (t .branches)) (not (isEmpty t)) h in
-    let q = both (isName (t .name) && eqb (length (t .branches)) 16) (all isBranchLabel (t .branches)) (p .0) in
-    let r = both (isName (t .name)) (eqb (length (t .branches)) 16) (q .0) in
+    let p = both (isName (t .name) && eqb (length (t .branches)) neighbourCount && all isBranchLabel (t .branches)) (not (isEmpty t)) h in
+    let q = both (isName (t .name) && eqb (length (t .branches)) neighbourCount) (all isBranchLabel (t .branches)) (p .0) in
+    let r = both (isName (t .name)) (eqb (length (t .branches)) neighbourCount) (q .0) in
     record { name = name-ok (t .name) (r .0); sixteen = eqb-true _ _ (r .1); labels = q .1; full = not-true _ (p .1) }
 
-pub mapped-ok : (n : ℕ) (a : List ℕ) → isUse (mapped n a) ≡ true → (n < 16) × (elementRefusal a ≡ 0)
+pub mapped-ok : (n : ℕ) (a : List ℕ) → isUse (mapped n a) ≡ true → (n < neighbourCount) × (elementRefusal a ≡ 0)
 unfolding isUse
-mapped-ok n a h = let p = both (ltb n 16) (isName a) h in (ltb-true n 16 (p .0), name-ok a (p .1))
+mapped-ok n a h = let p = both (ltb n neighbourCount) (isName a) h in (ltb-true n neighbourCount (p .0), name-ok a (p .1))
 
-pub awaiting-ok : (n : ℕ) (a : List ℕ) → isUse (awaiting n a) ≡ true → (n < 16) × (elementRefusal a ≡ 0)
+pub awaiting-ok : (n : ℕ) (a : List ℕ) → isUse (awaiting n a) ≡ true → (n < neighbourCount) × (elementRefusal a ≡ 0)
 unfolding isUse
-awaiting-ok n a h = let p = both (ltb n 16) (isName a) h in (ltb-true n 16 (p .0), name-ok a (p .1))
+awaiting-ok n a h = let p = both (ltb n neighbourCount) (isName a) h in (ltb-true n neighbourCount (p .0), name-ok a (p .1))
 
 -- ---- routes
 
@@ -85,7 +85,7 @@ unfoldable pub treesSize : Form → List Tree → ℕ
 treesSize f [] = 0
 treesSize f (t ∷ ts) = treeBeside + nameSize f (t .name) + treesSize f ts
 
-pub trees-length : (f : Form) (ts : List Tree) → ((i : ℕ) → i < length ts → length (getD ts i (bare []) .branches) ≡ 16) → length (treesSaved f ts) ≡ treesSize f ts
+pub trees-length : (f : Form) (ts : List Tree) → ((i : ℕ) → i < length ts → length (getD ts i (bare []) .branches) ≡ neighbourCount) → length (treesSaved f ts) ≡ treesSize f ts
 unfolding treesSaved treesSize
 trees-length f [] h = refl
 trees-length f (t ∷ ts) h = length-append (treeSaved f t) (treesSaved f ts) ∙ omega (arith, tree-length f t (h 0 (suc-le-suc zero-le)), trees-length f ts (λ i k. h (suc i) (suc-le-suc k)))
@@ -236,7 +236,7 @@ further f base before u us h =
     rw (n, e, f) at h
 
 -- the record of a label is read, and stored in its place
-one-read : (f : Form) (base k state n : ℕ) (a rest : List ℕ) (before after : List Use) → elementRefusal a ≡ 0 → isShort f a ≡ true → n < 16 → base + length before < 4294967296
+one-read : (f : Form) (base k state n : ℕ) (a rest : List ℕ) (before after : List Use) → elementRefusal a ≡ 0 → isShort f a ≡ true → n < neighbourCount → base + length before < 4294967296
     → usesRead f base (suc k) (useRecord f (base + length before) state n a ++ rest) (before ++ (free ∷ after)) ≡ usesRead f base k rest (before ++ (pick (eqb state 1) (mapped n a) (awaiting n a) ∷ after))
 unfolding usesRead
 one-read f base k state n a rest before after ok room near h =

@@ -11,6 +11,7 @@ use Rattle.meaning.specs.Lists.{by-test}
 use Rattle.meaning_laws.specs.RoundTrip.{both}
 use Rattle.meaning_plan.specs.Absurd.{no-way}
 use Rattle.meaning_plan.specs.Plan.{goesFirst, cheapest}
+use Rattle.meaning.specs.Card.{neighbourCount}
 
 module _ (ok : ℕ → Bool) (cost : ℕ → ℕ) where
   pub cheapest-most : (k v : ℕ) → v + k ≤ 16 → cheapest ok cost k v ≤ 16
@@ -22,7 +23,7 @@ module _ (ok : ℕ → Bool) (cost : ℕ → ℕ) where
       (λ e. rw e (cheapest-most k (suc v) (omega arith)))
 
   -- it is one of those that pass
-  pub cheapest-in : (k v : ℕ) → v + k ≤ 16 → cheapest ok cost k v < 16 → (v ≤ cheapest ok cost k v) × (ok (cheapest ok cost k v) ≡ true)
+  pub cheapest-in : (k v : ℕ) → v + k ≤ 16 → cheapest ok cost k v < neighbourCount → (v ≤ cheapest ok cost k v) × (ok (cheapest ok cost k v) ≡ true)
   unfolding cheapest
   cheapest-in zero v h lt = absurd (omega arith)
   cheapest-in (suc k) v h lt =
@@ -35,12 +36,12 @@ module _ (ok : ℕ → Bool) (cost : ℕ → ℕ) where
 
   -- b is no dearer than w, and no higher at the same cost
   pub record Beats (b w : ℕ) : Type 0 where
-    pub found : b < 16
+    pub found : b < neighbourCount
     pub cheap : cost b ≤ cost w
     pub lowest : cost b ≡ cost w → b ≤ w
 
   -- of the first, with what comes later
-  first-beats : (v later w : ℕ) → v < 16 → goesFirst cost v later ≡ true → (v ≡ w → ⊥) → v ≤ w → Beats later w → Beats v w
+  first-beats : (v later w : ℕ) → v < neighbourCount → goesFirst cost v later ≡ true → (v ≡ w → ⊥) → v ≤ w → Beats later w → Beats v w
   unfolding goesFirst
   first-beats v later w near e d h B =
       let cheaper : cost v ≤ cost later = leb-true _ _ (rw (ne-eqb later 16 (λ z. let f = B .found in omega arith)) at e) in
@@ -55,10 +56,10 @@ module _ (ok : ℕ → Bool) (cost : ℕ → ℕ) where
       let other : later ≡ 16 → ⊥ = eqb-false later 16 k in
       record { found = below later most other; cheap = omega arith; lowest = λ z. absurd (omega arith) })
     where
-      below : (x : ℕ) → x ≤ 16 → (x ≡ 16 → ⊥) → x < 16
+      below : (x : ℕ) → x ≤ 16 → (x ≡ 16 → ⊥) → x < neighbourCount
       below x h d = omega arith
 
-  same-beats : (v : ℕ) → v < 16 → Beats v v
+  same-beats : (v : ℕ) → v < neighbourCount → Beats v v
   same-beats v h = record { found = h; cheap = le-refl _; lowest = λ _. le-refl v }
 
   pub cheapest-beats : (k v : ℕ) → v + k ≤ 16 → (w : ℕ) → v ≤ w → w < v + k → ok w ≡ true → Beats (cheapest ok cost k v) w

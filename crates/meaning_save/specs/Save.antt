@@ -298,7 +298,7 @@ unfoldable pub isBranchLabel : ℕ → Bool
 isBranchLabel l = eqb l 0 || (leb 16 l && leb l 1048575)
 
 unfoldable pub isTree : Tree → Bool
-isTree t = isName (t .name) && eqb (length (t .branches)) 16 && all isBranchLabel (t .branches) && not (isEmpty t)
+isTree t = isName (t .name) && eqb (length (t .branches)) neighbourCount && all isBranchLabel (t .branches) && not (isEmpty t)
 
 unfoldable pub sameName : Tree → Tree → Bool
 sameName t s = named (t .name) s
@@ -306,8 +306,8 @@ sameName t s = named (t .name) s
 -- a label in use: for a neighbour, and a name
 unfoldable pub isUse : Use → Bool
 isUse free = true
-isUse (mapped n a) = ltb n 16 && isName a
-isUse (awaiting n a) = ltb n 16 && isName a
+isUse (mapped n a) = ltb n neighbourCount && isName a
+isUse (awaiting n a) = ltb n neighbourCount && isName a
 
 -- a mapped label is that of the tree that it is mapped for
 unfoldable pub isCarried : Card → ℕ → Use → Bool

@@ -10,7 +10,7 @@ use lib.Dec.{leb, ltb}
 use borrow.Author.Tests.{le-leb, lt-leb, lt-ltb, ltb-true, ltb-false, leb-false}
 use Rattle.meaning.specs.Octets.{pick}
 use Rattle.meaning.specs.Lists.{by-test}
-use Rattle.meaning.specs.Card.{withNext, treeLimit, routeLimit, labelCount, turn, withLast}
+use Rattle.meaning.specs.Card.{withNext, treeLimit, routeLimit, labelCount, turn, withLast, neighbourCount}
 use Rattle.meaning.specs.Events.{baseOutside}
 use Rattle.octets.specs.Part.{tab}
 use Rattle.memory.specs.Sizes.{routeColumn, ownColumn, rowColumn, rowNumbers, markColumn, labelNumbers, treeOctets, labelOctets, rootOctets, labelNames, rootNames, Numbers, turnPlace}
@@ -19,7 +19,7 @@ use Rattle.memory.proofs.Memory.{text-part, text-le, base-same, next-sa
 
 -- ---- the head
 
-pub base-under : (ns : List ℕ) → getD ns 0 0 < 16 → 16 ≡ baseIn ns
+pub base-under : (ns : List ℕ) → getD ns 0 0 < neighbourCount → 16 ≡ baseIn ns
 unfolding baseIn baseOutside
 base-under ns h = rw (lt-leb 16 (getD ns 0 0) h) refl
 

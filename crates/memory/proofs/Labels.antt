@@ -10,7 +10,7 @@ use lib.Count.{ones, ones-le}
 use borrow.Author.Tests.{ltb-true, ltb-false, le-leb, lt-leb, eq-eqb, ne-eqb}
 use Rattle.meaning.specs.Octets.{count, same}
 use Rattle.meaning.specs.Lists.{by-test, getD-out}
-use Rattle.meaning.specs.Card.{Tree, Use, withTrees, free, withLabels, isFree, isAwaiting, mappedTo, useOf, freeLabels, mapped, awaiting, treeLimit, labelCount}
+use Rattle.meaning.specs.Card.{Tree, Use, withTrees, free, withLabels, isFree, isAwaiting, mappedTo, useOf, freeLabels, mapped, awaiting, treeLimit, labelCount, neighbourCount}
 use Rattle.meaning.specs.Events.{setUse}
 use Rattle.octets.specs.Part.{tab}
 use Rattle.octets.proofs.Tab.{tab-length, tab-get, tab-ext, tab-set, count-none}
@@ -39,7 +39,7 @@ module _ (ns : List ℕ) (p : ℕ) where
   unfolding mappedTo
   maps-free e = ((λ os. rw (label-free ns p os e) refl), omega arith, (λ _. unmapped-free ns p e), (λ ne. absurd (ne refl)))
 
-  pub maps-some : isFreeAt ns p ≡ false → markUse (markAt ns p) < 16 → MapsTo (markUse (markAt ns p))
+  pub maps-some : isFreeAt ns p ≡ false → markUse (markAt ns p) < neighbourCount → MapsTo (markUse (markAt ns p))
   unfolding mappedTo
   maps-some e h = ((λ os. rw (label-mapped ns p os e h) refl), omega arith, (λ q. absurd (omega arith)), (λ _. mapped-at ns p e h))
 
@@ -53,7 +53,7 @@ module _ (ns os : List ℕ) (p n : ℕ) (a : List ℕ) where
   unfolding isAwaiting
   awaiting-free e = rw (label-free ns p os e) refl
 
-  awaiting-this : isFreeAt ns p ≡ false → n < 16 → markUse (markAt ns p) ≡ 16 + n → isAwaiting n a (labelIn ns os p) ≡ same (labelName os p) a
+  awaiting-this : isFreeAt ns p ≡ false → n < neighbourCount → markUse (markAt ns p) ≡ 16 + n → isAwaiting n a (labelIn ns os p) ≡ same (labelName os p) a
   unfolding isAwaiting
   awaiting-this t h e =
       let q : markUse (markAt ns p) - 16 ≡ n = omega arith in
@@ -118,7 +118,7 @@ module _ (ns os : List ℕ) (label p : ℕ) (r : InBlock ns label p) where
   pub awaits-not : (n : ℕ) (a : List ℕ) → p < labelCount → (markUse (markAt ns p) ≡ 16 + n → ⊥) → Awaits n a false
   awaits-not n a h ne = (rw (use-at h) (sym (awaiting-not ns os p n a ne)), λ z. absurd (never z))
 
-  pub awaits-same : (n : ℕ) (a : List ℕ) (b : Bool) → p < labelCount → isFreeAt ns p ≡ false → n < 16 → markUse (markAt ns p) ≡ 16 + n → b ≡ same (labelName os p) a → Awaits n a b
+  pub awaits-same : (n : ℕ) (a : List ℕ) (b : Bool) → p < labelCount → isFreeAt ns p ≡ false → n < neighbourCount → markUse (markAt ns p) ≡ 16 + n → b ≡ same (labelName os p) a → Awaits n a b
   awaits-same n a b h t n16 m s =
       let at : label ≡ baseIn ns + p = r .inside h in
       let back : label - baseIn ns ≡ p = omega arith in

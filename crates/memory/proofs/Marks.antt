@@ -10,7 +10,7 @@ use lib.Dec.{eqb, ltb}
 use borrow.Author.Tests.{lt-ltb, le-ltb, ltb-true, ltb-false, eq-eqb, eqb-true, eqb-false, not-true}
 use Rattle.meaning.specs.Lists.{by-test}
 use Rattle.meaning_laws.specs.RoundTrip.{both}
-use Rattle.meaning.specs.Card.{free, mapped, awaiting, isFree, labelCount}
+use Rattle.meaning.specs.Card.{free, mapped, awaiting, isFree, labelCount, neighbourCount}
 use Rattle.octets.specs.Bits.{bit}
 use Rattle.memory.specs.Sizes.{markColumn, wordColumn, wordCount, Numbers}
 use Rattle.memory.specs.Memory.{labelName, baseIn, wordAt, isFreeAt, markAt, markUse, markPlace, useIn, isMappedAt, labelIn, carriesAt, ownLabel, Relabelled}
@@ -22,11 +22,11 @@ never e = let z : _≡_ {A = ℕ} 0 1 = cc in omega arith
 -- ---- the use
 
 module _ (ns : List ℕ) (p : ℕ) where
-  pub mapped-at : isFreeAt ns p ≡ false → markUse (markAt ns p) < 16 → isMappedAt ns p ≡ true
+  pub mapped-at : isFreeAt ns p ≡ false → markUse (markAt ns p) < neighbourCount → isMappedAt ns p ≡ true
   unfolding isMappedAt
   mapped-at e k = rw (e, lt-ltb (markUse (markAt ns p)) 16 k) refl
 
-  pub mapped-use : isMappedAt ns p ≡ true → (isFreeAt ns p ≡ false) × (markUse (markAt ns p) < 16)
+  pub mapped-use : isMappedAt ns p ≡ true → (isFreeAt ns p ≡ false) × (markUse (markAt ns p) < neighbourCount)
   unfolding isMappedAt
   mapped-use e = let b = both (not (isFreeAt ns p)) (ltb (markUse (markAt ns p)) 16) e in (not-true _ (b .0), ltb-true _ _ (b .1))
 
@@ -44,7 +44,7 @@ module _ (ns : List ℕ) (p : ℕ) where
     unfolding labelIn
     label-free e = rw e refl
 
-    pub label-mapped : isFreeAt ns p ≡ false → markUse (markAt ns p) < 16 → labelIn ns os p ≡ mapped (markUse (markAt ns p)) (labelName os p)
+    pub label-mapped : isFreeAt ns p ≡ false → markUse (markAt ns p) < neighbourCount → labelIn ns os p ≡ mapped (markUse (markAt ns p)) (labelName os p)
     unfolding labelIn useIn
     label-mapped e k = rw (e, lt-ltb (markUse (markAt ns p)) 16 k) refl
 
@@ -62,7 +62,7 @@ module _ (ns : List ℕ) (p : ℕ) where
         (λ t. rw (label-awaiting e (ltb-false _ _ t), e) (unfold isFree in refl)))
 
     -- whatever the mark: free, or mapped to one of the sixteen neighbours, or awaiting release, for the label's name
-    pub by-use {ℓ} : {X : Type ℓ} → (labelIn ns os p ≡ free → X) → ((n : ℕ) → n < 16 → labelIn ns os p ≡ mapped n (labelName os p) → X) → ((n : ℕ) → labelIn ns os p ≡ awaiting n (labelName os p) → X) → X
+    pub by-use {ℓ} : {X : Type ℓ} → (labelIn ns os p ≡ free → X) → ((n : ℕ) → n < neighbourCount → labelIn ns os p ≡ mapped n (labelName os p) → X) → ((n : ℕ) → labelIn ns os p ≡ awaiting n (labelName os p) → X) → X
     by-use f m a =
         by-test (isFreeAt ns p)
         (λ e. f (label-free e))

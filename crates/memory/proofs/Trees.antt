@@ -10,7 +10,7 @@ use lib.Dec.{eqb}
 use borrow.Author.Tests.{eq-eqb, ne-eqb}
 use Rattle.meaning.specs.Octets.{place, same}
 use Rattle.meaning.specs.Lists.{by-test}
-use Rattle.meaning.specs.Card.{Tree, withTrees, withBranch, withLeaf, withLabel, treeAt, named, treePlace, withLabels, mappedTo, useOf, heldFor, carries, treeLimit, labelCount}
+use Rattle.meaning.specs.Card.{Tree, withTrees, withBranch, withLeaf, withLabel, treeAt, named, treePlace, withLabels, mappedTo, useOf, heldFor, carries, treeLimit, labelCount, neighbourCount}
 use Rattle.meaning.specs.Events.{setLabel, setUse, ended}
 use Rattle.octets.specs.Part.{tab}
 use Rattle.octets.proofs.Tab.{tab-length, tab-get, tab-ext, tab-set, place-start, place-past, place-hit, place-none}
@@ -45,10 +45,10 @@ module _ (ns os : List ℕ) (i : ℕ) (h : i < treeCount ns) where
   unfolding treeIn
   branches-at = ap (λ (t : Tree). t .branches) (tree-at ns os i h)
 
-  pub branches-length : length (treeAt i (cardOf ns os) .branches) ≡ 16
+  pub branches-length : length (treeAt i (cardOf ns os) .branches) ≡ neighbourCount
   branches-length = rw branches-at (tab-length 16 (λ n. getD ns (branchColumn + i * rowWidth + n) 0))
 
-  pub branch-at : (n : ℕ) → n < 16 → getD ns (branchColumn + i * rowWidth + n) 0 ≡ getD (treeAt i (cardOf ns os) .branches) n 0
+  pub branch-at : (n : ℕ) → n < neighbourCount → getD ns (branchColumn + i * rowWidth + n) 0 ≡ getD (treeAt i (cardOf ns os) .branches) n 0
   branch-at n k = rw branches-at (sym (tab-get 16 (λ m. getD ns (branchColumn + i * rowWidth + m) 0) n 0 k))
 
   pub name-at : treeAt i (cardOf ns os) .name ≡ treeName os i
@@ -90,7 +90,7 @@ module _ (ns os : List ℕ) (i : ℕ) (l : Numbers ns) (h : i < treeCount ns) (i
       (agree-refl (j * nameSpace) nameSpace os)) in
       cc (base-away ns os k v (omega arith), next-away ns os k v (omega arith), last-away ns os k v (omega arith) (λ e. omega arith), routes-away ns os k v (λ a b. omega arith), labels-away ns os k v (omega arith))
 
-  pub set-branch : (n v : ℕ) → n < 16
+  pub set-branch : (n v : ℕ) → n < neighbourCount
       → cardOf (set ns (branchColumn + i * rowWidth + n) v) os ≡ withTrees (set (cardOf ns os .trees) i (withBranch n v (treeAt i (cardOf ns os)))) (cardOf ns os)
   unfolding treeIn withBranch
   set-branch n v n16 =

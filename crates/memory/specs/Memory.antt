@@ -80,10 +80,10 @@ markPlace m = m / 256
 -- what a label that is not free is used for, for the name a: 0 to 15 are mapped to that neighbour, 16 to 31 await release from
 -- neighbour 0 to 15 (nothing writes a use above 31; it would await what no neighbour can send)
 unfoldable pub useIn : ℕ → List ℕ → Use
-useIn u a = pick (ltb u 16) (mapped u a) (awaiting (u - 16) a)
+useIn u a = pick (ltb u neighbourCount) (mapped u a) (awaiting (u - neighbourCount) a)
 
 unfoldable pub isMappedAt : List ℕ → ℕ → Bool
-isMappedAt ns p = not (isFreeAt ns p) && ltb (markUse (markAt ns p)) 16
+isMappedAt ns p = not (isFreeAt ns p) && ltb (markUse (markAt ns p)) neighbourCount
 
 unfoldable pub labelIn : List ℕ → List ℕ → ℕ → Use
 labelIn ns os p = pick (isFreeAt ns p) free (useIn (markUse (markAt ns p)) (labelName os p))

@@ -57,6 +57,10 @@ pub const TREES: u64 = TREE_LIMIT as u64;
 pub const ROUTES: u64 = ROUTE_LIMIT as u64;
 
 pub const LABELS: u64 = LABEL_COUNT as u64;
+
+pub const NEIGHBOURS: u64 = NEIGHBOUR_COUNT as u64;
+// a place in a row that is no neighbour's
+pub const NO_NEIGHBOUR: usize = NEIGHBOUR_COUNT;
 // in the own column: no label; in a mark: a place where no tree stands
 pub const NO_LABEL: u64 = LABEL_COUNT as u64;
 

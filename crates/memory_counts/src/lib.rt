@@ -6,12 +6,13 @@ ghost use Prim.Native.Nat.{ℕ, _≤_, _<_};
 ghost use lib.ListN.{set};
 ghost use Rattle.meaning.specs.Octets.{count, same};
 ghost use Rattle.meaning.specs.Wire.{rootIn};
-ghost use Rattle.meaning.specs.Card.{Tree, withTrees, withBranch, withLeaf, treeAt, isBranch, isEmpty, routePlace, treeLimit, routeLimit};
+ghost use Rattle.meaning.specs.Card.{Tree, withTrees, withBranch, withLeaf, treeAt, isBranch, isEmpty, routePlace, treeLimit, routeLimit, neighbourCount};
 ghost use Rattle.meaning.specs.Events.{ofRoot, total, inRoot, oneStanding, oneLone, changed, recounted};
 ghost use Rattle.memory.specs.Sizes.{Numbers, Names};
 ghost use Rattle.memory.specs.Memory.{cardOf, routeCount, treeCount, treeName};
 use meaning::ROOT_LIMIT;
 use memory::NAME_SPACE;
+use memory::NO_NEIGHBOUR;
 
 // How many trees stand, and how many of these are lone.
 pub struct Counts {
@@ -28,7 +29,7 @@ pub fn is_empty(numbers: &[u64], i: usize) -> bool
     if memory_trees::is_leaf(numbers, i) {
         return false;
     }
-    !memory_trees::any_branch(numbers, i, 16, 0, 16)
+    !memory_trees::any_branch(numbers, i, NO_NEIGHBOUR, 0, NO_NEIGHBOUR)
 }
 
 // What a tree counts that has so many branches, and a leaf or none.
@@ -118,7 +119,7 @@ pub fn recount(numbers: &mut [u64], k: usize, before: Counts, after: Counts)
 
 // Neighbour n's branch of the tree at place i, whose root's place is k, is `label` from now on, and is counted so.
 pub fn change_branch(numbers: &mut [u64], i: usize, k: usize, n: usize, label: u64)
-    requires { ⌜ Numbers (now numbers) × (i < treeCount (now numbers)) × (i < treeLimit) × (n < 16) ⌝ }
+    requires { ⌜ Numbers (now numbers) × (i < treeCount (now numbers)) × (i < treeLimit) × (n < neighbourCount) ⌝ }
     ensures { λ _. ⌜ ((os : List ℕ) → (let c = cardOf (now (numbers .entry)) os in let t = withBranch n label (treeAt i c) in
         k ≡ routePlace (rootIn (treeAt i c .name)) c → cardOf (now (numbers .exit)) os ≡ recounted (treeAt i c) t (withTrees (set (c .trees) i t) c))) ⌝ }
 {

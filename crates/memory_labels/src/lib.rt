@@ -3,7 +3,7 @@ ghost use mathlib.Core.Path.{_≡_};
 ghost use mathlib.Core.Bool.{true, false};
 ghost use mathlib.Core.List.{List};
 ghost use Prim.Native.Nat.{ℕ, _+_, _*_, _-_, _≤_, _<_};
-ghost use Rattle.meaning.specs.Card.{isFree, isAwaiting, mappedTo, useOf, freeLabels, free, awaiting, labelCount};
+ghost use Rattle.meaning.specs.Card.{isFree, isAwaiting, mappedTo, useOf, freeLabels, free, awaiting, labelCount, neighbourCount};
 ghost use Rattle.meaning.specs.Events.{setUse, labelsShort};
 ghost use Rattle.meaning_laws.specs.NextFree.{nextPlace};
 ghost use Rattle.memory.specs.Sizes.{Numbers, Names, wordCount};
@@ -15,6 +15,7 @@ use memory::LABEL_NAMES;
 use memory::LABELS;
 use memory::MARK_COLUMN;
 use memory::NAME_SPACE;
+use memory::NEIGHBOURS;
 use memory::SECOND_WORD;
 use memory::THIRD_WORD;
 use memory::WORD_COLUMN;
@@ -55,7 +56,7 @@ pub fn mapped_at(numbers: &[u64], p: usize) -> u64
         return 17;
     }
     let u = numbers[MARK_COLUMN + p] % 256;
-    if u < 16 { u } else { 17 }
+    if u < NEIGHBOURS { u } else { 17 }
 }
 
 // The neighbour from which the label at place p of the block awaits release, where the label is neither free nor mapped.
@@ -63,7 +64,7 @@ pub fn awaited_at(numbers: &[u64], p: usize) -> u64
     requires { ⌜ Numbers (now numbers) × (p < labelCount) × (isFreeAt (now numbers) p ≡ false) × (isMappedAt (now numbers) p ≡ false) ⌝ }
     ensures { λ r. ⌜ ((os : List ℕ) → labelIn (now (numbers .entry)) os p ≡ awaiting r (labelName os p)) × (r < 256) ⌝ }
 {
-    numbers[MARK_COLUMN + p] % 256 - 16
+    numbers[MARK_COLUMN + p] % 256 - NEIGHBOURS
 }
 
 // The place of a label in the block; 256 where it is not of the block. One test: of a label below the base the difference wraps far above.
@@ -87,7 +88,7 @@ pub fn label_name(names: &[u8], p: usize) -> &[u8]
 
 // Whether a label awaits release from that neighbour for that name.
 pub fn is_awaited(numbers: &[u64], names: &[u8], neighbour: u64, name: &[u8], label: u64) -> bool
-    requires { ⌜ Numbers (now numbers) × Names (now names) × (neighbour < 16) ⌝ }
+    requires { ⌜ Numbers (now numbers) × Names (now names) × (neighbour < neighbourCount) ⌝ }
     ensures { λ r. ⌜ (r ≡ isAwaiting neighbour (now (name .entry)) (useOf label (cardOf (now (numbers .entry)) (now (names .entry)))))
         × (r ≡ true → (baseIn (now (numbers .entry)) ≤ label) × (label < baseIn (now (numbers .entry)) + labelCount) × (isMappedAt (now (numbers .entry)) (label - baseIn (now (numbers .entry))) ≡ false)) ⌝ }
 {
@@ -98,7 +99,7 @@ pub fn is_awaited(numbers: &[u64], names: &[u8], neighbour: u64, name: &[u8], la
     if is_free(numbers, p) {
         return false;
     }
-    if numbers[MARK_COLUMN + p] % 256 != 16 + neighbour {
+    if numbers[MARK_COLUMN + p] % 256 != NEIGHBOURS + neighbour {
         return false;
     }
     octets::equal(label_name(names, p), name)

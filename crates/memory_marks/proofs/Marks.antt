@@ -11,7 +11,7 @@ use borrow.Author.Tests.{eqb-true, eqb-false}
 use Rattle.meaning.specs.Octets.{pick}
 use Rattle.meaning.specs.Wire.{nameLimit}
 use Rattle.meaning.specs.Lists.{by-test, picked}
-use Rattle.meaning.specs.Card.{Use, mapped, awaiting, withTrees, withLabels, withLabel, treeAt, labelCount, treeLimit}
+use Rattle.meaning.specs.Card.{Use, mapped, awaiting, withTrees, withLabels, withLabel, treeAt, labelCount, treeLimit, neighbourCount}
 use Rattle.meaning.specs.Events.{setUse, setLabel}
 use Rattle.octets.specs.Part.{mid}
 use Rattle.octets.proofs.Tab.{tab-ext, tab-set}
@@ -26,7 +26,7 @@ use Rattle.memory.proofs.Trees.{label-at}
 -- ---- a label mapped
 
 -- where the octets of the tree's name were copied, the label remembers the name
-remembered : (ns os ms qs : List ℕ) (p i n : ℕ) → n < 16 → i < treeCount ns → isFreeAt ms p ≡ false → markUse (markAt ms p) ≡ n → Carries (i * nameSpace) (labelNames + p * nameSpace) (1 + length (treeName os i)) os qs → labelIn ms qs p ≡ mapped n (treeAt i (cardOf ns os) .name)
+remembered : (ns os ms qs : List ℕ) (p i n : ℕ) → n < neighbourCount → i < treeCount ns → isFreeAt ms p ≡ false → markUse (markAt ms p) ≡ n → Carries (i * nameSpace) (labelNames + p * nameSpace) (1 + length (treeName os i)) os qs → labelIn ms qs p ≡ mapped n (treeAt i (cardOf ns os) .name)
 unfolding labelName treeIn treeName
 remembered ns os ms qs p i n hn hi f e h =
     rw (label-mapped ms p qs f (omega arith), e, text-brought nameLimit (i * nameSpace) (labelNames + p * nameSpace) os qs h, tree-at ns os i hi) refl
@@ -37,7 +37,7 @@ both-set ns os p i l u =
     let back : baseIn ns + p - baseIn ns ≡ p = omega arith in
     rw back refl
 
-pub map-label : (ns fs os qs : List ℕ) (p i n m : ℕ) → Numbers ns → Names os → p < labelCount → i < treeCount ns → i < treeLimit → n < 16 → isFreeAt ns p ≡ true
+pub map-label : (ns fs os qs : List ℕ) (p i n m : ℕ) → Numbers ns → Names os → p < labelCount → i < treeCount ns → i < treeLimit → n < neighbourCount → isFreeAt ns p ≡ true
     → Relabelled p ns fs → isFreeAt fs p ≡ false → m ≡ 1 + length (treeName os i) → m ≤ nameSpace → qs ≡ mid (labelNames + p * nameSpace) m os (take m (drop (i * nameSpace) os))
     → cardOf (set (set fs (markColumn + p) (n + 256 * i)) (ownColumn + i) p) qs ≡ setLabel i (baseIn ns + p) (setUse (baseIn ns + p) (mapped n (treeAt i (cardOf ns os) .name)) (cardOf ns os))
 map-label ns fs os qs p i n m hl ho hp hi h64 hn hf hr ht hm hs hq =
@@ -136,7 +136,7 @@ not-own ns os p j lt ne e =
     (λ t. absurd (ne (label-at ns os j lt ∙ rw e (own-some ns j p t))))
     (λ t. t)
 
-module _ (ns ks os qs a : List ℕ) (p n v : ℕ) (m : Bool) (hp : p < labelCount) (hn : n < 16) (ha : length a ≤ nameLimit) (w : Written (labelNames + p * nameSpace) (length a ∷ a) os qs)
+module _ (ns ks os qs a : List ℕ) (p n v : ℕ) (m : Bool) (hp : p < labelCount) (hn : n < neighbourCount) (ha : length a ≤ nameLimit) (w : Written (labelNames + p * nameSpace) (length a ∷ a) os qs)
     (taken : Relabelled p ns ks) (not-free : isFreeAt ks p ≡ false) where
   used : (ms : List ℕ) → isFreeAt ms p ≡ false → markUse (markAt ms p) ≡ pick m n (n + 16) → labelIn ms qs p ≡ pick m (mapped n a) (awaiting n a)
   unfolding labelName

@@ -2,23 +2,24 @@
 ghost use mathlib.Core.Path.{_≡_};
 ghost use mathlib.Core.Bool.{true};
 ghost use mathlib.Core.List.{List};
-ghost use Prim.Native.Nat.{ℕ, _+_, _-_, _≤_, _<_};
+ghost use Prim.Native.Nat.{ℕ, _+_, _*_, _-_, _≤_, _<_};
 ghost use lib.ListN.{length, set};
 ghost use Rattle.meaning.specs.Octets.{pick};
 ghost use Rattle.meaning.specs.Wire.{nameLimit};
-ghost use Rattle.meaning.specs.Card.{withLabels, treeAt, mapped, awaiting, labelCount, treeLimit};
+ghost use Rattle.meaning.specs.Card.{withLabels, treeAt, mapped, awaiting, labelCount, treeLimit, neighbourCount};
 ghost use Rattle.meaning.specs.Events.{setUse, setLabel};
 ghost use Rattle.memory.specs.Sizes.{Numbers, Names, nameSpace};
 ghost use Rattle.memory.specs.Memory.{cardOf, baseIn, treeCount, treeName, isFreeAt, isMappedAt};
 use memory::LABEL_NAMES;
 use memory::MARK_COLUMN;
 use memory::NAME_SPACE;
+use memory::NEIGHBOURS;
 use memory::NOWHERE;
 use memory::OWN_COLUMN;
 
 // The label at place p of the block, which is free, is mapped to neighbour n for the tree at place i, which carries it from now on.
 pub fn map_label(numbers: &mut [u64], names: &mut [u8], p: usize, i: usize, n: u64)
-    requires { ⌜ Numbers (now numbers) × Names (now names) × (p < labelCount) × (i < treeCount (now numbers)) × (i < treeLimit) × (n < 16) × (isFreeAt (now numbers) p ≡ true) ⌝ }
+    requires { ⌜ Numbers (now numbers) × Names (now names) × (p < labelCount) × (i < treeCount (now numbers)) × (i < treeLimit) × (n < neighbourCount) × (isFreeAt (now numbers) p ≡ true) ⌝ }
     ensures { λ _. ⌜ (let c = cardOf (now (numbers .entry)) (now (names .entry)) in cardOf (now (numbers .exit)) (now (names .exit))
         ≡ setLabel i (baseIn (now (numbers .entry)) + p) (setUse (baseIn (now (numbers .entry)) + p) (mapped n (treeAt i c .name)) c)) ⌝ }
 {
@@ -31,10 +32,10 @@ pub fn map_label(numbers: &mut [u64], names: &mut [u8], p: usize, i: usize, n: u
 
 // The number of a use: mapped to neighbour n, or awaiting release from it.
 fn use_of(held: bool, n: u64) -> u64
-    requires { ⌜ n < 16 ⌝ }
-    ensures { λ r. ⌜ (r ≡ pick held n (n + 16)) × (r < 32) ⌝ }
+    requires { ⌜ n < neighbourCount ⌝ }
+    ensures { λ r. ⌜ (r ≡ pick held n (n + neighbourCount)) × (r < 2 * neighbourCount) ⌝ }
 {
-    if held { n } else { n + 16 }
+    if held { n } else { n + NEIGHBOURS }
 }
 
 // The label at that place of the block, which no tree carries, is from now on mapped to neighbour n for that name, or awaits release
@@ -47,7 +48,7 @@ pub fn enter_use(
     n: u64,
     name: &[u8],
 )
-    requires { ⌜ Numbers (now numbers) × Names (now names) × (place < labelCount) × (n < 16) × (length (now name) ≤ nameLimit)
+    requires { ⌜ Numbers (now numbers) × Names (now names) × (place < labelCount) × (n < neighbourCount) × (length (now name) ≤ nameLimit)
         × ((j : ℕ) → j < treeCount (now numbers) → treeAt j (cardOf (now numbers) (now names)) .label ≡ baseIn (now numbers) + place → ⊥) ⌝ }
     ensures { λ _. ⌜ (let c = cardOf (now (numbers .entry)) (now (names .entry)) in cardOf (now (numbers .exit)) (now (names .exit))
         ≡ withLabels (set (c .labels) place (pick held (mapped n (now (name .entry))) (awaiting n (now (name .entry))))) c) ⌝ }

@@ -7,15 +7,17 @@ ghost use Prim.Native.Nat.{ℕ, _+_, _*_, _-_, _≤_, _<_};
 ghost use lib.ListN.{length, getD, set};
 ghost use Rattle.meaning.specs.Octets.{pick, place, any, count, same};
 ghost use Rattle.meaning.specs.Wire.{nameLimit};
-ghost use Rattle.meaning.specs.Card.{withTrees, withBranch, withLeaf, treePlace, treeAt, isBranch, useOf, heldFor, carries, labelCount, treeLimit};
+ghost use Rattle.meaning.specs.Card.{withTrees, withBranch, withLeaf, treePlace, treeAt, isBranch, useOf, heldFor, carries, labelCount, treeLimit, neighbourCount};
 ghost use Rattle.meaning.specs.Events.{setUse, setLabel, ended};
 ghost use Rattle.memory.specs.Sizes.{Numbers, Names, nameSpace};
 ghost use Rattle.memory.specs.Memory.{cardOf, baseIn, treeCount, treeName, isMappedAt, carriesAt, ownPlace};
 use meaning::NAME_LIMIT;
+use meaning::NEIGHBOUR_COUNT;
 use memory::BRANCH_COLUMN;
 use memory::LABELS;
 use memory::MARK_COLUMN;
 use memory::NAME_SPACE;
+use memory::NEIGHBOURS;
 use memory::OWN_COLUMN;
 use memory::ROW_COLUMN;
 use memory::ROW_WIDTH;
@@ -66,14 +68,14 @@ pub fn is_leaf(numbers: &[u64], i: usize) -> bool
 }
 
 pub fn branch(numbers: &[u64], i: usize, n: usize) -> u64
-    requires { ⌜ Numbers (now numbers) × (i < treeCount (now numbers)) × (i < treeLimit) × (n < 16) ⌝ }
+    requires { ⌜ Numbers (now numbers) × (i < treeCount (now numbers)) × (i < treeLimit) × (n < neighbourCount) ⌝ }
     ensures { λ r. ⌜ ((os : List ℕ) → r ≡ getD (treeAt i (cardOf (now (numbers .entry)) os) .branches) n 0) ⌝ }
 {
     numbers[BRANCH_COLUMN + i * ROW_WIDTH + n]
 }
 
 // The sixteen branches, all read before the caller writes one: so a lookup makes no copy on the way to the lent array.
-pub fn branches(numbers: &[u64], i: usize) -> [u64; 16]
+pub fn branches(numbers: &[u64], i: usize) -> [u64; NEIGHBOUR_COUNT]
     requires { ⌜ Numbers (now numbers) × (i < treeCount (now numbers)) × (i < treeLimit) ⌝ }
     ensures { λ r. ⌜ ((os : List ℕ) → r ≡ treeAt i (cardOf (now (numbers .entry)) os) .branches) ⌝ }
 {
@@ -108,11 +110,11 @@ pub fn one(x: u64) -> u64
 // How many branches the tree has. All sixteen are read, and no step hangs on which of them stand: nothing foretells that.
 pub fn branch_count(numbers: &[u64], i: usize) -> u64
     requires { ⌜ Numbers (now numbers) × (i < treeCount (now numbers)) × (i < treeLimit) ⌝ }
-    ensures { λ r. ⌜ ((os : List ℕ) → r ≡ count isBranch (treeAt i (cardOf (now (numbers .entry)) os) .branches)) × (r ≤ 16) ⌝ }
+    ensures { λ r. ⌜ ((os : List ℕ) → r ≡ count isBranch (treeAt i (cardOf (now (numbers .entry)) os) .branches)) × (r ≤ neighbourCount) ⌝ }
 {
     let mut sum = 0;
     let mut n = 0;
-    while n < 16 {
+    while n < NEIGHBOUR_COUNT {
         sum += one(branch(numbers, i, n));
         n += 1;
     }
@@ -124,7 +126,7 @@ pub fn count_of(numbers: &[u64], i: usize, n: usize) -> u64
     requires { ⌜ Numbers (now numbers) × (i < treeCount (now numbers)) × (i < treeLimit) ⌝ }
     ensures { λ r. ⌜ ((os : List ℕ) → r ≡ pick (isBranch (getD (treeAt i (cardOf (now (numbers .entry)) os) .branches) n 0)) 1 0) × (r ≤ 1) ⌝ }
 {
-    if n < 16 {
+    if n < NEIGHBOUR_COUNT {
         return one(branch(numbers, i, n));
     }
     0
@@ -145,7 +147,7 @@ fn any_other(numbers: &[u64], i: usize, n: usize, but: usize) -> bool
     ensures { λ r. ⌜ ((os : List ℕ) → r ≡ any isBranch (set (set (treeAt i (cardOf (now (numbers .entry)) os) .branches) n 0) but 0)) ⌝ }
 {
     let mut k = 0;
-    while k < 16 {
+    while k < NEIGHBOUR_COUNT {
         if branch(numbers, i, k) != 0 {
             if is_other(k, n, but) {
                 return true;
@@ -158,18 +160,18 @@ fn any_other(numbers: &[u64], i: usize, n: usize, but: usize) -> bool
 
 // Whether the branch x of neighbour n is one, apart from that of neighbour `but`.
 fn is_one(n: usize, x: u64, but: usize) -> bool
-    ensures { λ r. ⌜ (r ≡ true → (x ≡ 0 → ⊥) × (n < 16) × (n ≡ but → ⊥)) × (r ≡ false → (x ≡ 0) ⊎ ((16 ≤ n) ⊎ (n ≡ but))) ⌝ }
+    ensures { λ r. ⌜ (r ≡ true → (x ≡ 0 → ⊥) × (n < neighbourCount) × (n ≡ but → ⊥)) × (r ≡ false → (x ≡ 0) ⊎ ((neighbourCount ≤ n) ⊎ (n ≡ but))) ⌝ }
 {
     if x == 0 {
         return false;
     }
-    if 16 <= n {
+    if NEIGHBOUR_COUNT <= n {
         return false;
     }
     n != but
 }
 
-// Whether the tree has a branch, once that of neighbour n is x (16: nobody's changes), apart from that of neighbour `but` (16: none apart).
+// Whether the tree has a branch, once that of neighbour n is x (NO_NEIGHBOUR: nobody's changes), apart from that of neighbour `but` (NO_NEIGHBOUR: none apart).
 pub fn any_branch(numbers: &[u64], i: usize, n: usize, x: u64, but: usize) -> bool
     requires { ⌜ Numbers (now numbers) × (i < treeCount (now numbers)) × (i < treeLimit) ⌝ }
     ensures { λ r. ⌜ ((os : List ℕ) → r ≡ any isBranch (set (set (treeAt i (cardOf (now (numbers .entry)) os) .branches) n x) but 0)) ⌝ }
@@ -234,7 +236,7 @@ pub fn tree_place(numbers: &[u64], names: &[u8], name: &[u8]) -> usize
 }
 
 pub fn set_branch(numbers: &mut [u64], i: usize, n: usize, label: u64)
-    requires { ⌜ Numbers (now numbers) × (i < treeCount (now numbers)) × (i < treeLimit) × (n < 16) ⌝ }
+    requires { ⌜ Numbers (now numbers) × (i < treeCount (now numbers)) × (i < treeLimit) × (n < neighbourCount) ⌝ }
     ensures { λ _. ⌜ ((os : List ℕ) → (let c = cardOf (now (numbers .entry)) os in cardOf (now (numbers .exit)) os
         ≡ withTrees (set (c .trees) i (withBranch n label (treeAt i c))) c)) ⌝ }
 {
@@ -289,5 +291,5 @@ pub fn end_label(numbers: &mut [u64], i: usize)
         ≡ setLabel i 0 (setUse (treeAt i c .label) (ended (useOf (treeAt i c .label) c)) c))) ⌝ }
 {
     let k = MARK_COLUMN + numbers[OWN_COLUMN + i] as usize;
-    numbers[k] = numbers[k] % 256 + 16;
+    numbers[k] = numbers[k] % 256 + NEIGHBOURS;
 }

@@ -12,7 +12,7 @@ use borrow.Author.Tests.{le-leb, lt-leb, eq-eqb, ne-eqb, lt-ltb, le-ltb, not-tru
 use Rattle.meaning.specs.Octets.{pick, place, count, all, same, twoAt}
 use Rattle.meaning.specs.Lists.{by-test}
 use Rattle.meaning.specs.Wire.{rootLimit}
-use Rattle.meaning.specs.Card.{Route, Card, routeOf, freeLabels}
+use Rattle.meaning.specs.Card.{Route, Card, routeOf, freeLabels, neighbourCount}
 use Rattle.meaning.specs.Events.{needAll, noNeighbour}
 use Rattle.memory.specs.Memory.{rootName, routeIn, entryIn as rowIn}
 use Rattle.save_rules_rows.proofs.RowRules.{At}
@@ -149,15 +149,15 @@ module _ (c : Card) (ms : List Move) where
 module _ (n : ℕ) (ps : List Allowed) (r : List ℕ) (v : ℕ) where
   pub far-not : 15 < v → false ≡ mayHave n ps r v
   unfolding mayHave
-  far-not h = rw (le-ltb v 16 h) refl
+  far-not h = rw (le-ltb v neighbourCount h) refl
 
   pub own-not : v ≤ 15 → v ≡ n → false ≡ mayHave n ps r v
   unfolding mayHave
-  own-not h e = rw (eq-eqb v n e, and-false (ltb v 16)) refl
+  own-not h e = rw (eq-eqb v n e, and-false (ltb v neighbourCount)) refl
 
   pub set-says : v ≤ 15 → (v ≡ n → ⊥) → (s : ℕ) → s ≡ setOf ps r → eqb (s / 2 ^ v % 2) 1 ≡ mayHave n ps r v
   unfolding mayHave permits
-  set-says h ne s e = rw (lt-ltb v 16 (omega arith), ne-eqb v n ne, e) refl
+  set-says h ne s e = rw (lt-ltb v neighbourCount (omega arith), ne-eqb v n ne, e) refl
 
 module _ (c : Card) (n : ℕ) (ps : List Allowed) (m : Move) (a : List ℕ) (is : a ≡ m .root) (via : ℕ) (goes : via ≡ routeOf a c) where
   pub move-other : (via ≡ n → ⊥) → false ≡ isMove c n ps m

@@ -12,7 +12,7 @@ use lib.Dec.{eqb, leb, ltb}
 use borrow.Author.Tests.{eqb-true, eqb-false, ltb-true, ltb-false, leb-true, le-leb, not-true}
 use Rattle.meaning.specs.Octets.{pick, place, placeFrom, count, any, same, put, cut}
 use Rattle.meaning.specs.Wire.{elementRefusal}
-use Rattle.meaning.specs.Card.{Tree, Use, free, Card, withTrees, withLabels, withLabel, named, bare, treePlace, treeOf, treeAt, isBranch, isEmpty, isFree, useOf, turn, nextFree, freeLabels, withLast}
+use Rattle.meaning.specs.Card.{Tree, Use, free, Card, withTrees, withLabels, withLabel, named, bare, treePlace, treeOf, treeAt, isBranch, isEmpty, isFree, useOf, turn, nextFree, freeLabels, withLast, neighbourCount}
 use Rattle.meaning.specs.Events.{setUse, setLabel, entered, swept}
 use Rattle.meaning.specs.Lists.{getD-same, by-test, picked, place-finds, place-count, getD-out, same-eq, same-refl, found-put, found-cut, count-put, count-cut, other-put, other-cut, count-other-put, place-only, from-within, from-passes}
 use Rattle.promise.specs.Promise.{treesBut, useBut, Untouched}
@@ -70,7 +70,7 @@ shape t = withLabel 0 t
 
 -- sixteen places, and a name that 6, 7 and 18 pass
 unfoldable pub Proper : Tree → Type 0
-Proper t = (length (t .branches) ≡ 16) × (elementRefusal (t .name) ≡ 0)
+Proper t = (length (t .branches) ≡ neighbourCount) × (elementRefusal (t .name) ≡ 0)
 
 unfoldable pub AllProper : List Tree → Type 0
 AllProper [] = Unit {0}
@@ -87,7 +87,7 @@ proper-at [] i d p h = absurd (not-suc-le-zero h)
 proper-at (t ∷ l) zero d p h = p .0
 proper-at (t ∷ l) (suc i) d p h = proper-at l i d (p .1) (le-of-suc-le-suc h)
 
-sized-getD : (l : List Tree) (i : ℕ) (d : Tree) → AllProper l → length (d .branches) ≡ 16 → length (getD l i d .branches) ≡ 16
+sized-getD : (l : List Tree) (i : ℕ) (d : Tree) → AllProper l → length (d .branches) ≡ neighbourCount → length (getD l i d .branches) ≡ neighbourCount
 unfolding AllProper Proper
 sized-getD [] i d s h = h
 sized-getD (t ∷ l) zero d s h = s .0 .0
@@ -107,7 +107,7 @@ proper-cut [] (suc i) s = tt
 proper-cut (y ∷ l) zero s = s .1
 proper-cut (y ∷ l) (suc i) s = (s .0, proper-cut l i (s .1))
 
-pub tree-sized : (a : List ℕ) (c : Card) → Tidy (c .trees) → length (treeOf a c .branches) ≡ 16
+pub tree-sized : (a : List ℕ) (c : Card) → Tidy (c .trees) → length (treeOf a c .branches) ≡ neighbourCount
 unfolding treeOf bare
 tree-sized a c d = sized-getD (c .trees) (treePlace a c) (bare a) (d .proper) refl
 
@@ -219,12 +219,12 @@ zeros (b ∷ bs) h =
     (λ e. ap₂ _∷_ (let k = ltb-false 0 b e in omega arith) (zeros bs (rw e at h)))
 
 -- an empty tree without a label is a bare one
-pub empty-bare : (t : Tree) → length (t .branches) ≡ 16 → isEmpty t ≡ true → t .label ≡ 0 → t ≡ bare (t .name)
+pub empty-bare : (t : Tree) → length (t .branches) ≡ neighbourCount → isEmpty t ≡ true → t .label ≡ 0 → t ≡ bare (t .name)
 unfolding isEmpty bare
 empty-bare t h e z =
     by-test (any isBranch (t .branches))
     (λ k. let z : false ≡ true = rw k at e in cc)
-    (λ k. let none : t .branches ≡ replicate 16 0 = zeros (t .branches) k ∙ ap (λ (n : ℕ). replicate n 0) h in
+    (λ k. let none : t .branches ≡ replicate neighbourCount 0 = zeros (t .branches) k ∙ ap (λ (n : ℕ). replicate n 0) h in
     let no-leaf : t .leaf ≡ false = not-true (t .leaf) (rw k at e) in
     λ i. record { name = t .name; branches = none i; leaf = no-leaf i; label = z i })
 

@@ -10,7 +10,7 @@ use lib.Dec.{eqb, ltb}
 use borrow.Author.Tests.{eqb-true, eqb-false, eq-eqb, ne-eqb, ltb-true, ltb-false, leb-false, not-false}
 use Rattle.meaning.specs.Octets.{pick, place, same, put}
 use Rattle.meaning.specs.Wire.{isKind, mapping, withdraw, release, Message, messageIn, elementRefusal, Sent}
-use Rattle.meaning.specs.Card.{Tree, Use, free, mapped, awaiting, Card, nobody, withRoutes, withTrees, withLabels, withBranch, withLeaf, treeLimit, named, bare, treePlace, treeOf, treeAt, stands, isEmpty, isFree, isAwaiting, mappedTo, useOf, heldFor, freeLabels, routeOf, Route, noEntry, routePlace}
+use Rattle.meaning.specs.Card.{Tree, Use, free, mapped, awaiting, Card, nobody, withRoutes, withTrees, withLabels, withBranch, withLeaf, treeLimit, named, bare, treePlace, treeOf, treeAt, stands, isEmpty, isFree, isAwaiting, mappedTo, useOf, heldFor, freeLabels, routeOf, Route, noEntry, routePlace, neighbourCount}
 use Rattle.meaning.specs.Events.{Outcome, refused, taken, unless, Moved, tell, setUse, relabel, need, labelsShort, upstream, holderOf, entered, swept, treesFull, treeRefusal, enter, become, branch, otherLabel, onMapping, lessBranch, onWithdraw, notAwaited, onRelease, onMessage, noNeighbour, onOctets, onJoin, onLeave, moveAll, needAll, routesWith, routeRefusal, reRoute, onRoute, Event, receive, join, leave, route, outcome, part, onLost, lost, total, inRoot, workedOut, entryOf, recounted}
 use Rattle.promise.specs.Promise.{Given, remove, noteSent, noteAll, noteTaken, NoneLive, AllMapped, useBut, Untouched, without}
 use Rattle.meaning.specs.Lists.{by-test, picked, same-eq, count-new, no-when}
@@ -90,14 +90,14 @@ release-quiet gs n a l g = (
   ((λ e. absurd (omega arith)), tt),
 )
 
-pub upstream-near : (via : ℕ) → eqb (upstream via) nobody ≡ false → upstream via < 16
+pub upstream-near : (via : ℕ) → eqb (upstream via) nobody ≡ false → upstream via < neighbourCount
 unfolding upstream
 upstream-near via =
-    by-test (ltb via 16)
-    (λ e. rw e (λ _. ltb-true via 16 e))
+    by-test (ltb via neighbourCount)
+    (λ e. rw e (λ _. ltb-true via neighbourCount e))
     (λ e. rw e (λ z. absurd (let z′ : _≡_ {A = ℕ} 0 1 = cc in omega arith)))
 
-with-near : (c : Card) (t : Tree) → eqb (holderOf c t) nobody ≡ false → holderOf c t < 16
+with-near : (c : Card) (t : Tree) → eqb (holderOf c t) nobody ≡ false → holderOf c t < neighbourCount
 unfolding holderOf
 with-near c t = holder-near _ t (upstream-near _)
 
@@ -133,7 +133,7 @@ module _ (c : Card) (gs : List Given) (S : Sound c gs) (a : List ℕ) (good : el
   unfolding its
   its-name = keeps-name (treeOf a c) ∙ tree-name a c
 
-  its-size : length (its .branches) ≡ 16
+  its-size : length (its .branches) ≡ neighbourCount
   unfolding its
   its-size = keeps-size (treeOf a c) ∙ tree-sized a c (S .tidy)
 
@@ -495,7 +495,7 @@ module _ (c : Card) (gs : List Given) (S : Sound c gs) where
 
   -- ---- the loss of a neighbour
 
-  lost-keeps : (n : ℕ) → n < 16 → Keeps c (without n gs) (λ b x. withBranch n 0 x) (λ _. Unit {0}) (part c n)
+  lost-keeps : (n : ℕ) → n < neighbourCount → Keeps c (without n gs) (λ b x. withBranch n 0 x) (λ _. Unit {0}) (part c n)
   unfolding part Keeps
   lost-keeps n near = record {
     sound = loss-swept n c gs S .sound;
@@ -542,7 +542,7 @@ heard-awaited c n s e = unless-awaited c n _ _ _ (λ _. unless-awaited c n _ _ _
 
 -- It is from a neighbour, its label is one, and where it is a Mapping its branch stood with no other.
 unfoldable pub Admits : Card → Event → Type 0
-Admits c (receive n s) = (n < 16) × (16 ≤ messageIn s .label) × (messageIn s .kind ≡ mapping → otherLabel (treeOf (messageIn s .name) c) n (messageIn s .label) ≡ false)
+Admits c (receive n s) = (n < neighbourCount) × (16 ≤ messageIn s .label) × (messageIn s .kind ≡ mapping → otherLabel (treeOf (messageIn s .name) c) n (messageIn s .label) ≡ false)
 Admits c (join e) = Unit {0}
 Admits c (leave e) = Unit {0}
 Admits c (route r via) = Unit {0}

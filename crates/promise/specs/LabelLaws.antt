@@ -11,7 +11,7 @@ use lib.Dec.{eqb}
 use borrow.Author.Tests.{eqb-true, eqb-false, eq-eqb, le-leb, lt-leb}
 use Rattle.meaning.specs.Octets.{pick, same}
 use Rattle.meaning.specs.Wire.{elementRefusal, isKind, withdraw, Sent}
-use Rattle.meaning.specs.Card.{Tree, Use, free, mapped, awaiting, Card, nobody, withTrees, withLabels, withLabel, treePlace, treeOf, treeAt, leadsOn, isFree, mappedTo, useOf, heldFor, freeLabels, nextFree, withLast}
+use Rattle.meaning.specs.Card.{Tree, Use, free, mapped, awaiting, Card, nobody, withTrees, withLabels, withLabel, treePlace, treeOf, treeAt, leadsOn, isFree, mappedTo, useOf, heldFor, freeLabels, nextFree, withLast, neighbourCount}
 use Rattle.meaning.specs.Events.{Moved, still, followedBy, setUse, setLabel, ended, giveUp, give, letGo, takeUp, moveLabel, relabel, needMove, need, holder, ofRoot, moveOne, moveFrom, moveAll, needOne, sumFrom, needAll}
 use Rattle.promise.specs.Promise.{Given, noteSent, noteAll, NoneLive, AllMapped, useBut, Untouched}
 use Rattle.meaning.specs.Lists.{by-test, picked, same-eq, same-refl, count-set, count-less}
@@ -217,7 +217,7 @@ module _ (c : Card) (gs : List Given) (S : Sound c gs) (i : ℕ) (h : i < length
     unfolding AllSendable giveUp isKind
     up-said =
         let ok : elementRefusal (treeAt i c .name) ≡ 0 = unfold Proper in at-proper c i (S .tidy) h .1 in
-        let near : heldFor c (treeAt i c) < 16 = unfold heldFor in mapped-near (treeAt i c .name) (useOf (treeAt i c .label) c) (held-own some-one) (S .linked .real (treeAt i c .label)) in
+        let near : heldFor c (treeAt i c) < neighbourCount = unfold heldFor in mapped-near (treeAt i c .name) (useOf (treeAt i c .label) c) (held-own some-one) (S .linked .real (treeAt i c .label)) in
         let low = its-block .0 in
         let high = its-block .1 in
         (record { near = near; says = record { kind = refl; kind-fits = omega arith; name = ok; low = omega (arith, S .low); high = omega (arith, S .high, S .many) } }, tt)
@@ -246,7 +246,7 @@ module _ (c : Card) (gs : List Given) (S : Sound c gs) (i : ℕ) (h : i < length
         (λ b n. up-keeps _ _ (S .linked) (treeAt i c .name) (treeAt i c .label) _ b (held-own some-one) n)
         (own-awaiting (heldFor c (treeAt i c)) (treeAt i c .name) ∙ sym (ap (useBut (treeAt i c .name)) its-use ∙ own-mapped (heldFor c (treeAt i c)) (treeAt i c .name))))
 
-  module _ (u : ℕ) (near : u < 16) (some-free : 0 < freeLabels c) (none : treeAt i c .label ≡ 0) where
+  module _ (u : ℕ) (near : u < neighbourCount) (some-free : 0 < freeLabels c) (none : treeAt i c .label ≡ 0) where
     not-zero : nextFree c ≡ 0 → ⊥
     not-zero z = omega (arith, S .low, next-from c some-free)
 
@@ -322,7 +322,7 @@ module _ (c : Card) (gs : List Given) (S : Sound c gs) (i : ℕ) (h : i < length
       (λ e. eqb-true _ _ e)
       (λ e. up-none)
 
-  take-up-fine : (u : ℕ) → (eqb u nobody ≡ false → u < 16) → (eqb u nobody ≡ false → 0 < freeLabels c) → treeAt i c .label ≡ 0 → Fine i c gs (takeUp i u c)
+  take-up-fine : (u : ℕ) → (eqb u nobody ≡ false → u < neighbourCount) → (eqb u nobody ≡ false → 0 < freeLabels c) → treeAt i c .label ≡ 0 → Fine i c gs (takeUp i u c)
   unfolding takeUp
   take-up-fine u near enough none =
       picked (Fine i c gs) (eqb u nobody)
@@ -333,21 +333,21 @@ module _ (c : Card) (gs : List Given) (S : Sound c gs) (i : ℕ) (h : i < length
   unfolding heldFor mappedTo
   none-held z = ap mappedTo (ap (λ (l : ℕ). useOf l c) z ∙ S .linked .zero-free)
 
-  take-up-own : (u : ℕ) → (eqb u nobody ≡ false → u < 16) → (eqb u nobody ≡ false → 0 < freeLabels c) → treeAt i c .label ≡ 0 → heldFor (takeUp i u c .card) (treeAt i (takeUp i u c .card)) ≡ u
+  take-up-own : (u : ℕ) → (eqb u nobody ≡ false → u < neighbourCount) → (eqb u nobody ≡ false → 0 < freeLabels c) → treeAt i c .label ≡ 0 → heldFor (takeUp i u c .card) (treeAt i (takeUp i u c .card)) ≡ u
   unfolding takeUp still
   take-up-own u near enough none =
       by-test (eqb u nobody)
       (λ e. rw e (none-held none ∙ sym (eqb-true _ _ e)))
       (λ e. rw e (give-own c gs S i h u (near e) (enough e) none))
 
-  take-up-free : (u : ℕ) → (eqb u nobody ≡ false → u < 16) → (eqb u nobody ≡ false → 0 < freeLabels c) → treeAt i c .label ≡ 0 → freeLabels (takeUp i u c .card) + needMove u ≡ freeLabels c
+  take-up-free : (u : ℕ) → (eqb u nobody ≡ false → u < neighbourCount) → (eqb u nobody ≡ false → 0 < freeLabels c) → treeAt i c .label ≡ 0 → freeLabels (takeUp i u c .card) + needMove u ≡ freeLabels c
   unfolding takeUp still needMove
   take-up-free u near enough none =
       by-test (eqb u nobody)
       (λ e. rw e (omega arith))
       (λ e. rw e (omega (arith, give-free c gs S i h u (near e) (enough e) none)))
 
-module _ (c : Card) (gs : List Given) (S : Sound c gs) (i : ℕ) (h : i < length (c .trees)) (u : ℕ) (near : eqb u nobody ≡ false → u < 16) (enough : needMove u ≤ freeLabels c) where
+module _ (c : Card) (gs : List Given) (S : Sound c gs) (i : ℕ) (h : i < length (c .trees)) (u : ℕ) (near : eqb u nobody ≡ false → u < neighbourCount) (enough : needMove u ≤ freeLabels c) where
   left : Card
   left = letGo i c .card
 
@@ -389,7 +389,7 @@ module _ (c : Card) (gs : List Given) (S : Sound c gs) (i : ℕ) (h : i < length
   unfolding moveLabel followedBy takeUp still
   move-none z = rw (eq-eqb u nobody z) (let-go-none c gs S i h)
 
-module _ (c : Card) (gs : List Given) (S : Sound c gs) (i : ℕ) (h : i < length (c .trees)) (u : ℕ) (near : eqb u nobody ≡ false → u < 16) (enough : need c (treeAt i c) u ≤ freeLabels c) where
+module _ (c : Card) (gs : List Given) (S : Sound c gs) (i : ℕ) (h : i < length (c .trees)) (u : ℕ) (near : eqb u nobody ≡ false → u < neighbourCount) (enough : need c (treeAt i c) u ≤ freeLabels c) where
   move-enough : eqb (heldFor c (treeAt i c)) u ≡ false → needMove u ≤ freeLabels c
   unfolding need
   move-enough e = rw e at enough
@@ -470,11 +470,11 @@ module _ (c : Card) (gs : List Given) (S : Sound c gs) (i : ℕ) (h : i < length
   held-other j k n = ap mappedTo (rw (at-named c (S .tidy) j k) at (p .uses (treeAt j c .name) (names-apart j k n)))
 
 -- whoever is to hold the label is a neighbour, where u is one
-pub holder-near : (u : ℕ) (t : Tree) → (eqb u nobody ≡ false → u < 16) → eqb (holder u t) nobody ≡ false → holder u t < 16
+pub holder-near : (u : ℕ) (t : Tree) → (eqb u nobody ≡ false → u < neighbourCount) → eqb (holder u t) nobody ≡ false → holder u t < neighbourCount
 unfolding holder
-holder-near u t near = picked (λ (x : ℕ). eqb x nobody ≡ false → x < 16) (leadsOn u t) (λ _. near) (λ _ e. absurd (eqb-false nobody nobody e refl))
+holder-near u t near = picked (λ (x : ℕ). eqb x nobody ≡ false → x < neighbourCount) (leadsOn u t) (λ _. near) (λ _ e. absurd (eqb-false nobody nobody e refl))
 
-module _ (r : List ℕ) (u : ℕ) (near : eqb u nobody ≡ false → u < 16) where
+module _ (r : List ℕ) (u : ℕ) (near : eqb u nobody ≡ false → u < neighbourCount) where
   pub one-fine : (c : Card) (gs : List Given) → Sound c gs → (i : ℕ) → i < length (c .trees) → needOne r u (treeAt i c) ≤ freeLabels c → Fine i c gs (moveOne r u i c)
   unfolding moveOne needOne
   one-fine c gs S i h enough =

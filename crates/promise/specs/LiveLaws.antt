@@ -11,7 +11,7 @@ use lib.Dec.{eqb, leb}
 use borrow.Author.Tests.{eqb-true, eqb-false, eq-eqb, ne-eqb, leb-false}
 use Rattle.meaning.specs.Octets.{pick, count, same}
 use Rattle.meaning.specs.Wire.{Message}
-use Rattle.meaning.specs.Card.{Use, free, mapped, awaiting, nobody, isFree, isAwaiting, mappedTo}
+use Rattle.meaning.specs.Card.{Use, free, mapped, awaiting, nobody, isFree, isAwaiting, mappedTo, neighbourCount}
 use Rattle.promise.specs.Promise.{Given, ofLabel, isAbout, isStanding, mark, remove, Each}
 use Rattle.meaning.specs.Lists.{by-test, picked, same-eq, same-refl, same-no}
 
@@ -57,7 +57,7 @@ held-mapped free h = absurd (h refl)
 held-mapped (mapped n t) h = (t, refl)
 held-mapped (awaiting n t) h = absurd (h refl)
 
-pub mapped-near : (a : List ℕ) (u : Use) → isMapped a u ≡ true → stray u ≡ false → mappedTo u < 16
+pub mapped-near : (a : List ℕ) (u : Use) → isMapped a u ≡ true → stray u ≡ false → mappedTo u < neighbourCount
 unfolding isMapped stray mappedTo
 mapped-near a free e s = absurd (let z : _≡_ {A = ℕ} 0 1 = cc in omega arith)
 mapped-near a (mapped n t) e s = leb-false 16 n s

@@ -10,7 +10,7 @@ use lib.Dec.{eqb, leb}
 use borrow.Author.Tests.{eqb-false}
 use Rattle.meaning.specs.Octets.{pick, all, _when_else_}
 use Rattle.meaning.specs.Wire.{withdraw, Sent}
-use Rattle.meaning.specs.Card.{Tree, Route, Use, free, mapped, awaiting, Card, withRoutes, withTrees, withLabels, treeOf, treeAt, leadsOn, mappedTo, useOf, heldFor, withBranch, withLabel}
+use Rattle.meaning.specs.Card.{Tree, Route, Use, free, mapped, awaiting, Card, withRoutes, withTrees, withLabels, treeOf, treeAt, leadsOn, mappedTo, useOf, heldFor, withBranch, withLabel, neighbourCount}
 use Rattle.meaning.specs.Events.{Outcome, taken, unless, Moved, still, followedBy, setUse, setLabel, ended, giveUp, letGo, branch, noNeighbour, swept, isOf, freedOf, routesWithout, parted, shed, shedFrom, sweptBelow, part, onLost, lost, outcome}
 use Rattle.meaning.specs.Lists.{by-test, picked}
 use Rattle.meaning_laws.specs.RoutesStay.{part-routes}
@@ -47,7 +47,7 @@ ended-not n free e = e
 ended-not n (mapped k a) e = e
 ended-not n (awaiting k a) e = e
 
-not-to : (n : ℕ) → n < 16 → (u : Use) → isOf n u ≡ false → mappedTo u ≡ n → ⊥
+not-to : (n : ℕ) → n < neighbourCount → (u : Use) → isOf n u ≡ false → mappedTo u ≡ n → ⊥
 unfolding isOf mappedTo
 not-to n near free e z = omega arith
 not-to n near (mapped k a) e z = eqb-false k n e z
@@ -108,7 +108,7 @@ module _ (n : ℕ) where
   not-to-append [] ns p q = q
   not-to-append (m ∷ ms) ns p q = (p .0, not-to-append ms ns (p .1) q)
 
-  module _ (near : n < 16) where
+  module _ (near : n < neighbourCount) where
     shed-silent : (i : ℕ) (c : Card) → NoneOf n c → NotTo (shed i c .sent)
     unfolding shed still letGo giveUp NotTo
     shed-silent i c H =
@@ -145,7 +145,7 @@ pub record Gone (n : ℕ) (o : Outcome) : Type 0 where
 unfoldable pub afterLoss : ℕ → List Step → ℕ → Card
 afterLoss base steps n = let c = history base steps .card in sweptBelow (length (c .trees)) (shedFrom (length (c .trees)) 0 (parted n c) .card)
 
-pub lost-gone : (c : Card) (n : ℕ) → n < 16 → Gone n (part c n)
+pub lost-gone : (c : Card) (n : ℕ) → n < neighbourCount → Gone n (part c n)
 unfolding part
 lost-gone c n near = record {
   sent = shedFrom (length (c .trees)) 0 (parted n c) .sent;

@@ -11,7 +11,7 @@ use lib.Dec.{eqb, ltb}
 use borrow.Author.Tests.{eqb-true, eqb-false, ne-eqb, ltb-false}
 use Rattle.meaning.specs.Octets.{pick, any, cut}
 use Rattle.meaning.specs.Wire.{rootIn}
-use Rattle.meaning.specs.Card.{Tree, Card, noRoute, withRoutes, withTrees, withLabels, withBranch, withLabel, routeOf, bare, treeOf, treeAt, isBranch, isEmpty, notHeld, leadsOn, mappedTo, heldFor, freeLabels, Route, noEntry}
+use Rattle.meaning.specs.Card.{Tree, Card, noRoute, withRoutes, withTrees, withLabels, withBranch, withLabel, routeOf, bare, treeOf, treeAt, isBranch, isEmpty, notHeld, leadsOn, mappedTo, heldFor, freeLabels, Route, noEntry, neighbourCount}
 use Rattle.meaning.specs.Events.{Moved, still, followedBy, letGo, upstream, holder, holderOf, swept, treeWithout, parted, shed, shedFrom, sweptBelow, total, inRoot, workedOut, recountedWithout, treesWithout}
 use Rattle.meaning.specs.Lists.{by-test, picked}
 use Rattle.meaning_laws.specs.RoundTrip.{AllSendable}
@@ -206,7 +206,7 @@ unfolding holder
 holder-none t = picked (λ (x : ℕ). x ≡ 17) (leadsOn 17 t) (λ _. refl) (λ _. refl)
 
 -- with the route r, a tree t held its label for h; without n it is to hold one for whom it leads on from h, if that is not n
-asked-without : (n r h : ℕ) (t s : Tree) → n < 16 → ((u : ℕ) → leadsOn u t ≡ false → leadsOn u s ≡ false) → h ≡ holder (upstream r) t
+asked-without : (n r h : ℕ) (t s : Tree) → n < neighbourCount → ((u : ℕ) → leadsOn u t ≡ false → leadsOn u s ≡ false) → h ≡ holder (upstream r) t
     → holder (upstream (pick (eqb r n) noRoute r)) s ≡ holder (pick (eqb h n) noRoute h) s
 asked-without n r h t s near less its =
     by-test (ltb r 16)
@@ -244,7 +244,7 @@ without-leads : (n : ℕ) (c : Card) (t : Tree) (u : ℕ) → leadsOn u t ≡ fa
 unfolding leadsOn notHeld treeWithout withLabel withBranch
 without-leads n c t u e = let r = neither (any isBranch (set (t .branches) u 0)) (t .leaf) e in rw (any-set-two (t .branches) n u (r .0)) (r .1)
 
-module _ (n : ℕ) (near : n < 16) (c : Card) (gs : List Given) (S : Sound c gs) (R : Ruled c) where
+module _ (n : ℕ) (near : n < neighbourCount) (c : Card) (gs : List Given) (S : Sound c gs) (R : Ruled c) where
   parted-asked : (j : ℕ) → j < length (c .trees) → holderOf (parted n c) (treeAt j (parted n c)) ≡ holder (heldFor (parted n c) (treeAt j (parted n c))) (treeAt j (parted n c))
   parted-asked j h =
       let t : Tree = treeAt j c in
@@ -294,7 +294,7 @@ module _ (n : ℕ) (c : Card) (gs : List Given) (S : Sound c gs) where
   pub loss-routes : ending .routes ≡ parted n c .routes
   loss-routes = loss-swept .routes ∙ loss-kept .routes
 
-  pub loss-ruled : n < 16 → Ruled c → Ruled ending
+  pub loss-ruled : n < neighbourCount → Ruled c → Ruled ending
   loss-ruled near R = record {
     roots = λ r. rw loss-routes (unfold parted withRoutes withTrees withLabels in le-trans (roots-fewer n r _) (rw (plain-count counted (c .routes) but r) (R .roots r)));
     full = full-of ending (loss-swept .full);

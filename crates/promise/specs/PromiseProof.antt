@@ -12,7 +12,7 @@ use lib.Dec.{eqb, leb, ltb}
 use borrow.Author.Tests.{eqb-true, eqb-false, eq-eqb, ne-eqb, ltb-true, ltb-false, lt-ltb, leb-true, not-false}
 use Rattle.meaning.specs.Octets.{pick, place, count, same}
 use Rattle.meaning.specs.Wire.{rootIn, mapping, withdraw, Message, messageIn, Sent, records, recordsF, recordsIn, elementRefusal}
-use Rattle.meaning.specs.Card.{Tree, Use, free, mapped, awaiting, Card, fresh, withNext, withBranch, withLeaf, withLabel, bare, treePlace, treeOf, treeAt, isFree, isAwaiting, mappedTo, notHeld, leadsOn, useOf, freeLabels, heldFor, routeOf, routePlace, branchesFrom, feedOf, carries, carrier, feedOfUse, lookupLabel, isBranch, nothing, lookupName}
+use Rattle.meaning.specs.Card.{Tree, Use, free, mapped, awaiting, Card, fresh, withNext, withBranch, withLeaf, withLabel, bare, treePlace, treeOf, treeAt, isFree, isAwaiting, mappedTo, notHeld, leadsOn, useOf, freeLabels, heldFor, routeOf, routePlace, branchesFrom, feedOf, carries, carrier, feedOfUse, lookupLabel, isBranch, nothing, lookupName, neighbourCount}
 use Rattle.meaning.specs.Events.{Out, Outcome, refused, taken, refuse, accept, roomShort, finish, upstream, holder, holderOf, branch, lessBranch, Event, receive, join, leave, route, outcome, event, baseOutside, start, otherLabel, lost}
 use Rattle.promise.specs.Promise.{Given, ofLabel, isAbout, isWithdrawn, Demand3, noteAll, noteTaken, leafBy, branchesBy, routeBy, feedBy, Step, Past, answerTo, sends, thenStep, thenSteps, history, Each, NoneLive, AllMapped, Leads, Promise, saidBy, branchesSaid, branchesTo, isTaken, liveAt, acceptedAt, Untouched, begun, withoutLabel}
 use Rattle.meaning.specs.Lists.{getD-same, by-test, picked, place-finds, place-count, same-eq, same-refl, getD-out, getD-all, count-some, set-replicate}
@@ -340,7 +340,7 @@ unfolding mappedTo
 to-whom n a = refl
 
 -- a label that is held is held for the root's route
-held-route : (c : Card) (t : Tree) (n : ℕ) → n < 16 → holderOf c t ≡ n → n ≡ routeOf (rootIn (t .name)) c
+held-route : (c : Card) (t : Tree) (n : ℕ) → n < neighbourCount → holderOf c t ≡ n → n ≡ routeOf (rootIn (t .name)) c
 unfolding holderOf holder upstream
 held-route c t n near =
     picked (λ (x : ℕ). x ≡ n → n ≡ routeOf (rootIn (t .name)) c) (leadsOn _ t)
@@ -384,7 +384,7 @@ module _ (p : Past) (u : Upheld p) where
       let L : Linked (λ (b : List ℕ). treeOf b (p .card) .label) (λ (k : ℕ). useOf k (p .card)) = u .sound .linked in
       let ma : isMapped a (useOf l (p .card)) ≡ true = ap (isMapped a) us ∙ mapped-own n a in
       let sent : mappedTo (useOf l (p .card)) ≡ n = ap mappedTo us ∙ to-whom n a in
-      let near : n < 16 = subst (λ (k : ℕ). k < 16) sent (mapped-near a (useOf l (p .card)) ma (L .real l)) in
+      let near : n < neighbourCount = subst (λ (k : ℕ). k < neighbourCount) sent (mapped-near a (useOf l (p .card)) ma (L .real l)) in
       let held : heldFor (p .card) (treeOf a (p .card)) ≡ n = ap (λ (k : ℕ). mappedTo (useOf k (p .card))) (L .led a l ma) ∙ sent in
       let asked : holderOf (p .card) (treeOf a (p .card)) ≡ n = sym (held-named (p .card) (p .live) (u .sound) (u .ruled) a) ∙ held in
       held-route (p .card) (treeOf a (p .card)) n near asked
@@ -397,7 +397,7 @@ module _ (p : Past) (u : Upheld p) where
   feed-is n a e =
       let bs : List ℕ = treeOf a (p .card) .branches in
       let size : length bs ≡ 16 = tree-sized a (p .card) (u .sound .tidy) in
-      let at : (i : ℕ) → i < 16 → listed (getD (set bs n 0) i 0) ≡ pick (eqb i n) [] (branchesSaid a i (p .accepted)) =
+      let at : (i : ℕ) → i < neighbourCount → listed (getD (set bs n 0) i 0) ≡ pick (eqb i n) [] (branchesSaid a i (p .accepted)) =
       λ i h. by-test (eqb i n)
       (λ k. rw (k, ← eqb-true i n k) (ap listed (getD-set-same bs i 0 0 (rw size h)) ∙ unfold listed isBranch in refl))
       (λ k. rw k (ap listed (getD-set-other bs n i 0 0 (eqb-false i n k)) ∙ sym (u .reads a .said i))) in

@@ -7,7 +7,7 @@ use lib.Dec.{eqb}
 use borrow.Author.Tests.{eqb-true, ltb-false}
 use Rattle.meaning.specs.Octets.{pick, same}
 use Rattle.meaning.specs.Wire.{Message, messageIn, mapping, withdraw, release, Sent}
-use Rattle.meaning.specs.Card.{noRoute, Tree, Card, free, withRoutes, withTrees, withLabels, routeOf, routePlace, treePlace, freeLabels, treeOf}
+use Rattle.meaning.specs.Card.{noRoute, Tree, Card, free, withRoutes, withTrees, withLabels, routeOf, routePlace, treePlace, freeLabels, treeOf, neighbourCount}
 use Rattle.meaning.specs.Events.{Outcome, refused, taken, unless, Moved, setUse, relabel, upstream, holderOf, entered, swept, enter, become, onMapping, onWithdraw, onRelease, onMessage, onOctets, onJoin, onLeave, moveAll, needAll, routesWith, routeRefusal, reRoute, onRoute, Event, receive, join, leave, route, outcome, noNeighbour, parted, part, onLost, lost, recounted}
 use Rattle.meaning.specs.Lists.{by-test, picked, same-eq, no-when}
 use Rattle.meaning_laws.specs.RoutesStay.{relabel-routes}
@@ -88,7 +88,7 @@ module _ (c : Card) (gs : List Given) (S : Sound c gs) (R : Ruled c) where
       (λ e. unfold Routed routeNow in λ q. by-test (same r q) (λ k. rw k (ap (λ (x : List ℕ). routeOf x c) (sym (same-eq r q k)) ∙ eqb-true _ _ e)) (λ k. rw k refl))
       (λ _. unless-routed c (route r via) _ _ (moved-routed r via)))
 
-  lost-routed : (n : ℕ) → n < 16 → Routed c (lost n) (part c n)
+  lost-routed : (n : ℕ) → n < neighbourCount → Routed c (lost n) (part c n)
   unfolding part Routed routeNow
   lost-routed n near q = same-route (ending n c gs S) (parted n c) q (loss-routes n c gs S) ∙ parted-route n c q (R .roots q)
 

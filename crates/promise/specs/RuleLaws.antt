@@ -11,7 +11,7 @@ use lib.Dec.{eqb, ltb}
 use borrow.Author.Tests.{eqb-true, eqb-false, ltb-true, ltb-false, leb-false}
 use Rattle.meaning.specs.Octets.{pick, place, count, any, same, put, cut}
 use Rattle.meaning.specs.Wire.{rootIn}
-use Rattle.meaning.specs.Card.{Tree, Route, free, Card, noRoute, nobody, withRoutes, withTrees, withLabel, treeLimit, routeLimit, isFor, routePlace, routeOf, bare, treePlace, treeOf, treeAt, isBranch, isEmpty, notHeld, leadsOn, mappedTo, useOf, heldFor, freeLabels, noEntry}
+use Rattle.meaning.specs.Card.{Tree, Route, free, Card, noRoute, nobody, withRoutes, withTrees, withLabel, treeLimit, routeLimit, isFor, routePlace, routeOf, bare, treePlace, treeOf, treeAt, isBranch, isEmpty, notHeld, leadsOn, mappedTo, useOf, heldFor, freeLabels, noEntry, neighbourCount}
 use Rattle.meaning.specs.Events.{upstream, holder, holderOf, swept, ofRoot, moveAll, needAll, routesWith, routesFull, total, inRoot, workedOut, entryWith}
 use Rattle.meaning_laws.specs.Standing.{standing-at, not-standing}
 use Rattle.promise.specs.Promise.{Given}
@@ -106,7 +106,7 @@ own-for : (c : Card) (r : List ℕ) (via : ℕ) → isFor r (entryWith c r via) 
 unfolding isFor entryWith
 own-for c r via = same-refl r
 
-module _ (c : Card) (gs : List Given) (S : Sound c gs) (R : Ruled c) (r : List ℕ) (via : ℕ) (near : eqb (upstream via) nobody ≡ false → upstream via < 16) (enough : needAll r (upstream via) c ≤ freeLabels c) where
+module _ (c : Card) (gs : List Given) (S : Sound c gs) (R : Ruled c) (r : List ℕ) (via : ℕ) (near : eqb (upstream via) nobody ≡ false → upstream via < neighbourCount) (enough : needAll r (upstream via) c ≤ freeLabels c) where
   abbrev pub routed : Card
   routed = withRoutes (routesWith c r via) (moveAll r (upstream via) c .card)
 

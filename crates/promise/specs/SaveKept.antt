@@ -11,7 +11,7 @@ use lib.Dec.{eqb, ltb}
 use borrow.Author.Tests.{eqb-false, eq-eqb, le-leb, lt-ltb, ltb-false, eqb-true}
 use Rattle.meaning.specs.Octets.{same, all, pick}
 use Rattle.meaning.specs.Wire.{mapping, withdraw, messageIn, elementRefusal}
-use Rattle.meaning.specs.Card.{Tree, Use, free, mapped, awaiting, Card, fresh, withNext, bare, treeOf, treeAt, isBranch, isEmpty, useOf, withLast, treePlace, heldFor, freeLabels, routeOf, routePlace}
+use Rattle.meaning.specs.Card.{Tree, Use, free, mapped, awaiting, Card, fresh, withNext, bare, treeOf, treeAt, isBranch, isEmpty, useOf, withLast, treePlace, heldFor, freeLabels, routeOf, routePlace, neighbourCount}
 use Rattle.meaning.specs.Events.{Out, refuse, accept, Event, receive, join, leave, route, baseOutside, start, holderOf, lost}
 use Rattle.meaning.specs.Lists.{by-test, picked, same-refl}
 use Rattle.meaning_save.specs.Save.{Form, old, new, isName, isBranchLabel, isTree, isUse, isCarried, isMappedFor, carriesOwn, keepsRules, saved, restore, fitsSave, settled, carriedBy, lastRight, ruled, tableIn, isSave, Moved, move}
@@ -70,9 +70,9 @@ place-good l h =
     le-zero : (k : ℕ) → k ≤ 0 → k ≡ 0
     le-zero k z = omega arith
 
-is-tree : (t : Tree) → elementRefusal (t .name) ≡ 0 → length (t .branches) ≡ 16 → all isBranchLabel (t .branches) ≡ true → isEmpty t ≡ false → isTree t ≡ true
+is-tree : (t : Tree) → elementRefusal (t .name) ≡ 0 → length (t .branches) ≡ neighbourCount → all isBranchLabel (t .branches) ≡ true → isEmpty t ≡ false → isTree t ≡ true
 unfolding isTree isName
-is-tree t ok sixteen good full = rw (eq-eqb (elementRefusal (t .name)) 0 ok, eq-eqb (length (t .branches)) 16 sixteen, good, full) refl
+is-tree t ok sixteen good full = rw (eq-eqb (elementRefusal (t .name)) 0 ok, eq-eqb (length (t .branches)) neighbourCount sixteen, good, full) refl
 
 -- ---- uses: each is a live label's
 
@@ -84,8 +84,8 @@ each-with P l (g ∷ gs) h = picked (Each P) (ofLabel l g) (λ _. unfold Each in
 is-use : (l : ℕ) (u : Use) → Each Told (givens l u) → isUse u ≡ true
 unfolding isUse isName givens Each Told
 is-use l free h = refl
-is-use l (mapped n a) h = rw (lt-ltb n 16 (h .0 .0), eq-eqb (elementRefusal a) 0 (h .0 .1)) refl
-is-use l (awaiting n a) h = rw (lt-ltb n 16 (h .0 .0), eq-eqb (elementRefusal a) 0 (h .0 .1)) refl
+is-use l (mapped n a) h = rw (lt-ltb n neighbourCount (h .0 .0), eq-eqb (elementRefusal a) 0 (h .0 .1)) refl
+is-use l (awaiting n a) h = rw (lt-ltb n neighbourCount (h .0 .0), eq-eqb (elementRefusal a) 0 (h .0 .1)) refl
 
 mapped-same : (a : List ℕ) (u : Use) → isMappedFor a u ≡ isMapped a u
 unfolding isMappedFor isMapped
@@ -109,7 +109,7 @@ module _ (p : Past) (u : Upheld p) (w : Writable p) where
   tree-good : (i : ℕ) → i < length (p .card .trees) → isTree (treeAt i (p .card)) ≡ true
   tree-good i h =
       let t : Tree = treeAt i (p .card) in
-      let proper : (length (t .branches) ≡ 16) × (elementRefusal (t .name) ≡ 0) = unfold Proper in at-proper (p .card) i (u .sound .tidy) h in
+      let proper : (length (t .branches) ≡ neighbourCount) × (elementRefusal (t .name) ≡ 0) = unfold Proper in at-proper (p .card) i (u .sound .tidy) h in
       let its : (n : ℕ) → branchesSaid (t .name) n (p .accepted) ≡ listed (getD (t .branches) n 0) = λ n. u .reads (t .name) .said n ∙ ap (λ (x : Tree). listed (getD (x .branches) n 0)) (at-named (p .card) (u .sound .tidy) i h) in
       is-tree t (proper .1) (proper .0) (all-of isBranchLabel (t .branches) 0 (λ n _. place-good _ (rw (its n) at (said-good (t .name) n (p .accepted) (w .passed))))) (u .ruled .full i h)
 

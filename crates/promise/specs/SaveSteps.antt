@@ -9,7 +9,7 @@ use lib.Dec.{eqb}
 use borrow.Author.Tests.{eqb-true, eqb-false, le-leb, ltb-false}
 use Rattle.meaning.specs.Octets.{put, cut, all}
 use Rattle.meaning.specs.Wire.{mapping, withdraw, release, Message, messageIn, elementRefusal, Sent, records, nextId, idsAfter}
-use Rattle.meaning.specs.Card.{noRoute, Route, Tree, free, Card, withNext, withRoutes, withTrees, withLabels, treePlace, routeOf, routePlace, treeOf}
+use Rattle.meaning.specs.Card.{noRoute, Route, Tree, free, Card, withNext, withRoutes, withTrees, withLabels, treePlace, routeOf, routePlace, treeOf, neighbourCount}
 use Rattle.meaning.specs.Events.{Out, Outcome, refused, taken, unless, refuse, accept, roomShort, finish, Moved, setUse, relabel, holderOf, entered, swept, enter, become, onMapping, onWithdraw, onRelease, onMessage, noNeighbour, onOctets, onJoin, onLeave, routesWith, notRoute, notRoot, reRoute, onRoute, Event, receive, join, leave, route, outcome, event, routesWithout, parted, part, onLost, lost, recounted, entryWith}
 use Rattle.meaning.specs.Lists.{by-test, picked, no-when}
 use Rattle.meaning_laws.specs.RoundTrip.{Heard, heard, Sendable, AllSendable}
@@ -143,7 +143,7 @@ module _ (c : Card) (good : all isRoute (c .routes) ≡ true) where
 -- ---- live labels: each was told to a neighbour, for a name
 
 unfoldable pub Told : Given → Type 0
-Told g = (g .to < 16) × (elementRefusal (g .tree) ≡ 0)
+Told g = (g .to < neighbourCount) × (elementRefusal (g .tree) ≡ 0)
 
 told-mark : (n : ℕ) (m : Message) (gs : List Given) → Each Told gs → Each Told (mark n m gs)
 unfolding mark Each Told

@@ -10,7 +10,7 @@ use lib.Dec.{eqb, ltb}
 use borrow.Author.Tests.{ltb-true}
 use Rattle.meaning.specs.Octets.{two}
 use Rattle.meaning.specs.Wire.{Sent, recordOf, nextId, records, recordLimit}
-use Rattle.meaning.specs.Card.{Card, nobody, treeLimit, routeLimit, labelCount, treeAt, routeOf, sentLimit, leadsOn, heldFor}
+use Rattle.meaning.specs.Card.{Card, nobody, treeLimit, routeLimit, labelCount, treeAt, routeOf, sentLimit, leadsOn, heldFor, neighbourCount}
 use Rattle.meaning.specs.Events.{Outcome, refused, taken, unless, refuse, accept, roomShort, finish, Moved, still, followedBy, giveUp, give, letGo, takeUp, moveLabel, upstream, holder, ofRoot, moveOne, moveFrom, moveAll, reRoute, onRoute, parted, shed, shedFrom, part, onLost, noNeighbour, Event, route, lost, outcome, event}
 use Rattle.meaning.specs.Lists.{by-test, picked}
 use Rattle.meaning_laws.specs.RoundTrip.{AllSendable, Sendable, message-length, name-fits}
@@ -132,11 +132,11 @@ part-room c gs S R room n h =
     (λ t. absurd (let short = ltb-true room (length (records (c .next) (m .sent))) (unfold roomShort in t) in omega arith))
     (λ t. rw t refl)
 
-pub loss-taken : (c : Card) (gs : List Given) → Sound c gs → Ruled c → (room n : ℕ) → n < 16 → treeLimit * recordLimit ≤ room → event room c (lost n) .answer ≡ 0
+pub loss-taken : (c : Card) (gs : List Given) → Sound c gs → Ruled c → (room n : ℕ) → n < neighbourCount → treeLimit * recordLimit ≤ room → event room c (lost n) .answer ≡ 0
 unfolding event noNeighbour
 loss-taken c gs S R room n near h = rw (lost-taken c n (unfold noNeighbour in le-ltb n near)) (part-room c gs S R room n h)
   where
-    le-ltb : (n : ℕ) → n < 16 → ltb 15 n ≡ false
+    le-ltb : (n : ℕ) → n < neighbourCount → ltb 15 n ≡ false
     le-ltb n k = by-test (ltb 15 n) (λ e. absurd (let z = ltb-true 15 n e in omega arith)) (λ e. e)
 
 -- the octets of one route order, of any table that is sound and keeps the rules

@@ -11,7 +11,7 @@ use Rattle.meaning.specs.Octets.{pick}
 use Rattle.meaning.specs.Lists.{by-test, picked, append-nil}
 use Rattle.meaning_laws.specs.RoundTrip.{both}
 use Rattle.meaning.specs.Wire.{withdraw, release, Message, messageIn, Sent}
-use Rattle.meaning.specs.Card.{Card, treeOf, Branch, carrier, lookupLabel, lookupName}
+use Rattle.meaning.specs.Card.{Card, treeOf, Branch, carrier, lookupLabel, lookupName, neighbourCount}
 use Rattle.meaning.specs.Events.{Outcome, outcome, Event, receive, join, leave, route, lost, branch}
 use Rattle.promise.specs.Promise.{Given, Step, Past, answerTo, sends, thenStep}
 use Rattle.promise.specs.PromiseProof.{messagesOf, Upheld, sends-is, then-upheld, started}
@@ -503,7 +503,7 @@ gone-gives : (n l : ℕ) (o : Outcome) → Gone n o → NotGiven l (messagesOf o
 unfolding messagesOf
 gone-gives n l o G = rw (G .so) (only-withdraws n l (G .sent) (G .silent))
 
-loss-gives : (p : Past) → Upheld p → (n : ℕ) → n < 16 → (l : ℕ) → NotGiven l (sends (p .card) (losing n))
+loss-gives : (p : Past) → Upheld p → (n : ℕ) → n < neighbourCount → (l : ℕ) → NotGiven l (sends (p .card) (losing n))
 loss-gives p u n near l =
     rw (sends-is p (losing n) u)
     (picked (NotGiven l) (eqb (answerTo (p .card) (losing n) .answer) 0) (λ _. gone-gives n l (outcome (p .card) (lost n)) (rw (lost-taken (p .card) n (far-off n near)) (lost-gone (p .card) n near))) (λ _. unfold NotGiven in tt))

@@ -8,7 +8,7 @@ use lib.ListN.{take, drop, length}
 use lib.Dec.{eqb}
 use Rattle.meaning.specs.Octets.{pick, count, twoAt}
 use Rattle.meaning.specs.Wire.{mapping}
-use Rattle.meaning.specs.Card.{mapped, treeOf, useOf}
+use Rattle.meaning.specs.Card.{mapped, treeOf, useOf, neighbourCount}
 use Rattle.meaning.specs.Events.{Event, receive, join, leave, route, lost, branch}
 use Rattle.meaning.specs.Notice.{notice}
 use Rattle.promise.specs.Promise.{isAbout, Step, Past, answerTo, isTaken, thenStep, begun}
@@ -162,4 +162,4 @@ flipped w = record { upper = w .lower; lower = w .upper }
 
 -- REQUEST 14, proved in `LineProof`: at every moment, for any two bases, any numbers by which the boxes know each other, and any acts of both; the same from the other end
 abbrev pub TwoBoxes : Type 0
-TwoBoxes = (b p d q : ℕ) → p < 16 → q < 16 → (ts : List Turn) → OnOneLine (turns (laid b p d q) ts) × OnOneLine (flipped (turns (laid b p d q) ts))
+TwoBoxes = (b p d q : ℕ) → p < neighbourCount → q < neighbourCount → (ts : List Turn) → OnOneLine (turns (laid b p d q) ts) × OnOneLine (flipped (turns (laid b p d q) ts))

@@ -10,7 +10,7 @@ use native.Mathlib.Omega.{arith}
 use Rattle.meaning.specs.Octets.{count}
 use Rattle.meaning.specs.Lists.{by-test, append-nil, same-refl}
 use Rattle.meaning.specs.Wire.{mapping, Message, recordsIn}
-use Rattle.meaning.specs.Card.{Tree, Use, free, mapped, awaiting, isBranch, useOf}
+use Rattle.meaning.specs.Card.{Tree, Use, free, mapped, awaiting, isBranch, useOf, neighbourCount}
 use Rattle.meaning.specs.Events.{branch}
 use Rattle.promise.specs.Promise.{Given, isAbout, branchesSaid, begun, Step, answerTo, sends}
 use Rattle.promise.specs.Deeds.{thenDeed}
@@ -25,7 +25,7 @@ use Rattle.promise_line.specs.Steps.{from, give-else, give-hears, use-el
 
 -- x uses the labels of y: every label is in one of the stages of its life
 pub record Bound (x y : Box) : Type 0 where
-  pub near : x .peer < 16
+  pub near : x .peer < neighbourCount
   pub user : Upheld (x .past)
   pub giver : Upheld (y .past)
   pub lives : (l : ℕ) → (l ≡ 0 → ⊥) → Life l (y .peer) (from (x .peer) (x .past)) (x .refused) (mine (y .peer) l (y .past .live)) (kin (isUp l) (x .inbox)) (kin (isDown l) (y .inbox))
@@ -153,7 +153,7 @@ none-listed : (b p : ℕ) (x : List ℕ) → from p (begun b) x ≡ 0
 unfolding branch
 none-listed b p x = listed-none _ (sym (started b .reads x .said p) ∙ unfold branchesSaid in refl)
 
-pub ready-bound : (b p d q : ℕ) → p < 16 → Bound (ready b p) (ready d q)
+pub ready-bound : (b p d q : ℕ) → p < neighbourCount → Bound (ready b p) (ready d q)
 unfolding ready
 ready-bound b p d q h = record { near = h; user = started b; giver = started d; lives = λ l nz. unfold mine kin in idle (λ x e. nz (sym e ∙ none-listed b p x)) }
 

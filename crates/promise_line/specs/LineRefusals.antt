@@ -13,7 +13,7 @@ use Rattle.meaning.specs.Octets.{pick, two, four, twoAt, _when_else_}
 use Rattle.meaning.specs.Lists.{by-test, picked, same-refl}
 use Rattle.meaning.specs.Wire.{mapping, withdraw, release, isKind, Message, messageIn, messageRefusal, Sent, octetsOf, recordOf, nextId, records}
 use Rattle.meaning_laws.specs.RoundTrip.{AllSendable, Sendable, length-field, message-taken, heard}
-use Rattle.meaning.specs.Card.{Use, free, mapped, awaiting, Card, isAwaiting, useOf}
+use Rattle.meaning.specs.Card.{Use, free, mapped, awaiting, Card, isAwaiting, useOf, neighbourCount}
 use Rattle.meaning.specs.Events.{Out, unless, taken, refuse, accept, roomShort, finish, notAwaited, onRelease, onWithdraw, become, enter, onMessage, noNeighbour, onOctets, receive, outcome, event}
 use Rattle.meaning.specs.Notice.{noticeDue, noticeRecord, notice}
 use Rattle.meaning_laws.specs.NoticeLaws.{spread, record-spread}
@@ -175,7 +175,7 @@ its-kind : (k : ℕ) → k ≡ release → isKind k ≡ true
 unfolding isKind
 its-kind k e = rw e refl
 
-far-off : (n : ℕ) → n < 16 → noNeighbour n ≡ false
+far-off : (n : ℕ) → n < neighbourCount → noNeighbour n ≡ false
 unfolding noNeighbour
 far-off n k = by-test (ltb 15 n) (λ e. absurd (let z = ltb-true 15 n e in omega arith)) (λ e. e)
 
@@ -187,7 +187,7 @@ release-answer : (room : ℕ) (c : Card) (q : ℕ) (s : List ℕ) → noNeighbou
 unfolding event outcome onOctets onMessage onRelease notAwaited unless _when_else_
 release-answer room c q s near ok k w = rw (near, ok, ne-eqb (messageIn s .kind) mapping (λ z. omega arith), ne-eqb (messageIn s .kind) withdraw (λ z. omega arith), eq-eqb (messageIn s .kind) release k, w) (silent-answer room c _)
 
-module _ (x y : Box) (B : Bound x y) (near : y .peer < 16) (room : ℕ) (s : List ℕ) (rest : List (List ℕ)) (e : y .inbox ≡ s ∷ rest) (h : Plain s) (k : messageIn s .kind ≡ release) where
+module _ (x y : Box) (B : Bound x y) (near : y .peer < neighbourCount) (room : ℕ) (s : List ℕ) (rest : List (List ℕ)) (e : y .inbox ≡ s ∷ rest) (h : Plain s) (k : messageIn s .kind ≡ release) where
   taken-release : answerTo (y .past .card) (hearing room (y .peer) s) .answer ≡ 0
   unfolding answerTo
   taken-release =
@@ -214,7 +214,7 @@ withdraw-kind : (k : ℕ) → k ≡ withdraw → isKind k ≡ true
 unfolding isKind
 withdraw-kind k e = rw e refl
 
-refused-withdraw : (y : Box) → Upheld (y .past) → y .peer < 16 → (room : ℕ) (s : List ℕ) → Plain s → messageIn s .kind ≡ withdraw
+refused-withdraw : (y : Box) → Upheld (y .past) → y .peer < neighbourCount → (room : ℕ) (s : List ℕ) → Plain s → messageIn s .kind ≡ withdraw
     → (answerTo (y .past .card) (hearing room (y .peer) s) .answer ≡ 0 → ⊥) → answerTo (y .past .card) (hearing room (y .peer) s) .answer ≡ 16
 unfolding answerTo
 refused-withdraw y u near room s h k = withdraw-answer room (y .past) u (y .peer) s (far-off (y .peer) near) (plain-ok s h (withdraw-kind (messageIn s .kind) k)) k
@@ -231,7 +231,7 @@ ShortOfRoomAlone y = (room : ℕ) (s : List ℕ) (rest : List (List ℕ)) → y 
     → (answerTo (y .past .card) (hearing room (y .peer) s) .answer ≡ 0 → ⊥) → answerTo (y .past .card) (hearing room (y .peer) s) .answer ≡ 16
 
 -- at both ends
-pub withdraws-refused : (b p d q : ℕ) → p < 16 → q < 16 → (ts : List Turn) → ShortOfRoomAlone (turns (laid b p d q) ts .lower) × ShortOfRoomAlone (turns (laid b p d q) ts .upper)
+pub withdraws-refused : (b p d q : ℕ) → p < neighbourCount → q < neighbourCount → (ts : List Turn) → ShortOfRoomAlone (turns (laid b p d q) ts .lower) × ShortOfRoomAlone (turns (laid b p d q) ts .upper)
 unfolding laid
 withdraws-refused b p d q near far ts =
     let w : World = turns (laid b p d q) ts in
@@ -242,7 +242,7 @@ withdraws-refused b p d q near far ts =
       (λ room s rest e k. refused-withdraw (w .upper) (B .user) (B .near) room s (unfold AllPlain in subst AllPlain e (h .0) .0) k),
     )
 
-pub releases-taken : (b p d q : ℕ) → p < 16 → q < 16 → (ts : List Turn) → TakesReleases (turns (laid b p d q) ts .lower) × TakesReleases (turns (laid b p d q) ts .upper)
+pub releases-taken : (b p d q : ℕ) → p < neighbourCount → q < neighbourCount → (ts : List Turn) → TakesReleases (turns (laid b p d q) ts .lower) × TakesReleases (turns (laid b p d q) ts .upper)
 unfolding laid
 releases-taken b p d q near far ts =
     let w : World = turns (laid b p d q) ts in

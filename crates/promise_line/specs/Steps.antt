@@ -12,7 +12,7 @@ use borrow.Author.Tests.{eqb-true, eqb-false, eq-eqb}
 use Rattle.meaning.specs.Octets.{same}
 use Rattle.meaning.specs.Lists.{by-test, picked, append-nil}
 use Rattle.meaning.specs.Wire.{mapping, withdraw, release, Message, messageIn, Sent, records}
-use Rattle.meaning.specs.Card.{Tree, Card, withNext, withBranch, withLeaf, withLabel, treeOf, treePlace}
+use Rattle.meaning.specs.Card.{Tree, Card, withNext, withBranch, withLeaf, withLabel, treeOf, treePlace, neighbourCount}
 use Rattle.meaning.specs.Events.{Outcome, refused, taken, refuse, accept, roomShort, finish, branch, otherLabel, Event, receive, join, leave, route, lost, outcome, event}
 use Rattle.promise.specs.Promise.{Given, noteAll, noteTaken, Step, Past, answerTo, sends, isTaken, liveAt, thenStep}
 use Rattle.promise.specs.CardLaws.{shape, tree-sized}
@@ -215,7 +215,7 @@ module _ (l q p : ℕ) (b : List ℕ → ℕ) (r : Bool) (gs : List Given) (s : 
       (λ e. life-missed (rw e at life))
       (λ e. life-eq (λ _ k. k) (λ _ _ k. k) (λ z. absurd (let z′ : _≡_ {A = ℕ} 0 1 = cc in omega arith)) (rw e at life))
 
-module _ (x : Past) (u : Upheld x) (l q p : ℕ) (near : p < 16) (nz : l ≡ 0 → ⊥) (r : Bool) (gs : List Given) (room : ℕ) (s : List ℕ) (rest : List (List ℕ)) (downs : List Message) where
+module _ (x : Past) (u : Upheld x) (l q p : ℕ) (near : p < neighbourCount) (nz : l ≡ 0 → ⊥) (r : Bool) (gs : List Given) (room : ℕ) (s : List ℕ) (rest : List (List ℕ)) (downs : List Message) where
   heard-free : isTaken (x .card) (hearing room p s) ≡ true → (messageIn s .label ≡ l → ⊥) → messageIn s .kind ≡ mapping → from p x (messageIn s .name) ≡ l → ⊥
   unfolding Admits
   heard-free e d k z = other-label (from p x (messageIn s .name)) (messageIn s .label) l (unfold otherLabel in admits x u (hearing room p s) e .2 k) nz d z

@@ -7,7 +7,7 @@ use mathlib.Core.Bool.{true}
 use mathlib.Core.List.{List}
 use borrow.Author.Tests.{eq-eqb, lt-ltb}
 use Rattle.meaning.specs.Wire.{rootIn, elementRefusal}
-use Rattle.meaning.specs.Card.{Tree, mapped, Card, nobody, treeOf, routeOf, leadsOn, mappedTo, useOf, heldFor, feedOf, feedOfUse, lookupLabel, lookupName}
+use Rattle.meaning.specs.Card.{Tree, mapped, Card, nobody, treeOf, routeOf, leadsOn, mappedTo, useOf, heldFor, feedOf, feedOfUse, lookupLabel, lookupName, neighbourCount}
 use Rattle.meaning.specs.Events.{upstream, holder, holderOf}
 use Rattle.promise.specs.Promise.{Past}
 use Rattle.promise.specs.LiveLaws.{mapped-eq, Linked}
@@ -16,9 +16,9 @@ use Rattle.promise.specs.RuleLaws.{held-named}
 use Rattle.promise.specs.PromiseProof.{Upheld, carrier-is, sender-is}
 
 -- for whom a label is to be held, by the route
-route-asked : (c : Card) (t : Tree) (v : ℕ) → v < 16 → routeOf (rootIn (t .name)) c ≡ v → leadsOn v t ≡ true → holderOf c t ≡ v
+route-asked : (c : Card) (t : Tree) (v : ℕ) → v < neighbourCount → routeOf (rootIn (t .name)) c ≡ v → leadsOn v t ≡ true → holderOf c t ≡ v
 unfolding holderOf holder upstream
-route-asked c t v near r e = rw r (rw (lt-ltb v 16 near) (rw e refl))
+route-asked c t v near r e = rw r (rw (lt-ltb v neighbourCount near) (rw e refl))
 
 module _ (p : Past) (u : Upheld p) (a : List ℕ) where
   abbrev c : Card
@@ -40,7 +40,7 @@ module _ (p : Past) (u : Upheld p) (a : List ℕ) where
   mapped-lookup l n e = rw e (ap (feedOf n) (carrier-is p u l n a e) ∙ ap (λ (x : ℕ). feedOf x t) (sym (mapped-route l n e)))
 
   -- a tree that leads on, and whose route is a neighbour, has a label that is mapped to it
-  pub leads-mapped : v < 16 → leadsOn v t ≡ true → useOf (t .label) c ≡ mapped v a
+  pub leads-mapped : v < neighbourCount → leadsOn v t ≡ true → useOf (t .label) c ≡ mapped v a
   unfolding heldFor mappedTo
   leads-mapped near e =
       let L : Linked (λ (b : List ℕ). treeOf b c .label) (λ (k : ℕ). useOf k c) = u .sound .linked in

@@ -11,7 +11,7 @@ use lib.Dec.{eqb, ltb}
 use borrow.Author.Tests.{eq-eqb, ltb-true}
 use Rattle.meaning.specs.Lists.{by-test}
 use Rattle.meaning.specs.Wire.{records}
-use Rattle.meaning.specs.Card.{Use, free, mapped, awaiting, Card, withNext, withBranch, treeOf, useOf}
+use Rattle.meaning.specs.Card.{Use, free, mapped, awaiting, Card, withNext, withBranch, treeOf, useOf, neighbourCount}
 use Rattle.meaning.specs.Events.{Outcome, refuse, accept, roomShort, finish, branch, isOf, noNeighbour, lost, outcome, event}
 use Rattle.promise.specs.Promise.{Past, answerTo, isTaken, thenStep}
 use Rattle.promise.specs.LiveLaws.{givens, Books}
@@ -40,7 +40,7 @@ none-mine n l free e = refl
 none-mine n l (mapped k a) e = rw (eq-eqb l l refl, e) refl
 none-mine n l (awaiting k a) e = rw (eq-eqb l l refl, e) refl
 
-pub far-off : (n : ℕ) → n < 16 → noNeighbour n ≡ false
+pub far-off : (n : ℕ) → n < neighbourCount → noNeighbour n ≡ false
 unfolding noNeighbour
 far-off n k = by-test (ltb 15 n) (λ e. absurd (let z = ltb-true 15 n e in omega arith)) (λ e. e)
 
@@ -49,7 +49,7 @@ set-none [] k = refl
 set-none (b ∷ bs) zero = refl
 set-none (b ∷ bs) (suc k) = set-none bs k
 
-module _ (p : Past) (u : Upheld p) (n : ℕ) (near : n < 16) where
+module _ (p : Past) (u : Upheld p) (n : ℕ) (near : n < neighbourCount) where
   -- it is taken
   pub loses : isTaken (p .card) (losing n) ≡ true
   unfolding isTaken answerTo
@@ -73,7 +73,7 @@ module _ (p : Past) (u : Upheld p) (n : ℕ) (near : n < 16) where
 abbrev pub anewAt : Past → ℕ → Box
 anewAt p n = record { past = thenStep p (losing n); peer = n; inbox = []; refused = false }
 
-pub cut-bound : (x y : Past) → Upheld x → Upheld y → (p q : ℕ) → p < 16 → q < 16 → Bound (anewAt x p) (anewAt y q)
+pub cut-bound : (x y : Past) → Upheld x → Upheld y → (p q : ℕ) → p < neighbourCount → q < neighbourCount → Bound (anewAt x p) (anewAt y q)
 cut-bound x y u v p q near far = record {
   near = near;
   user = then-upheld x (losing p) u;

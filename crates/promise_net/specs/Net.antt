@@ -7,7 +7,7 @@ use mathlib.Core.List.{List, [], _∷_, _++_}
 use lib.Dec.{eqb}
 use Rattle.meaning.specs.Octets.{pick, count}
 use Rattle.meaning.specs.Wire.{rootIn, recordLimit, elementRefusal}
-use Rattle.meaning.specs.Card.{treeLimit, treeOf, routeOf, Branch, Feed, lookupLabel, lookupName}
+use Rattle.meaning.specs.Card.{treeLimit, treeOf, routeOf, Branch, Feed, lookupLabel, lookupName, neighbourCount}
 use Rattle.meaning.specs.Events.{Event, receive, join, leave, route, lost}
 use Rattle.promise.specs.Promise.{Step, Past, thenStep, begun}
 use Rattle.promise_line.specs.Line.{Box, hearing, sentBy, refuses}
@@ -26,7 +26,7 @@ Wires = ℕ → ℕ → Far
 pub record Wired (far : Wires) : Type 0 where
   -- a line has two ends
   pub back : (i p j q : ℕ) → far i p ≡ box j q → far j q ≡ box i p
-  pub near : (i p j q : ℕ) → far i p ≡ box j q → p < 16
+  pub near : (i p j q : ℕ) → far i p ≡ box j q → p < neighbourCount
   -- no box is joined to itself
   pub apart : (i p j q : ℕ) → far i p ≡ box j q → i ≡ j → ⊥
 

@@ -10,7 +10,7 @@ use lib.ListN.{getD, length}
 use lib.Dec.{eqb, leb, ltb}
 use borrow.Author.Tests.{eqb-true, eqb-false, eq-eqb, ltb-true, ltb-false, leb-true, not-true}
 use Rattle.meaning.specs.Octets.{pick, place, count, any, all, same}
-use Rattle.meaning.specs.Card.{noEntry, Route, Card, noRoute, withNext, isFor, routePlace, routeOf, freeLabels, sentLimit}
+use Rattle.meaning.specs.Card.{noEntry, Route, Card, noRoute, withNext, isFor, routePlace, routeOf, freeLabels, sentLimit, neighbourCount}
 use Rattle.meaning.specs.Events.{Out, accept, needAll, notRoot, route, event}
 use Rattle.meaning.specs.Lists.{by-test, picked, place-finds, place-count, place-only, getD-out, getD-same, same-eq, same-refl}
 use Rattle.meaning_laws.specs.RoundTrip.{both}
@@ -29,7 +29,7 @@ use Rattle.promise_plan.specs.OneOrder.{order-taken, after-sound, after-
 pub record Movable (c : Card) (n : ℕ) (m : Move) : Type 0 where
   pub from : routeOf (m .root) c ≡ n
   pub right : notRoot (m .root) ≡ false
-  pub near : m .via < 16
+  pub near : m .via < neighbourCount
   pub other : m .via ≡ n → ⊥
 
 unfoldable pub AllMovable : Card → ℕ → List Move → Type 0
@@ -129,7 +129,7 @@ module _ (room n : ℕ) (c : Card) (m : Move) (ms : List Move) (written : List �
     routes = λ q. unfold routeAfter in ap (routeOf q) then-carried ∙ rest .routes q ∙ ap (routeAfter q ms) (then-routes q);
   }
 
-done : (room n : ℕ) → sentLimit ≤ room → n < 16 → (ms : List Move) (c : Card) (gs : List Given) → Sound c gs → Ruled c → AllMovable c n ms → Once ms → needList c ms ≤ freeLabels c → Done room n c ms
+done : (room n : ℕ) → sentLimit ≤ room → n < neighbourCount → (ms : List Move) (c : Card) (gs : List Given) → Sound c gs → Ruled c → AllMovable c n ms → Once ms → needList c ms ≤ freeLabels c → Done room n c ms
 unfolding AllMovable needList
 done room n big low [] c gs S R p o enough = none-done room n c R
 done room n big low (m ∷ ms) c gs S R p o enough =
@@ -207,7 +207,7 @@ accepted c n ps ms h =
     record { moves = b .0; lists = b .1; enough = leb-true _ _ (a .1) }
 
 pub record May (n : ℕ) (ps : List Allowed) (r : List ℕ) (v : ℕ) : Type 0 where
-  pub near : v < 16
+  pub near : v < neighbourCount
   pub other : v ≡ n → ⊥
   pub permitted : permits ps r v ≡ true
 
@@ -215,14 +215,14 @@ pub may : (n : ℕ) (ps : List Allowed) (r : List ℕ) (v : ℕ) → mayHave n p
 unfolding mayHave
 may n ps r v h =
     let a = both _ (permits ps r v) h in
-    let b = both (ltb v 16) (not (eqb v n)) (a .0) in
+    let b = both (ltb v neighbourCount) (not (eqb v n)) (a .0) in
     record { near = ltb-true _ _ (b .0); other = eqb-false v n (not-true _ (b .1)); permitted = a .1 }
 
 pub move-from : (c : Card) (n : ℕ) (ps : List Allowed) (m : Move) → isMove c n ps m ≡ true → (routeOf (m .root) c ≡ n) × (mayHave n ps (m .root) (m .via) ≡ true)
 unfolding isMove
 move-from c n ps m h = let a = both (eqb (routeOf (m .root) c) n) (mayHave n ps (m .root) (m .via)) h in (eqb-true _ _ (a .0), a .1)
 
-module _ (c : Card) (n : ℕ) (low : n < 16) (good : all isRoute (c .routes) ≡ true) (ps : List Allowed) (ms : List Move) where
+module _ (c : Card) (n : ℕ) (low : n < neighbourCount) (good : all isRoute (c .routes) ≡ true) (ps : List Allowed) (ms : List Move) where
   -- every root that goes by n is listed once
   pub each-once : Accepted c n ps ms → (q : List ℕ) → routeOf q c ≡ n → count (moveFor q) ms ≡ 1
   each-once A q e =

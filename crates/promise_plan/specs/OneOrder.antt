@@ -11,7 +11,7 @@ use lib.Dec.{eqb}
 use borrow.Author.Tests.{ne-eqb, lt-ltb, le-ltb}
 use Rattle.meaning.specs.Octets.{pick, same, _when_else_}
 use Rattle.meaning.specs.Wire.{rootIn, Sent, records, idsAfter}
-use Rattle.meaning.specs.Card.{Tree, Card, noRoute, withNext, withRoutes, treePlace, treeOf, treeAt, useOf, heldFor, freeLabels, routeOf, routePlace, sentLimit}
+use Rattle.meaning.specs.Card.{Tree, Card, noRoute, withNext, withRoutes, treePlace, treeOf, treeAt, useOf, heldFor, freeLabels, routeOf, routePlace, sentLimit, neighbourCount}
 use Rattle.meaning_laws.specs.Counts.{counted-twelve, counted-same}
 use Rattle.meaning.specs.Events.{runsOut, Out, Outcome, taken, unless, accept, roomShort, finish, Moved, still, followedBy, needMove, labelsShort, upstream, holderOf, ofRoot, moveOne, moveFrom, moveAll, needOne, sumFrom, needAll, routesWith, notRoute, notRoot, routesFull, routeRefusal, reRoute, onRoute, route, outcome, event}
 use Rattle.promise.specs.Promise.{Given, noteAll, noteTaken}
@@ -38,7 +38,7 @@ need-same q w c d size at = rw size (sum-same (needOne q w) (length (c .trees)) 
 
 -- ---- what a move spends
 
-module _ (r : List ℕ) (u : ℕ) (near : eqb u noRoute ≡ false → u < 16) where
+module _ (r : List ℕ) (u : ℕ) (near : eqb u noRoute ≡ false → u < neighbourCount) where
   from-free : (n i : ℕ) (c : Card) (gs : List Given) → Sound c gs → i + n ≤ length (c .trees) → sumFrom (needOne r u) n i c ≤ freeLabels c
       → freeLabels (moveFrom r u n i c .card) + sumFrom (needOne r u) n i c ≡ freeLabels c
   unfolding moveFrom sumFrom followedBy still
@@ -59,9 +59,9 @@ module _ (r : List ℕ) (u : ℕ) (near : eqb u noRoute ≡ false → u < 16) wh
 
 -- ---- the order
 
-upstream-is : (via : ℕ) → via < 16 → upstream via ≡ via
+upstream-is : (via : ℕ) → via < neighbourCount → upstream via ≡ via
 unfolding upstream
-upstream-is via h = rw (lt-ltb via 16 h) refl
+upstream-is via h = rw (lt-ltb via neighbourCount h) refl
 
 accepted-records : (room : ℕ) (c after : Card) (ms : List Sent) → length (records (c .next) ms) ≤ room → finish room c (taken ms after) ≡ accept (records (c .next) ms) (idsAfter (c .next) ms) after
 unfolding finish roomShort
@@ -76,14 +76,14 @@ unfolding Keeps noteTaken
 taken-keeps c gs r via ms after S e = subst (λ (o : Outcome). Keeps c gs (became (route r via)) (Apart (route r via) c) o) e (unfold noteTaken in event-keeps c gs S (route r via))
 
 module _ (c : Card) (gs : List Given) (S : Sound c gs) (R : Ruled c) (r : List ℕ) (n via : ℕ)
-    (from : routeOf r c ≡ n) (low : n < 16) (right : notRoot r ≡ false) (near : via < 16) (other : via ≡ n → ⊥) (enough : needAll r via c ≤ freeLabels c) where
+    (from : routeOf r c ≡ n) (low : n < neighbourCount) (right : notRoot r ≡ false) (near : via < neighbourCount) (other : via ≡ n → ⊥) (enough : needAll r via c ≤ freeLabels c) where
   abbrev moved : Moved
   moved = moveAll r via c
 
   abbrev end : Card
   end = withRoutes (routesWith c r via) (moved .card)
 
-  its-near : eqb via noRoute ≡ false → via < 16
+  its-near : eqb via noRoute ≡ false → via < neighbourCount
   its-near e = near
 
   no-refusal : routeRefusal c r via ≡ 0

@@ -10,7 +10,7 @@ use lib.ListN.{getD, length}
 use lib.Dec.{eqb, leb}
 use borrow.Author.Tests.{eqb-true, eq-eqb, ne-eqb, ltb-false, lt-ltb, leb-true, le-leb}
 use Rattle.meaning.specs.Octets.{pick, count, all}
-use Rattle.meaning.specs.Card.{noEntry, Route, Card, routeOf, freeLabels, sentLimit}
+use Rattle.meaning.specs.Card.{noEntry, Route, Card, routeOf, freeLabels, sentLimit, neighbourCount}
 use Rattle.meaning.specs.Events.{noNeighbour, needAll}
 use Rattle.meaning.specs.Lists.{by-test, picked}
 use Rattle.meaning_laws.specs.RoundTrip.{both}
@@ -24,7 +24,7 @@ use Rattle.promise_plan.specs.RulesSound.{inUse, rules-sound, rules-rule
 use Rattle.meaning_plan.specs.Rising.{rising, proposal-rising}
 use Rattle.promise_plan.specs.Planner.{choice-beats, chosen-at, proposal-accepted, any-found, any-cheaper}
 
-pub near : (n : ℕ) → noNeighbour n ≡ false → n < 16
+pub near : (n : ℕ) → noNeighbour n ≡ false → n < neighbourCount
 unfolding noNeighbour
 near n h = suc-le-suc (ltb-false 15 n h)
 
@@ -46,7 +46,7 @@ pub record Exactly (c : Card) (n : ℕ) (ps : List Allowed) (ms : List Move) : T
 
 may-have : (n : ℕ) (ps : List Allowed) (r : List ℕ) (v : ℕ) → May n ps r v → mayHave n ps r v ≡ true
 unfolding mayHave
-may-have n ps r v m = rw (lt-ltb v 16 (m .near), ne-eqb v n (m .other), m .permitted) refl
+may-have n ps r v m = rw (lt-ltb v neighbourCount (m .near), ne-eqb v n (m .other), m .permitted) refl
 
 is-move : (c : Card) (n : ℕ) (ps : List Allowed) (m : Move) → Entry c n ps m → isMove c n ps m ≡ true
 unfolding isMove

@@ -10,7 +10,7 @@ use lib.ListN.{getD, length}
 use lib.Dec.{eqb, ltb}
 use borrow.Author.Tests.{eqb-true, eq-eqb, ltb-true, ltb-false, lt-ltb, le-leb}
 use Rattle.meaning.specs.Octets.{place, count, all, same, cut}
-use Rattle.meaning.specs.Card.{noEntry, Route, Card, isFor, routeOf, freeLabels}
+use Rattle.meaning.specs.Card.{noEntry, Route, Card, isFor, routeOf, freeLabels, neighbourCount}
 use Rattle.meaning.specs.Events.{needAll}
 use Rattle.meaning.specs.Lists.{by-test, picked, place-finds, place-count, count-some, same-eq, same-refl}
 use Rattle.meaning_laws.specs.RoundTrip.{both}
@@ -84,22 +84,22 @@ sum-fewer f (y ∷ ys) xs h =
 
 -- ---- the choice of a root
 
-found-near : (m : Move) → isFound m ≡ true → m .via < 16
+found-near : (m : Move) → isFound m ≡ true → m .via < neighbourCount
 unfolding isFound
-found-near m h = ltb-true (m .via) 16 h
+found-near m h = ltb-true (m .via) neighbourCount h
 
 module _ (c : Card) (n : ℕ) (ps : List Allowed) where
-  choice-may : (r : List ℕ) → choice c n ps r < 16 → mayHave n ps r (choice c n ps r) ≡ true
+  choice-may : (r : List ℕ) → choice c n ps r < neighbourCount → mayHave n ps r (choice c n ps r) ≡ true
   unfolding choice
   choice-may r h = cheapest-in (mayHave n ps r) (λ v. needAll r v c) 16 0 (le-refl 16) h .1
 
-  pub choice-beats : (r : List ℕ) (v : ℕ) → v < 16 → mayHave n ps r v ≡ true → Beats (mayHave n ps r) (λ w. needAll r w c) (choice c n ps r) v
+  pub choice-beats : (r : List ℕ) (v : ℕ) → v < neighbourCount → mayHave n ps r v ≡ true → Beats (mayHave n ps r) (λ w. needAll r w c) (choice c n ps r) v
   unfolding choice
   choice-beats r v near h = cheapest-beats (mayHave n ps r) (λ w. needAll r w c) 16 0 (le-refl 16) v zero-le near h
 
-  may-near : (r : List ℕ) (v : ℕ) → mayHave n ps r v ≡ true → v < 16
+  may-near : (r : List ℕ) (v : ℕ) → mayHave n ps r v ≡ true → v < neighbourCount
   unfolding mayHave
-  may-near r v h = ltb-true v 16 (both (ltb v 16) _ (both (ltb v 16 && not (eqb v n)) _ h .0) .0)
+  may-near r v h = ltb-true v neighbourCount (both (ltb v neighbourCount) _ (both (ltb v neighbourCount && not (eqb v n)) _ h .0) .0)
 
   -- every entry has its root's choice
   pub chosen-at : (xs : List Move) (i : ℕ) (d : Move) → i < length (chosen c n ps xs) → getD (chosen c n ps xs) i d .via ≡ choice c n ps (getD (chosen c n ps xs) i d .root)
@@ -127,10 +127,10 @@ module _ (c : Card) (n : ℕ) (ps : List Allowed) where
       rw (eq-eqb (routeOf (x .root) c) n (h (x .root) (in-head x xs)), choice-may (x .root) (found-near m (p .0)))
       (chosen-moves xs (λ q j. h q (in-tail q x xs j)) (p .1))
 
-  chosen-found : (xs : List Move) → ((q : List ℕ) → 0 < count (moveFor q) xs → choice c n ps q < 16) → all isFound (chosen c n ps xs) ≡ true
+  chosen-found : (xs : List Move) → ((q : List ℕ) → 0 < count (moveFor q) xs → choice c n ps q < neighbourCount) → all isFound (chosen c n ps xs) ≡ true
   unfolding chosen all isFound
   chosen-found [] h = refl
-  chosen-found (x ∷ xs) h = rw (lt-ltb (choice c n ps (x .root)) 16 (h (x .root) (in-head x xs))) (chosen-found xs (λ q j. h q (in-tail q x xs j)))
+  chosen-found (x ∷ xs) h = rw (lt-ltb (choice c n ps (x .root)) neighbourCount (h (x .root) (in-head x xs))) (chosen-found xs (λ q j. h q (in-tail q x xs j)))
 
   -- what the choice of a root needs
   abbrev least : List ℕ → ℕ
@@ -153,7 +153,7 @@ module _ (c : Card) (n : ℕ) (ps : List Allowed) where
 
   -- ---- the roots through n
 
-  module _ (low : n < 16) (good : all isRoute (c .routes) ≡ true) (once : (q : List ℕ) → count (isFor q) (c .routes) ≤ 1) where
+  module _ (low : n < neighbourCount) (good : all isRoute (c .routes) ≡ true) (once : (q : List ℕ) → count (isFor q) (c .routes) ≤ 1) where
     through-once : (q : List ℕ) → count (moveFor q) (through n (c .routes)) ≤ 1
     through-once q = omega (arith, count-through n (moveFor q) (c .routes), count-both n q (c .routes), once q)
 

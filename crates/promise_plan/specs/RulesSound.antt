@@ -10,7 +10,7 @@ use lib.ListN.{getD, length}
 use lib.Dec.{eqb, leb, ltb}
 use borrow.Author.Tests.{eqb-true, eqb-false, eq-eqb, ne-eqb, ltb-true, ltb-false, leb-true, le-leb, lt-leb, not-true}
 use Rattle.meaning.specs.Octets.{pick, count, all}
-use Rattle.meaning.specs.Card.{Tree, Use, free, mapped, awaiting, Card, bare, treePlace, treeOf, treeAt, isEmpty, isFree, useOf, freeLabels, labelCount}
+use Rattle.meaning.specs.Card.{Tree, Use, free, mapped, awaiting, Card, bare, treePlace, treeOf, treeAt, isEmpty, isFree, useOf, freeLabels, labelCount, neighbourCount}
 use Rattle.meaning.specs.Lists.{by-test, picked, same-eq, getD-out, append-nil}
 use Rattle.meaning_laws.specs.RoundTrip.{both}
 use Rattle.meaning_save.specs.Save.{isName, isBranchLabel, isTree, isUse, isCarried, isMappedFor, carriesOwn, lastRight}
@@ -112,7 +112,7 @@ unfolding isTree isName Proper
 tree-parts t h =
     let a = both _ (not (isEmpty t)) h in
     let b = both _ (all isBranchLabel (t .branches)) (a .0) in
-    let d = both (isName (t .name)) (eqb (length (t .branches)) 16) (unfold isName in b .0) in
+    let d = both (isName (t .name)) (eqb (length (t .branches)) neighbourCount) (unfold isName in b .0) in
     ((eqb-true _ _ (d .1), eqb-true _ _ (unfold isName in d .0)), not-true _ (a .1))
 
 all-proper : (ts : List Tree) → all isTree ts ≡ true → AllProper ts
@@ -125,7 +125,7 @@ all-proper (t ∷ ts) h = let p = all-cons isTree t ts h in (tree-parts t (p .0)
 use-real : (u : Use) → isUse u ≡ true → stray u ≡ false
 unfolding isUse stray
 use-real free h = refl
-use-real (mapped n a) h = lt-leb 16 n (ltb-true _ _ (both (ltb n 16) (isName a) h .0))
+use-real (mapped n a) h = lt-leb 16 n (ltb-true _ _ (both (ltb n neighbourCount) (isName a) h .0))
 use-real (awaiting n a) h = refl
 
 same-mapped : (a : List ℕ) (u : Use) → isMappedFor a u ≡ isMapped a u

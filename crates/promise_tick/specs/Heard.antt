@@ -12,7 +12,7 @@ use borrow.Author.Tests.{eqb-true, eqb-false, eq-eqb}
 use Rattle.meaning.specs.Octets.{any}
 use Rattle.meaning.specs.Lists.{by-test, picked, no-when}
 use Rattle.meaning.specs.Wire.{rootIn, mapping, withdraw, release, Message, messageIn, Sent}
-use Rattle.meaning.specs.Card.{Tree, Card, nobody, named, bare, withTrees, withBranch, treePlace, treeOf, treeAt, routeOf, isBranch, notHeld, leadsOn, mappedTo, useOf, heldFor, nextFree}
+use Rattle.meaning.specs.Card.{Tree, Card, nobody, named, bare, withTrees, withBranch, treePlace, treeOf, treeAt, routeOf, isBranch, notHeld, leadsOn, mappedTo, useOf, heldFor, nextFree, neighbourCount}
 use Rattle.meaning.specs.Events.{Outcome, refused, taken, unless, still, followedBy, tell, giveUp, give, letGo, takeUp, moveLabel, relabel, upstream, holder, holderOf, entered, enter, become, branch, otherLabel, onMapping, lessBranch, onWithdraw, onRelease, onMessage, onOctets, receive, outcome}
 use Rattle.promise.specs.Promise.{Given, Step, Past, answerTo, sends}
 use Rattle.promise.specs.LiveLaws.{stray-not}
@@ -131,7 +131,7 @@ pub data Calls (v n : ℕ) (m : Message) : List Sent → Type 0 where
 
 upstream-is : (v : ℕ) → (upstream v ≡ nobody → ⊥) → upstream v ≡ v
 unfolding upstream
-upstream-is v = picked (λ (x : ℕ). (x ≡ nobody → ⊥) → x ≡ v) (ltb v 16) (λ _ _. refl) (λ _ d. absurd (d refl))
+upstream-is v = picked (λ (x : ℕ). (x ≡ nobody → ⊥) → x ≡ v) (ltb v neighbourCount) (λ _ _. refl) (λ _ d. absurd (d refl))
 
 holder-on : (u : ℕ) (t : Tree) → leadsOn u t ≡ true → holder u t ≡ u
 unfolding holder

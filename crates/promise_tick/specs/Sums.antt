@@ -8,6 +8,7 @@ use lib.Dec.{eqb}
 use borrow.Author.Tests.{eqb-true, eqb-false}
 use Rattle.meaning.specs.Lists.{by-test}
 use Rattle.promise_tick.specs.Tick.{sumTo}
+use Rattle.meaning.specs.Card.{neighbourCount}
 
 sum-eq : (n : ℕ) (f g : ℕ → ℕ) → ((k : ℕ) → k < n → f k ≡ g k) → sumTo n f ≡ sumTo n g
 unfolding sumTo
@@ -61,29 +62,29 @@ sum-less (suc n) f g j d h here there =
 -- ---- over n boxes and their sixteen numbers
 
 abbrev pub sums : ℕ → (ℕ → ℕ → ℕ) → ℕ
-sums n f = sumTo n (λ k. sumTo 16 (f k))
+sums n f = sumTo n (λ k. sumTo neighbourCount (f k))
 
 pub sums-add : (n : ℕ) (f g : ℕ → ℕ → ℕ) → sums n (λ k p. f k p + g k p) ≡ sums n f + sums n g
 sums-add n f g =
-    let a : sums n (λ k p. f k p + g k p) ≡ sumTo n (λ k. sumTo 16 (f k) + sumTo 16 (g k)) = sum-eq n _ _ (λ k _. sum-add 16 (f k) (g k)) in
-    let b : sumTo n (λ k. sumTo 16 (f k) + sumTo 16 (g k)) ≡ sums n f + sums n g = sum-add n (λ k. sumTo 16 (f k)) (λ k. sumTo 16 (g k)) in
+    let a : sums n (λ k p. f k p + g k p) ≡ sumTo n (λ k. sumTo neighbourCount (f k) + sumTo neighbourCount (g k)) = sum-eq n _ _ (λ k _. sum-add neighbourCount (f k) (g k)) in
+    let b : sumTo n (λ k. sumTo neighbourCount (f k) + sumTo neighbourCount (g k)) ≡ sums n f + sums n g = sum-add n (λ k. sumTo neighbourCount (f k)) (λ k. sumTo neighbourCount (g k)) in
     omega arith
 
 pub sums-eq : (n : ℕ) (f g : ℕ → ℕ → ℕ) → ((k p : ℕ) → f k p ≡ g k p) → sums n f ≡ sums n g
-sums-eq n f g h = sum-eq n _ _ (λ k _. sum-eq 16 (f k) (g k) (λ p _. h k p))
+sums-eq n f g h = sum-eq n _ _ (λ k _. sum-eq neighbourCount (f k) (g k) (λ p _. h k p))
 
 pub sums-zero : (n : ℕ) (f : ℕ → ℕ → ℕ) → ((k p : ℕ) → f k p ≡ 0) → sums n f ≡ 0
-sums-zero n f h = sum-zero n _ (λ k _. sum-zero 16 (f k) (λ p _. h k p))
+sums-zero n f h = sum-zero n _ (λ k _. sum-zero neighbourCount (f k) (λ p _. h k p))
 
-pub sums-has : (n : ℕ) (f : ℕ → ℕ → ℕ) (j q : ℕ) → j < n → q < 16 → f j q ≤ sums n f
+pub sums-has : (n : ℕ) (f : ℕ → ℕ → ℕ) (j q : ℕ) → j < n → q < neighbourCount → f j q ≤ sums n f
 sums-has n f j q h l =
-    let a : f j q ≤ sumTo 16 (f j) = sum-has 16 (f j) q l in
-    let b : sumTo 16 (f j) ≤ sums n f = sum-has n (λ k. sumTo 16 (f k)) j h in
+    let a : f j q ≤ sumTo neighbourCount (f j) = sum-has neighbourCount (f j) q l in
+    let b : sumTo neighbourCount (f j) ≤ sums n f = sum-has n (λ k. sumTo neighbourCount (f k)) j h in
     omega arith
 
 pub sums-one : (n : ℕ) (f : ℕ → ℕ → ℕ) (j q c : ℕ) → f j q ≤ c → ((k p : ℕ) → (k ≡ j → ⊥) → f k p ≡ 0) → ((p : ℕ) → (p ≡ q → ⊥) → f j p ≡ 0) → sums n f ≤ c
-sums-one n f j q c here there beside = sum-one n (λ k. sumTo 16 (f k)) j c (sum-one 16 (f j) q c here beside) (λ k d. sum-zero 16 (f k) (λ p _. there k p d))
+sums-one n f j q c here there beside = sum-one n (λ k. sumTo neighbourCount (f k)) j c (sum-one neighbourCount (f j) q c here beside) (λ k d. sum-zero neighbourCount (f k) (λ p _. there k p d))
 
-pub sums-less : (n : ℕ) (f g : ℕ → ℕ → ℕ) (j q d : ℕ) → j < n → q < 16 → f j q + d ≡ g j q → ((k p : ℕ) → (k ≡ j → ⊥) → f k p ≡ g k p) → ((p : ℕ) → (p ≡ q → ⊥) → f j p ≡ g j p) → sums n f + d ≡ sums n g
+pub sums-less : (n : ℕ) (f g : ℕ → ℕ → ℕ) (j q d : ℕ) → j < n → q < neighbourCount → f j q + d ≡ g j q → ((k p : ℕ) → (k ≡ j → ⊥) → f k p ≡ g k p) → ((p : ℕ) → (p ≡ q → ⊥) → f j p ≡ g j p) → sums n f + d ≡ sums n g
 sums-less n f g j q d h l here there beside =
-    sum-less n (λ k. sumTo 16 (f k)) (λ k. sumTo 16 (g k)) j d h (sum-less 16 (f j) (g j) q d l here beside) (λ k m. sum-eq 16 (f k) (g k) (λ p _. there k p m))
+    sum-less n (λ k. sumTo neighbourCount (f k)) (λ k. sumTo neighbourCount (g k)) j d h (sum-less neighbourCount (f j) (g j) q d l here beside) (λ k m. sum-eq neighbourCount (f k) (g k) (λ p _. there k p m))

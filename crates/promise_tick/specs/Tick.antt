@@ -11,6 +11,7 @@ use Rattle.meaning.specs.Wire.{rootIn, elementRefusal, mapping, withdraw, Messa
 use Rattle.meaning.specs.Events.{ofRoot, route}
 use Rattle.promise.specs.Promise.{Step, sends}
 use Rattle.promise_net.specs.Net.{box, Wires, Wired, Net, laid, Turn, hears, does, turn, turns, fed, joined, Way, Climbs}
+use Rattle.meaning.specs.Card.{neighbourCount}
 
 -- ---- only hearing
 
@@ -69,7 +70,7 @@ sumTo (suc n) f = f n + sumTo n f
 
 -- THE MEASURE: how many messages may yet be heard in a net of n boxes
 unfoldable pub ahead : Rank → ℕ → Net → ℕ
-ahead rank n w = sumTo n (λ i. sumTo 16 (λ p. weights rank i (w .inbox i p)))
+ahead rank n w = sumTo n (λ i. sumTo neighbourCount (λ p. weights rank i (w .inbox i p)))
 
 -- ---- what is asked of the net
 

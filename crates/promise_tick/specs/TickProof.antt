@@ -12,7 +12,7 @@ use borrow.Author.Tests.{eqb-true}
 use Rattle.meaning.specs.Octets.{pick}
 use Rattle.meaning.specs.Lists.{by-test, picked}
 use Rattle.meaning.specs.Wire.{rootIn, elementRefusal, mapping, withdraw, Message, messageIn, Sent}
-use Rattle.meaning.specs.Card.{treeOf, routeOf}
+use Rattle.meaning.specs.Card.{treeOf, routeOf, neighbourCount}
 use Rattle.meaning.specs.Events.{receive}
 use Rattle.promise.specs.Promise.{leafBy, routeBy, Step, Past, isTaken, acceptedAt, sends, thenStep}
 use Rattle.promise.specs.PromiseProof.{Upheld, then-upheld, started}
@@ -145,7 +145,7 @@ step-adds far W rank n w i s inbox refused =
     omega arith
 
 -- what is left on the lines when one message has been taken off
-taken-off : (rank : Rank) (n : ℕ) (w : Net) (i p : ℕ) (s : List ℕ) (rest : List (List ℕ)) → i < n → p < 16 → w .inbox i p ≡ s ∷ rest
+taken-off : (rank : Rank) (n : ℕ) (w : Net) (i p : ℕ) (s : List ℕ) (rest : List (List ℕ)) → i < n → p < neighbourCount → w .inbox i p ≡ s ∷ rest
     → sums n (λ k q. weights rank k (anew i p rest (w .inbox) k q)) + weight rank i (messageIn s) ≡ ahead rank n w
 unfolding ahead
 taken-off rank n w i p s rest h l u =

@@ -9,7 +9,7 @@ use lib.Dec.{eqb, leb, ltb}
 use borrow.Author.Tests.{eqb-true, eqb-false, ltb-true}
 use Rattle.meaning.specs.Octets.{pick, two, four}
 use Rattle.meaning.specs.Wire.{rootLimit}
-use Rattle.meaning.specs.Card.{Route, Tree, Use, mapped, awaiting, Card, freeLabels, labelCount, turn}
+use Rattle.meaning.specs.Card.{Route, Tree, Use, mapped, awaiting, Card, freeLabels, labelCount, turn, neighbourCount}
 use Rattle.meaning.specs.Lists.{by-test}
 use Rattle.meaning_laws.specs.RoundTrip.{both}
 use Rattle.meaning_save.specs.Save.{Form, old, new, formOf, headKind, treeKind, useKind, headSize, spaced, nameSaved, marked, lastSaved, headSaved, routeSaved, foursOf, treeSaved, useSaved, routeSize, treeBeside, useBeside}
@@ -47,7 +47,7 @@ tree-name-put f m a xs us vs em e eu es =
     let q : m - 3 ≡ nameSize f a = omega arith in
     rw (eu, es, q) (two-parts 3 (nameSize f a) xs (0x4C ∷ 0x53 ∷ treeKind f ∷ []) (nameSaved f a) e refl (name-length f a))
 
-pub tree-rest-put : (t : Tree) (xs us vs : List ℕ) (f : ℕ) → length xs ≡ 65 → length (t .branches) ≡ 16 → f ≡ pick (t .leaf) 1 0 → us ≡ f ∷ [] → vs ≡ foursOf (t .branches) → mid 1 64 (mid 0 1 xs us) vs ≡ pick (t .leaf) 1 0 ∷ foursOf (t .branches)
+pub tree-rest-put : (t : Tree) (xs us vs : List ℕ) (f : ℕ) → length xs ≡ 65 → length (t .branches) ≡ neighbourCount → f ≡ pick (t .leaf) 1 0 → us ≡ f ∷ [] → vs ≡ foursOf (t .branches) → mid 1 64 (mid 0 1 xs us) vs ≡ pick (t .leaf) 1 0 ∷ foursOf (t .branches)
 tree-rest-put t xs us vs f e lb ef eu es =
     let b : length (foursOf (t .branches)) ≡ 64 = fours-length (t .branches) ∙ ap (λ (k : ℕ). 4 * k) lb in
     rw (eu, es, ef) (two-parts 1 64 xs (pick (t .leaf) 1 0 ∷ []) (foursOf (t .branches)) e refl b)
@@ -60,7 +60,7 @@ marked-length : (k : ℕ) (o : List ℕ) → length (marked k o) ≡ 3 + length 
 unfolding marked
 marked-length k o = omega arith
 
-pub tree-put : (f : Form) (t : Tree) (m k : ℕ) (a xs us vs : List ℕ) → length xs ≡ treeBeside + nameSize f (t .name) → length (t .branches) ≡ 16 → a ≡ t .name → k ≡ nameSize f a → m ≡ length xs
+pub tree-put : (f : Form) (t : Tree) (m k : ℕ) (a xs us vs : List ℕ) → length xs ≡ treeBeside + nameSize f (t .name) → length (t .branches) ≡ neighbourCount → a ≡ t .name → k ≡ nameSize f a → m ≡ length xs
     → us ≡ marked (treeKind f) (nameSaved f a) → vs ≡ pick (t .leaf) 1 0 ∷ foursOf (t .branches) → mid (3 + k) (m - (3 + k)) (mid 0 (3 + k - 0) xs us) vs ≡ treeSaved f t
 unfolding treeSaved
 tree-put f t m k a xs us vs l lb ea ek em eu ev =
@@ -120,7 +120,7 @@ module _ (bs xs : List ℕ) (l : length bs ≡ 16) (e : length xs ≡ 64) where
   abbrev pub fours-lot : Lot
   fours-lot = record { row = fourRow bs; many = 16; from = 0; whole = foursOf bs; out = xs; all = fours-rows; fits = omega (arith, sized) }
 
-  pub fours-next : (k : ℕ) (ys r : List ℕ) → k < 16 → Stand fours-lot k (k * 4) ys → r ≡ fourRow bs k → Stand fours-lot (k + 1) ((k + 1) * 4) (mid (k * 4) (k * 4 + 4 - k * 4) ys r)
+  pub fours-next : (k : ℕ) (ys r : List ℕ) → k < neighbourCount → Stand fours-lot k (k * 4) ys → r ≡ fourRow bs k → Stand fours-lot (k + 1) ((k + 1) * 4) (mid (k * 4) (k * 4 + 4 - k * 4) ys r)
   fours-next k ys r h p er =
       let q : (k + 1) * 4 ≡ k * 4 + 4 = omega arith in
       rw q (rows-lent fours-lot k (k * 4) ys p 4 r h er (unfold four in refl))

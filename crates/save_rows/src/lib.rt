@@ -4,7 +4,7 @@ ghost use mathlib.Core.List.{List, [], _∷_, _++_};
 ghost use Prim.Native.Nat.{ℕ, _+_, _*_, _≤_, _<_};
 ghost use lib.ListN.{drop, set, getD};
 ghost use Rattle.meaning.specs.Octets.{fourAt};
-ghost use Rattle.meaning.specs.Card.{withRoutes, withTrees, bare, treeAt, routeLimit, treeLimit};
+ghost use Rattle.meaning.specs.Card.{withRoutes, withTrees, bare, treeAt, routeLimit, treeLimit, neighbourCount};
 ghost use Rattle.meaning_save.specs.Save.{formOf, nameIn, extent, routeRead, treeRead, foursIn, routesRead, treesRead, treesEnd};
 ghost use Rattle.memory.specs.Sizes.{Numbers, Names};
 ghost use Rattle.memory.specs.Memory.{cardOf, treeCount, routeCount};
@@ -41,7 +41,7 @@ fn read_routes(octets: &[u8], at: usize, n: usize, numbers: &mut [u64], names: &
 fn read_branches(octets: &[u8], at: usize, numbers: &mut [u64], i: usize)
     requires { ⌜ Numbers (now numbers) × (i < treeCount (now numbers)) × (i < treeLimit) × (at < 1073741824) ⌝ }
     ensures { λ _. ⌜ ((os : List ℕ) → (let c = cardOf (now (numbers .entry)) os in
-        cardOf (now (numbers .exit)) os ≡ withTrees (set (c .trees) i (withBranches (foursIn 16 (drop at (now (octets .entry)))) (treeAt i c))) c)) ⌝ }
+        cardOf (now (numbers .exit)) os ≡ withTrees (set (c .trees) i (withBranches (foursIn neighbourCount (drop at (now (octets .entry)))) (treeAt i c))) c)) ⌝ }
 {
     let mut n = 0;
     while n < 16 {

@@ -10,7 +10,7 @@ use lib.Dec.{eqb, leb, ltb}
 use borrow.Author.Tests.{lt-ltb, le-leb, eq-eqb, ne-eqb, eqb-true, ltb-true, ltb-false}
 use Rattle.meaning.specs.Octets.{place, any, same, all}
 use Rattle.meaning.specs.Lists.{by-test, place-finds, place-skips, getD-out, getD-same, same-eq, same-refl, any-count, count-some}
-use Rattle.meaning.specs.Card.{Tree, mapped, awaiting, Card, treeOf, treePlace, bare, named, carries, isFree, mappedTo, useOf, labelCount, routeLimit, treeLimit}
+use Rattle.meaning.specs.Card.{Tree, mapped, awaiting, Card, treeOf, treePlace, bare, named, carries, isFree, mappedTo, useOf, labelCount, routeLimit, treeLimit, neighbourCount}
 use Rattle.meaning.specs.Events.{baseOutside}
 use Rattle.meaning_save.specs.Save.{isName, onceEach, isRoute, sameRoot, isTree, sameName, isUse, isCarried, allCarried, isMappedFor, carriesOwn, holdsRight, keepsRows}
 use Rattle.memory.specs.Memory.{baseIn, nextIn, treeCount, isFreeAt, isMappedAt, labelName, labelIn, cardOf, InBlock}
@@ -36,10 +36,10 @@ module _ (ns os : List ℕ) (p : ℕ) where
   use-mapped ne =
       by-use ns p os
       (λ k. absurd (ne (rw k refl)))
-      (λ n h k. rw (k, lt-ltb n 16 h) refl)
+      (λ n h k. rw (k, lt-ltb n neighbourCount h) refl)
       (λ n k. absurd (ne (rw k refl)))
 
-  pub use-awaiting : (n : ℕ) → labelIn ns os p ≡ awaiting n (labelName os p) → isUse (labelIn ns os p) ≡ (ltb n 16 && isName (labelName os p))
+  pub use-awaiting : (n : ℕ) → labelIn ns os p ≡ awaiting n (labelName os p) → isUse (labelIn ns os p) ≡ (ltb n neighbourCount && isName (labelName os p))
   unfolding isUse
   use-awaiting n k = rw k refl
 

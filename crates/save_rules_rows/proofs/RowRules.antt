@@ -12,7 +12,7 @@ use borrow.Author.Tests.{le-leb, lt-leb, eq-eqb, ne-eqb, not-true, not-false}
 use Rattle.meaning.specs.Octets.{any, same, all}
 use Rattle.meaning.specs.Lists.{getD-same}
 use Rattle.meaning.specs.Wire.{rootIn}
-use Rattle.meaning.specs.Card.{Route, Tree, Use, Card, treeAt, bare, isBranch, isEmpty, isFor, named, routeOf, heldFor, labelCount}
+use Rattle.meaning.specs.Card.{Route, Tree, Use, Card, treeAt, bare, isBranch, isEmpty, isFor, named, routeOf, heldFor, labelCount, neighbourCount}
 use Rattle.meaning.specs.Events.{notRoot, upstream, holderOf, holder}
 use Rattle.meaning_save.specs.Save.{isName, onceEach, isRoute, sameRoot, isBranchLabel, isTree, sameName, isCarried, allCarried, holdsRight}
 use Rattle.octets.proofs.Tab.{tab-get}
@@ -117,7 +117,7 @@ module _ (ns os : List ℕ) where
   pub labels-end : (p : ℕ) → labelCount ≤ p → length (cardOf ns os .labels) ≤ p
   labels-end p h = rw labels-length h
 
-  pub branch-there : (i k : ℕ) → i < treeCount ns → k < 16 → At (treeAt i (cardOf ns os) .branches) k (getD (treeAt i (cardOf ns os) .branches) k 0)
+  pub branch-there : (i k : ℕ) → i < treeCount ns → k < neighbourCount → At (treeAt i (cardOf ns os) .branches) k (getD (treeAt i (cardOf ns os) .branches) k 0)
   branch-there i k h h16 =
       let w : k < length (treeAt i (cardOf ns os) .branches) = omega (arith, branches-length ns os i h) in
       record { inside = w; reads = getD-same (treeAt i (cardOf ns os) .branches) k _ 0 w }
@@ -160,7 +160,7 @@ pub branch-none : (l : ℕ) → l ≡ 0 → isBranchLabel l ≡ true
 unfolding isBranchLabel
 branch-none l e = rw (eq-eqb l 0 e) refl
 
-pub branch-low : (l : ℕ) → (l ≡ 0 → ⊥) → l < 16 → isBranchLabel l ≡ false
+pub branch-low : (l : ℕ) → (l ≡ 0 → ⊥) → l < neighbourCount → isBranchLabel l ≡ false
 unfolding isBranchLabel
 branch-low l ne h = rw (ne-eqb l 0 ne, lt-leb 16 l h) refl
 
@@ -173,15 +173,15 @@ module _ (t : Tree) where
   unfolding isEmpty
   leaf-leads b e k = rw (← e, k, and-false) refl
 
-  pub branch-leads : (b r : Bool) → length (t .branches) ≡ 16 → b ≡ t .leaf → b ≡ false → r ≡ any isBranch (set (set (t .branches) 16 0) 16 0) → r ≡ not (isEmpty t)
+  pub branch-leads : (b r : Bool) → length (t .branches) ≡ neighbourCount → b ≡ t .leaf → b ≡ false → r ≡ any isBranch (set (set (t .branches) 16 0) 16 0) → r ≡ not (isEmpty t)
   unfolding isEmpty
   branch-leads b r l e k a =
       let once : set (t .branches) 16 0 ≡ t .branches = set-out (t .branches) 16 0 (omega arith) in
       rw (← e, k, and-true, Bool·not-not) (rw (once, once) at a)
 
-  pub tree-parts : length (t .branches) ≡ 16 → isTree t ≡ (isName (t .name) && (all isBranchLabel (t .branches) && not (isEmpty t)))
+  pub tree-parts : length (t .branches) ≡ neighbourCount → isTree t ≡ (isName (t .name) && (all isBranchLabel (t .branches) && not (isEmpty t)))
   unfolding isTree
-  tree-parts l = rw (eq-eqb (length (t .branches)) 16 l, and-true (isName (t .name))) (and-assoc (isName (t .name)) (all isBranchLabel (t .branches)) (not (isEmpty t)))
+  tree-parts l = rw (eq-eqb (length (t .branches)) neighbourCount l, and-true (isName (t .name))) (and-assoc (isName (t .name)) (all isBranchLabel (t .branches)) (not (isEmpty t)))
 
   pub tree-for : (r a : List ℕ) → a ≡ t .name → same a r ≡ named r t
   unfolding named

@@ -3,7 +3,7 @@
 ghost use mathlib.Core.Path.{_≡_};
 ghost use Prim.Native.Nat.{_+_, _≤_};
 ghost use lib.ListN.{length, take, replicate};
-ghost use Rattle.meaning.specs.Wire.{opaqueIn};
+ghost use Rattle.meaning.specs.Wire.{opaqueIn, nameLimit};
 ghost use Rattle.meaning_save.specs.Save.{old, formOf, padded, spaced, nameSaved, nameMost, isShort, spacedName};
 ghost use Rattle.meaning_laws.specs.SaveFields.{nameSize};
 use meaning::NAME_LIMIT;
@@ -74,7 +74,7 @@ pub fn is_short(name: &[u8], second: bool) -> bool
 
 // How many octets a name takes.
 pub fn name_size(name: &[u8], second: bool) -> usize
-    ensures { λ r. ⌜ (r ≡ nameSize (formOf second) (now (name .entry))) × (1 ≤ r) × (r ≤ nameMost (formOf second)) × (r ≤ 151) ⌝ }
+    ensures { λ r. ⌜ (r ≡ nameSize (formOf second) (now (name .entry))) × (1 ≤ r) × (r ≤ nameMost (formOf second)) × (r ≤ 1 + nameLimit) ⌝ }
 {
     if second {
         return 1 + fitting(name, NAME_LIMIT);

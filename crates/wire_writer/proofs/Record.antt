@@ -5,7 +5,7 @@ use mathlib.Core.Path.{_≡_, refl, ap, _∙_}
 use mathlib.Core.List.{List, [], _∷_, _++_, append-assoc}
 use lib.ListN.{length, length-append}
 use Rattle.meaning.specs.Octets.{two, four}
-use Rattle.meaning.specs.Wire.{recordOf, octetsOf, tlv}
+use Rattle.meaning.specs.Wire.{recordOf, recordSize, octetsOf, tlv}
 use Rattle.meaning.specs.Events.{tell}
 use Rattle.octets.specs.Part.{mid}
 use Rattle.octets.proofs.Parts.{mid-mid}
@@ -33,7 +33,7 @@ pub record-parts : (id to kind label : ℕ) (name : List ℕ) → recordOf id (t
 unfolding recordOf octetsOf tlv two four
 record-parts id to kind label name = rw (after-length id label name) refl
 
-pub record-length : (id to kind label : ℕ) (name : List ℕ) → length (recordOf id (tell to kind name label)) ≡ 24 + length name
+pub record-length : (id to kind label : ℕ) (name : List ℕ) → length (recordOf id (tell to kind name label)) ≡ recordSize name
 record-length id to kind label name =
     ap length (record-parts id to kind label name)
     ∙ length-append (headOf id to kind (length name)) (name ++ tailOf label)
@@ -49,11 +49,11 @@ module _ {ℓ} {A : Type ℓ} where
       (mid-mid a (p + q) r g k xs (us ++ vs) ws (omega arith) (length-append us vs ∙ omega arith) (omega arith) (omega arith) ∙ ap (mid a k xs) (append-assoc us vs ws))
 
 -- the three calls of `put_record`, each on the part that it is lent
-pub put-three : (id to kind label at : ℕ) (xs us vs ws name : List ℕ) → at + (24 + length name) ≤ length xs → us ≡ headOf id to kind (length name) → vs ≡ name → ws ≡ tailOf label
-    → mid (at + 16 + length name) (at + 16 + length name + 8 - (at + 16 + length name)) (mid (at + 16) (at + 16 + length name - (at + 16)) (mid at (at + 16 - at) xs us) vs) ws ≡ mid at (24 + length name) xs (recordOf id (tell to kind name label))
+pub put-three : (id to kind label at : ℕ) (xs us vs ws name : List ℕ) → at + recordSize name ≤ length xs → us ≡ headOf id to kind (length name) → vs ≡ name → ws ≡ tailOf label
+    → mid (at + 16 + length name) (at + 16 + length name + 8 - (at + 16 + length name)) (mid (at + 16) (at + 16 + length name - (at + 16)) (mid at (at + 16 - at) xs us) vs) ws ≡ mid at (recordSize name) xs (recordOf id (tell to kind name label))
 put-three id to kind label at xs us vs ws name fits hu hv hw =
     let p : at + 16 - at ≡ 16 = omega arith in
     let q : at + 16 + length name - (at + 16) ≡ length name = omega arith in
     let r : at + 16 + length name + 8 - (at + 16 + length name) ≡ 8 = omega arith in
     rw (hu, hv, hw, p, q, r, record-parts id to kind label name)
-    (mid-three at 16 (length name) 8 (at + 16) (at + 16 + length name) (24 + length name) xs (headOf id to kind (length name)) name (tailOf label) fits (head-length id to kind (length name)) refl refl refl (omega arith))
+    (mid-three at 16 (length name) 8 (at + 16) (at + 16 + length name) (recordSize name) xs (headOf id to kind (length name)) name (tailOf label) fits (head-length id to kind (length name)) refl refl refl (omega arith))

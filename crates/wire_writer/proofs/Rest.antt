@@ -25,7 +25,7 @@ use denote.Builtin.{u8, u64, usize}
 use denote.Ref.{RefT, now}
 use denote.Slice.{sliceVal, ShrSlice, shr-slice-copy}
 use denote.Steps.{owned, nothing}
-use Rattle.meaning.specs.Wire.{recordOf}
+use Rattle.meaning.specs.Wire.{recordOf, recordSize}
 use Rattle.meaning.specs.Events.{tell}
 use Rattle.octets.specs.Part.{mid}
 
@@ -80,10 +80,10 @@ module _ {j : ℕ} (r : Rest j) where
   Name = ShrSlice (named j) (r .lft) u8 .own (r .name) (nameVal (r .name) ∷ [])
 
   abbrev pub Fits : List ℕ → Type 0
-  Fits out = (r .at + (24 + length (now (r .name))) ≤ length out) × (length (now (r .name)) ≤ 65535)
+  Fits out = (r .at + (recordSize (now (r .name))) ≤ length out) × (length (now (r .name)) ≤ 65535)
 
   abbrev pub written : List ℕ → ℕ → List ℕ
-  written out id = mid (r .at) (24 + length (now (r .name))) out (recordOf id (tell (r .to) (r .kind) (now (r .name)) (r .label)))
+  written out id = mid (r .at) (recordSize (now (r .name))) out (recordOf id (tell (r .to) (r .kind) (now (r .name)) (r .label)))
 
 module _ {M : Type 1} (𝓤 : URA M) (H : Heap 𝓤) (A : Atoms 𝓤) (W : Given 𝓤 H A) {j : ℕ} (r : Rest j) where
   pub rest-in : ent 𝓤 (sem 𝓤 H A (Name r)) (sem 𝓤 H A (owns (Types r) (args r) (vals r)))

@@ -4,10 +4,11 @@ ghost use mathlib.Core.List.{[], _∷_, _++_};
 ghost use Prim.Native.Nat.{_+_, _≤_, _<_};
 ghost use lib.ListN.{length};
 ghost use Rattle.meaning.specs.Octets.{two, four};
-ghost use Rattle.meaning.specs.Wire.{recordOf, nextId};
+ghost use Rattle.meaning.specs.Wire.{recordOf, recordSize, nextId};
 ghost use Rattle.meaning.specs.Events.{tell};
 ghost use Rattle.octets.specs.Part.{mid};
 ghost use Rattle.wire_writer.specs.Count.{after};
+use meaning::RECORD_BESIDE;
 
 // ---- the counter
 
@@ -39,9 +40,9 @@ pub fn advance(c: &mut Counter) -> u32
 // How many octets the record of a name has, so that room can be tested before anything is written.
 pub fn record_size(name: &[u8]) -> usize
     requires { ⌜ length (now name) ≤ 65535 ⌝ }
-    ensures { λ r. ⌜ r ≡ 24 + length (now (name .entry)) ⌝ }
+    ensures { λ r. ⌜ r ≡ recordSize (now (name .entry)) ⌝ }
 {
-    24 + name.len()
+    RECORD_BESIDE + name.len()
 }
 
 // What stands before the name: the mark, the neighbour, the message's type, length and identifier, and the head of the FEC TLV.
@@ -91,8 +92,8 @@ fn put_label_tlv(out: &mut [u8], label: u64)
 
 // A record at a place of the output, with a given identifier: the octets before it and behind it stay.
 pub fn put_record(out: &mut [u8], at: usize, to: u64, kind: u64, label: u64, name: &[u8], id: u32)
-    requires { ⌜ (at + (24 + length (now name)) ≤ length (now out)) × (length (now name) ≤ 65535) ⌝ }
-    ensures { λ _. ⌜ now (out .exit) ≡ mid at (24 + length (now (name .entry))) (now (out .entry)) (recordOf id (tell to kind (now (name .entry)) label)) ⌝ }
+    requires { ⌜ (at + recordSize (now name) ≤ length (now out)) × (length (now name) ≤ 65535) ⌝ }
+    ensures { λ _. ⌜ now (out .exit) ≡ mid at (recordSize (now (name .entry))) (now (out .entry)) (recordOf id (tell to kind (now (name .entry)) label)) ⌝ }
 {
     let a = at + 16;
     put_record_head(&mut out[at..a], to, kind, id, name.len() as u64);
@@ -112,9 +113,9 @@ pub fn write_record(
     label: u64,
     name: &[u8],
 )
-    requires { ⌜ (at + (24 + length (now name)) ≤ length (now out)) × (length (now name) ≤ 65535) ⌝ }
+    requires { ⌜ (at + recordSize (now name) ≤ length (now out)) × (length (now name) ≤ 65535) ⌝ }
     ensures { λ _. ⌜ (now (c .exit) ≡ after (now (c .entry)))
-        × (now (out .exit) ≡ mid at (24 + length (now (name .entry))) (now (out .entry)) (recordOf (now (c .entry) .next) (tell to kind (now (name .entry)) label))) ⌝ }
+        × (now (out .exit) ≡ mid at (recordSize (now (name .entry))) (now (out .entry)) (recordOf (now (c .entry) .next) (tell to kind (now (name .entry)) label))) ⌝ }
 {
     let id = advance(c);
     put_record(out, at, to, kind, label, name, id);
@@ -130,9 +131,9 @@ pub fn send(
     label: u64,
     name: &[u8],
 ) -> u32
-    requires { ⌜ (at + (24 + length (now name)) ≤ length (now out)) × (length (now name) ≤ 65535) ⌝ }
+    requires { ⌜ (at + recordSize (now name) ≤ length (now out)) × (length (now name) ≤ 65535) ⌝ }
     ensures { λ r. ⌜ (r ≡ nextId next)
-        × (now (out .exit) ≡ mid at (24 + length (now (name .entry))) (now (out .entry)) (recordOf next (tell to kind (now (name .entry)) label))) ⌝ }
+        × (now (out .exit) ≡ mid at (recordSize (now (name .entry))) (now (out .entry)) (recordOf next (tell to kind (now (name .entry)) label))) ⌝ }
 {
     let mut c = Counter { next };
     write_record(&mut c, out, at, to, kind, label, name);

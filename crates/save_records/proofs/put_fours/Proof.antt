@@ -6,7 +6,7 @@ use mathlib.Core.Path.{_≡_, refl, ap, _∙_}
 use mathlib.Core.List.{List, []}
 use lib.ListN.{length}
 use Rattle.meaning.specs.Octets.{four}
-use Rattle.meaning.specs.Card.{treeAt}
+use Rattle.meaning.specs.Card.{treeAt, neighbourCount}
 use Rattle.memory.specs.Memory.{cardOf}
 use Rattle.memory.proofs.Trees.{branches-length}
 use Rattle.octets.specs.Part.{mid}
@@ -18,7 +18,7 @@ use Rattle.save_records.proofs.put_four.Reads as put-four-reads
 use Rattle.memory_trees.proofs.branch.Reads as branch-reads
 
 abbrev Inv-loop : tie.InvT-loop
-Inv-loop numbers i out₀ k₀ out k = (k ≤ 16) × (length out ≡ length out₀) × ((os : List ℕ) → Rows (fourRow (treeAt i (cardOf numbers os) .branches)) 16 0 out₀ k (k * 4) out)
+Inv-loop numbers i out₀ k₀ out k = (k ≤ 16) × (length out ≡ length out₀) × ((os : List ℕ) → Rows (fourRow (treeAt i (cardOf numbers os) .branches)) neighbourCount 0 out₀ k (k * 4) out)
 
 abbrev μ-loop : tie.MeasureT-loop
 μ-loop numbers i out₀ k₀ out k = 16 - k
@@ -59,7 +59,7 @@ loop-again c =
     let l = p .before .before .before in
     let s = l .before .before .before .before in
     let v = l .before .loop .inv in
-    let next : (os : List ℕ) → Rows (fourRow (treeAt (s .args .i) (cardOf (s .args .numbers .now) os) .branches)) 16 0 (s .args .out .now) (l .before .loop .k + 1) ((l .before .loop .k + 1) * 4) (mid (l .before .loop .k * 4) (l .before .loop .k * 4 + 4 - l .before .loop .k * 4) (l .before .loop .out) (p .put-four .last .0)) =
+    let next : (os : List ℕ) → Rows (fourRow (treeAt (s .args .i) (cardOf (s .args .numbers .now) os) .branches)) neighbourCount 0 (s .args .out .now) (l .before .loop .k + 1) ((l .before .loop .k + 1) * 4) (mid (l .before .loop .k * 4) (l .before .loop .k * 4 + 4 - l .before .loop .k * 4) (l .before .loop .out) (p .put-four .last .0)) =
     λ os. fours-next (treeAt (s .args .i) (cardOf (s .args .numbers .now) os) .branches) (s .args .out .now) (branches-length _ os _ (s .pre .1)) (s .pre .3) _ _ _ (l .loop-test .taken) (v .2 os) (p .put-four .ensures ∙ ap four (p .before .branch .ensures os)) in
     (omega arith, next [] .1, next)
 
