@@ -30,7 +30,7 @@ module _ (n : ℕ) (ns : List ℕ) (p : ℕ) where
   unfolding isOfAt
   of-mapped f e = rw (f, eq-eqb _ _ e) refl
 
-  pub of-other : isFreeAt ns p ≡ false → (markUse (markAt ns p) ≡ n → ⊥) → eqb (markUse (markAt ns p)) (16 + n) ≡ isOfAt n ns p
+  pub of-other : isFreeAt ns p ≡ false → (markUse (markAt ns p) ≡ n → ⊥) → eqb (markUse (markAt ns p)) (neighbourCount + n) ≡ isOfAt n ns p
   unfolding isOfAt
   of-other f ne = rw (f, ne-eqb _ _ ne) refl
 
@@ -39,19 +39,23 @@ module _ (n : ℕ) (ns : List ℕ) (p : ℕ) where
   of-use h os =
       by-test (isFreeAt ns p)
       (λ e. rw (label-free ns p os e, of-free e) (unfold isOf in refl))
-      (λ e. by-test (ltb (markUse (markAt ns p)) 16)
+      (λ e. by-test (ltb (markUse (markAt ns p)) neighbourCount)
       (λ t. let low = ltb-true _ _ t in rw (label-mapped ns p os e low) (unfold isOf in by-test (eqb (markUse (markAt ns p)) n)
       (λ k. rw (k, of-mapped e (eqb-true _ _ k)) refl)
-      (λ k. rw k (sym (ne-eqb (markUse (markAt ns p)) (16 + n) (λ z. omega arith)) ∙ of-other e (eqb-false _ _ k)))))
-      (λ t. let high = ltb-false _ _ t in rw (label-awaiting ns p os e high) (unfold isOf in by-test (eqb (markUse (markAt ns p) - 16) n)
-      (λ k. let q = eqb-true (markUse (markAt ns p) - 16) n k in rw k (sym (eq-eqb (markUse (markAt ns p)) (16 + n) (omega arith)) ∙ of-other e (λ z. omega arith)))
-      (λ k. let q = eqb-false (markUse (markAt ns p) - 16) n k in rw k (sym (ne-eqb (markUse (markAt ns p)) (16 + n) (λ z. q (omega arith))) ∙ of-other e (λ z. omega arith))))))
+      (λ k. rw k (sym (ne-eqb (markUse (markAt ns p)) (neighbourCount + n) (λ z. omega arith)) ∙ of-other e (eqb-false _ _ k)))))
+      (λ t. let high = ltb-false _ _ t in rw (label-awaiting ns p os e high) (unfold isOf in by-test (eqb (markUse (markAt ns p) - neighbourCount) n)
+      (λ k. let q = eqb-true (markUse (markAt ns p) - neighbourCount) n k in rw k (sym (eq-eqb (markUse (markAt ns p)) (neighbourCount + n) (omega arith)) ∙ of-other e (λ z. omega arith)))
+      (λ k. let q = eqb-false (markUse (markAt ns p) - neighbourCount) n k in rw k (sym (ne-eqb (markUse (markAt ns p)) (neighbourCount + n) (λ z. q (omega arith))) ∙ of-other e (λ z. omega arith))))))
 
 -- ---- the labels from one place to another
 
 module _ (n : ℕ) where
   pub freed-none : (a : ℕ) (ns : List ℕ) → Freed n a a ns ns
   freed-none a ns = record { long = refl; rest = λ k h. refl; gone = λ q h x y o. absurd (omega arith); kept = λ q h o. (refl, refl) }
+
+  -- where all are free, nothing changes
+  pub freed-whole : (a e : ℕ) (ns : List ℕ) → ((q : ℕ) → a ≤ q → q < e → isFreeAt ns q ≡ true) → Freed n a e ns ns
+  freed-whole a e ns f = record { long = refl; rest = λ k h. refl; gone = λ q h x y o. f q x y; kept = λ q h o. (refl, refl) }
 
   -- one
   pub freed-this : (p : ℕ) (ns ms : List ℕ) → Relabelled p ns ms → isFreeAt ms p ≡ true → isOfAt n ns p ≡ true → Freed n p (p + 1) ns ms
@@ -119,7 +123,7 @@ module _ (n : ℕ) (near : n < neighbourCount) (ns ms : List ℕ) (r : Freed n 0
       held-some ns os i h (markUse (markAt ns p)) c (sym (ap mappedTo (label-mapped ns p os (its .0) (its .1)) ∙ unfold mappedTo in refl)) in
       rw (← held) (by-test (eqb (markUse (markAt ns p)) n)
       (λ k. rw k (own-none ms i p (not-mapped ms i p (unmapped-free ms p (r .gone p (out .0) (omega arith) (out .0) (of-mapped n ns p (its .0) (eqb-true _ _ k)))))))
-      (λ k. rw k (same-own (out .0) (sym (of-other n ns p (its .0) (eqb-false _ _ k)) ∙ ne-eqb (markUse (markAt ns p)) (16 + n) (λ z. omega (arith, its .1)))))))
+      (λ k. rw k (same-own (out .0) (sym (of-other n ns p (its .0) (eqb-false _ _ k)) ∙ ne-eqb (markUse (markAt ns p)) (neighbourCount + n) (λ z. omega (arith, its .1)))))))
       (λ c. rw (own-none ns i p c) (none-own c ∙ sym (no-label (eqb (heldFor (cardOf ns os) (treeAt i (cardOf ns os))) n))))
     where
       p : ℕ

@@ -1,18 +1,20 @@
 // All that is a lost neighbour's goes: its branches, its labels, the routes through it. Nothing is sent for it.
 ghost use mathlib.Core.Path.{_≡_};
+ghost use mathlib.Core.Bool.{true};
 ghost use mathlib.Core.List.{List, []};
-ghost use Prim.Native.Nat.{ℕ, _+_, _<_};
+ghost use Prim.Native.Nat.{ℕ, _+_, _*_, _≤_, _<_};
 ghost use lib.ListN.{getD, set};
 ghost use lib.Dec.{eqb};
 ghost use Rattle.meaning.specs.Octets.{pick, cut};
 ghost use Rattle.meaning.specs.Card.{noEntry, labelCount, routeLimit, treeLimit, treeAt, withBranch, withRoutes, withTrees, withLabels, neighbourCount};
 ghost use Rattle.meaning.specs.Events.{usesWithout, recounted, recountedWithout, routesWithout, parted};
-ghost use Rattle.memory.specs.Sizes.{Numbers, Names};
-ghost use Rattle.memory.specs.Memory.{cardOf, routeCount, treeCount};
+ghost use Rattle.memory.specs.Sizes.{Numbers, Names, wordCount};
+ghost use Rattle.memory.specs.Memory.{cardOf, routeCount, treeCount, isFreeAt};
 ghost use Rattle.event_parted.specs.Parted.{branchesWithout, labelsWithout, isOfAt, Freed};
 use meaning::LABEL_COUNT;
 use memory::MARK_COLUMN;
 use memory::NEIGHBOURS;
+use memory::WORD_COLUMN;
 
 // ---- branches
 
@@ -70,16 +72,40 @@ fn free_one(numbers: &mut [u64], p: usize, n: u64)
     }
 }
 
+// Whether all labels of word w are free, 64 to a word.
+fn is_whole(numbers: &[u64], w: usize) -> bool
+    requires { ⌜ Numbers (now numbers) × (w < wordCount) ⌝ }
+    ensures { λ r. ⌜ (r ≡ true → (q : ℕ) → w * 64 ≤ q → q < w * 64 + 64 → isFreeAt (now (numbers .entry)) q ≡ true) ⌝ }
+{
+    numbers[WORD_COLUMN + w] == 0xffff_ffff_ffff_ffff
+}
+
+// The labels of word w. Where all are free, none is looked at.
+fn free_word(numbers: &mut [u64], w: usize, n: u64)
+    requires { ⌜ Numbers (now numbers) × (w < wordCount) × (n < neighbourCount) ⌝ }
+    ensures { λ _. ⌜ Freed n (w * 64) (w * 64 + 64) (now (numbers .entry)) (now (numbers .exit)) ⌝ }
+{
+    if is_whole(numbers, w) {
+        return;
+    }
+    let end = w * 64 + 64;
+    let mut p = w * 64;
+    while p < end {
+        free_one(numbers, p, n);
+        p += 1;
+    }
+}
+
 // Every label of neighbour n is free at once, mapped or awaiting. A tree whose label it was has none: a free label has no carrier.
 pub fn free_labels(numbers: &mut [u64], n: u64)
     requires { ⌜ Numbers (now numbers) × (n < neighbourCount) ⌝ }
     ensures { λ _. ⌜ ((os : List ℕ) → (let c = cardOf (now (numbers .entry)) os in cardOf (now (numbers .exit)) os
         ≡ withTrees (labelsWithout n c (c .trees)) (withLabels (usesWithout n (c .labels)) c))) ⌝ }
 {
-    let mut p = 0;
-    while p < LABEL_COUNT {
-        free_one(numbers, p, n);
-        p += 1;
+    let mut w = 0;
+    while w < LABEL_COUNT / 64 {
+        free_word(numbers, w, n);
+        w += 1;
     }
 }
 

@@ -14,7 +14,7 @@ use Rattle.meaning.specs.Card.{Tree, Use, withTrees, free, withLabels, isFree, 
 use Rattle.meaning.specs.Events.{setUse}
 use Rattle.octets.specs.Part.{tab}
 use Rattle.octets.proofs.Tab.{tab-length, tab-get, tab-ext, tab-set, count-none}
-use Rattle.octets.proofs.Bits.{Says, count-word}
+use Rattle.octets.proofs.Bits.{Says, count-word, all-set}
 use Rattle.memory.specs.Sizes.{nameSpace, ownColumn, wordCount, rootOctets, labelNames, rootNames}
 use Rattle.memory.specs.Memory.{baseIn, nextIn, routeCount, treeCount, routeIn, wordAt, isFreeAt, markAt, markUse, isMappedAt, labelIn, ownPlace, carriesAt, treeIn, labelName, cardOf, Relabelled, InBlock, lastIn}
 use Rattle.memory.proofs.Memory.{treeCount-le, base-same, next-same, routes-same, tree-same, label-same, agree-refl, last-same}
@@ -43,7 +43,7 @@ module _ (ns : List ℕ) (p : ℕ) where
   unfolding mappedTo
   maps-some e h = ((λ os. rw (label-mapped ns p os e h) refl), omega arith, (λ q. absurd (omega arith)), (λ _. mapped-at ns p e h))
 
-  pub maps-other : isFreeAt ns p ≡ false → 16 ≤ markUse (markAt ns p) → MapsTo 17
+  pub maps-other : isFreeAt ns p ≡ false → neighbourCount ≤ markUse (markAt ns p) → MapsTo 17
   unfolding mappedTo
   maps-other e h = ((λ os. rw (label-awaiting ns p os e h) refl), omega arith, (λ _. unmapped-above ns p h), (λ ne. absurd (ne refl)))
 
@@ -53,45 +53,36 @@ module _ (ns os : List ℕ) (p n : ℕ) (a : List ℕ) where
   unfolding isAwaiting
   awaiting-free e = rw (label-free ns p os e) refl
 
-  awaiting-this : isFreeAt ns p ≡ false → n < neighbourCount → markUse (markAt ns p) ≡ 16 + n → isAwaiting n a (labelIn ns os p) ≡ same (labelName os p) a
+  awaiting-this : isFreeAt ns p ≡ false → n < neighbourCount → markUse (markAt ns p) ≡ neighbourCount + n → isAwaiting n a (labelIn ns os p) ≡ same (labelName os p) a
   unfolding isAwaiting
   awaiting-this t h e =
       let q : markUse (markAt ns p) - 16 ≡ n = omega arith in
-      rw (label-awaiting ns p os t (omega arith)) (rw (eq-eqb (markUse (markAt ns p) - 16) n q) refl)
+      rw (label-awaiting ns p os t (omega arith)) (rw (eq-eqb (markUse (markAt ns p) - neighbourCount) n q) refl)
 
-  awaiting-not : (markUse (markAt ns p) ≡ 16 + n → ⊥) → isAwaiting n a (labelIn ns os p) ≡ false
+  awaiting-not : (markUse (markAt ns p) ≡ neighbourCount + n → ⊥) → isAwaiting n a (labelIn ns os p) ≡ false
   unfolding isAwaiting
   awaiting-not ne =
       by-test (isFreeAt ns p)
       (λ e. rw (label-free ns p os e) refl)
       (λ e.
-      by-test (ltb (markUse (markAt ns p)) 16)
+      by-test (ltb (markUse (markAt ns p)) neighbourCount)
       (λ t. rw (label-mapped ns p os e (ltb-true _ _ t)) refl)
       (λ t.
-      let k : 16 ≤ markUse (markAt ns p) = ltb-false _ _ t in
-      rw (label-awaiting ns p os e k) (rw (ne-eqb (markUse (markAt ns p) - 16) n (λ q. ne (omega arith))) refl)))
+      let k : neighbourCount ≤ markUse (markAt ns p) = ltb-false _ _ t in
+      rw (label-awaiting ns p os e k) (rw (ne-eqb (markUse (markAt ns p) - neighbourCount) n (λ q. ne (omega arith))) refl)))
 
 -- a label of any number: its place in the block
 module _ (ns : List ℕ) (label b : ℕ) (e : b ≡ baseIn ns) where
-  pub block-under : label < b → InBlock ns label labelCount
-  block-under h = record {
-    limit = omega arith;
+  pub block-under : (p : ℕ) → label < b → labelCount ≤ p → InBlock ns label p
+  block-under p h far = record {
     inside = λ k. absurd (omega arith);
     outside = λ _ os. unfold useOf cardOf in rw (lt-leb (baseIn ns) label (rw e at h)) refl;
   }
 
-  pub block-above : b ≤ label → labelCount ≤ label - b → InBlock ns label labelCount
-  block-above h k = record {
-    limit = omega arith;
-    inside = λ k. absurd (omega arith);
-    outside = λ _ os. unfold useOf cardOf in rw (le-leb (baseIn ns) label (rw e at h)) (getD-out (tab labelCount (labelIn ns os)) (label - baseIn ns) free (rw tab-length (rw e at k)));
-  }
-
-  pub block-at : b ≤ label → label - b < labelCount → InBlock ns label (label - b)
-  block-at h k = record {
-    limit = omega arith;
+  pub block-from : b ≤ label → InBlock ns label (label - b)
+  block-from h = record {
     inside = λ _. omega arith;
-    outside = λ far os. absurd (omega arith);
+    outside = λ k os. unfold useOf cardOf in rw (le-leb (baseIn ns) label (rw e at h)) (getD-out (tab labelCount (labelIn ns os)) (label - baseIn ns) free (rw tab-length (rw e at k)));
   }
 
 -- and what it is used for
@@ -115,10 +106,10 @@ module _ (ns os : List ℕ) (label p : ℕ) (r : InBlock ns label p) where
   pub awaits-free : (n : ℕ) (a : List ℕ) → p < labelCount → isFreeAt ns p ≡ true → Awaits n a false
   awaits-free n a h f = (rw (use-at h) (sym (awaiting-free ns os p n a f)), λ z. absurd (never z))
 
-  pub awaits-not : (n : ℕ) (a : List ℕ) → p < labelCount → (markUse (markAt ns p) ≡ 16 + n → ⊥) → Awaits n a false
+  pub awaits-not : (n : ℕ) (a : List ℕ) → p < labelCount → (markUse (markAt ns p) ≡ neighbourCount + n → ⊥) → Awaits n a false
   awaits-not n a h ne = (rw (use-at h) (sym (awaiting-not ns os p n a ne)), λ z. absurd (never z))
 
-  pub awaits-same : (n : ℕ) (a : List ℕ) (b : Bool) → p < labelCount → isFreeAt ns p ≡ false → n < neighbourCount → markUse (markAt ns p) ≡ 16 + n → b ≡ same (labelName os p) a → Awaits n a b
+  pub awaits-same : (n : ℕ) (a : List ℕ) (b : Bool) → p < labelCount → isFreeAt ns p ≡ false → n < neighbourCount → markUse (markAt ns p) ≡ neighbourCount + n → b ≡ same (labelName os p) a → Awaits n a b
   awaits-same n a b h t n16 m s =
       let at : label ≡ baseIn ns + p = r .inside h in
       let back : label - baseIn ns ≡ p = omega arith in
@@ -130,7 +121,11 @@ pub count-start : (ns os : List ℕ) → freeLabels (cardOf ns os) ≡ 0 + count
 unfolding freeLabels cardOf
 count-start ns os = omega arith
 
--- by words: each says which of its 64 labels are free
+-- by words: each says which of its 64 labels are free; with all its bits set, all are
+
+pub word-free : (ns : List ℕ) (w : ℕ) → wordAt ns w ≡ 18446744073709551615 → (p : ℕ) → p / 64 ≡ w → isFreeAt ns p ≡ true
+unfolding isFreeAt
+word-free ns w h p e = rw (e, h) (all-set (p % 64) (omega arith))
 
 pub says : (ns os : List ℕ) (w : ℕ) → w < wordCount → Says isFree labelCount (labelIn ns os) 64 (w * 64) (wordAt ns w)
 unfolding isFreeAt
@@ -200,11 +195,11 @@ module _ (ns : List ℕ) (p : ℕ) (os : List ℕ) where
   unfolding mappedTo
   mapped-is m = let u = mapped-use ns p m in rw (label-mapped ns p os (u .0) (u .1)) refl
 
-  pub awaits-use : isFreeAt ns p ≡ false → isMappedAt ns p ≡ false → 16 ≤ markUse (markAt ns p)
+  pub awaits-use : isFreeAt ns p ≡ false → isMappedAt ns p ≡ false → neighbourCount ≤ markUse (markAt ns p)
   awaits-use e m =
-      by-test (ltb (markUse (markAt ns p)) 16)
+      by-test (ltb (markUse (markAt ns p)) neighbourCount)
       (λ t. absurd (let z : _≡_ {A = Bool} false true = sym m ∙ mapped-at ns p e (ltb-true _ _ t) in let z′ : _≡_ {A = ℕ} 0 1 = cc in omega arith))
       (λ t. ltb-false _ _ t)
 
-  pub awaited-is : isFreeAt ns p ≡ false → isMappedAt ns p ≡ false → labelIn ns os p ≡ awaiting (markUse (markAt ns p) - 16) (labelName os p)
+  pub awaited-is : isFreeAt ns p ≡ false → isMappedAt ns p ≡ false → labelIn ns os p ≡ awaiting (markUse (markAt ns p) - neighbourCount) (labelName os p)
   awaited-is e m = label-awaiting ns p os e (awaits-use e m)

@@ -24,20 +24,20 @@ never e = let z : _≡_ {A = ℕ} 0 1 = cc in omega arith
 module _ (ns : List ℕ) (p : ℕ) where
   pub mapped-at : isFreeAt ns p ≡ false → markUse (markAt ns p) < neighbourCount → isMappedAt ns p ≡ true
   unfolding isMappedAt
-  mapped-at e k = rw (e, lt-ltb (markUse (markAt ns p)) 16 k) refl
+  mapped-at e k = rw (e, lt-ltb (markUse (markAt ns p)) neighbourCount k) refl
 
   pub mapped-use : isMappedAt ns p ≡ true → (isFreeAt ns p ≡ false) × (markUse (markAt ns p) < neighbourCount)
   unfolding isMappedAt
-  mapped-use e = let b = both (not (isFreeAt ns p)) (ltb (markUse (markAt ns p)) 16) e in (not-true _ (b .0), ltb-true _ _ (b .1))
+  mapped-use e = let b = both (not (isFreeAt ns p)) (ltb (markUse (markAt ns p)) neighbourCount) e in (not-true _ (b .0), ltb-true _ _ (b .1))
 
   -- not mapped: free, or from 16 on
   pub unmapped-free : isFreeAt ns p ≡ true → isMappedAt ns p ≡ false
   unfolding isMappedAt
   unmapped-free e = rw e refl
 
-  pub unmapped-above : 16 ≤ markUse (markAt ns p) → isMappedAt ns p ≡ false
+  pub unmapped-above : neighbourCount ≤ markUse (markAt ns p) → isMappedAt ns p ≡ false
   unfolding isMappedAt
-  unmapped-above h = by-test (isFreeAt ns p) (λ e. rw e refl) (λ e. rw (e, le-ltb (markUse (markAt ns p)) 16 h) refl)
+  unmapped-above h = by-test (isFreeAt ns p) (λ e. rw e refl) (λ e. rw (e, le-ltb (markUse (markAt ns p)) neighbourCount h) refl)
 
   module _ (os : List ℕ) where
     pub label-free : isFreeAt ns p ≡ true → labelIn ns os p ≡ free
@@ -46,18 +46,18 @@ module _ (ns : List ℕ) (p : ℕ) where
 
     pub label-mapped : isFreeAt ns p ≡ false → markUse (markAt ns p) < neighbourCount → labelIn ns os p ≡ mapped (markUse (markAt ns p)) (labelName os p)
     unfolding labelIn useIn
-    label-mapped e k = rw (e, lt-ltb (markUse (markAt ns p)) 16 k) refl
+    label-mapped e k = rw (e, lt-ltb (markUse (markAt ns p)) neighbourCount k) refl
 
-    pub label-awaiting : isFreeAt ns p ≡ false → 16 ≤ markUse (markAt ns p) → labelIn ns os p ≡ awaiting (markUse (markAt ns p) - 16) (labelName os p)
+    pub label-awaiting : isFreeAt ns p ≡ false → neighbourCount ≤ markUse (markAt ns p) → labelIn ns os p ≡ awaiting (markUse (markAt ns p) - neighbourCount) (labelName os p)
     unfolding labelIn useIn
-    label-awaiting e h = rw (e, le-ltb (markUse (markAt ns p)) 16 h) refl
+    label-awaiting e h = rw (e, le-ltb (markUse (markAt ns p)) neighbourCount h) refl
 
     pub free-in : isFree (labelIn ns os p) ≡ isFreeAt ns p
     free-in =
         by-test (isFreeAt ns p)
         (λ e. rw (label-free e, e) (unfold isFree in refl))
         (λ e.
-        by-test (ltb (markUse (markAt ns p)) 16)
+        by-test (ltb (markUse (markAt ns p)) neighbourCount)
         (λ t. rw (label-mapped e (ltb-true _ _ t), e) (unfold isFree in refl))
         (λ t. rw (label-awaiting e (ltb-false _ _ t), e) (unfold isFree in refl)))
 
@@ -67,7 +67,7 @@ module _ (ns : List ℕ) (p : ℕ) where
         by-test (isFreeAt ns p)
         (λ e. f (label-free e))
         (λ e.
-        by-test (ltb (markUse (markAt ns p)) 16)
+        by-test (ltb (markUse (markAt ns p)) neighbourCount)
         (λ t. m _ (ltb-true _ _ t) (label-mapped e (ltb-true _ _ t)))
         (λ t. a _ (label-awaiting e (ltb-false _ _ t))))
 

@@ -124,7 +124,7 @@ module _ (ns os : List ℕ) (i : ℕ) (h : i < treeCount ns) where
 
   pub held-none : carriesAt ns i (ownPlace ns i) ≡ false → 17 ≡ heldFor (cardOf ns os) (treeAt i (cardOf ns os))
   unfolding heldFor
-  held-none c = rw (← label-none ns os i h c) (maps-out ns os 0 labelCount (block-under ns 0 (baseIn ns) refl (omega (arith, base-range ns))) (omega arith))
+  held-none c = rw (← label-none ns os i h c) (maps-out ns os 0 labelCount (block-under ns 0 (baseIn ns) refl labelCount (omega (arith, base-range ns)) (omega arith)) (omega arith))
 
 -- ---- the tree that carries a label
 

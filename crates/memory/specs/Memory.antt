@@ -147,9 +147,8 @@ pub record Relabelled (p : ℕ) (ns ms : List ℕ) : Type 0 where
 
 -- ---- a label of any number
 
--- p is its place in the block; labelCount where it is not of the block, and then it is used for nothing
+-- p is its place in the block; labelCount or more where it is not of the block, and then it is used for nothing
 pub record InBlock (ns : List ℕ) (label p : ℕ) : Type 0 where
-  pub limit : p ≤ labelCount
   pub inside : p < labelCount → label ≡ baseIn ns + p
   pub outside : labelCount ≤ p → (os : List ℕ) → useOf label (cardOf ns os) ≡ free
 

@@ -12,7 +12,6 @@ use meaning::LABEL_COUNT;
 use meaning::NAME_LIMIT;
 use memory::FOURTH_WORD;
 use memory::LABEL_NAMES;
-use memory::LABELS;
 use memory::MARK_COLUMN;
 use memory::NAME_SPACE;
 use memory::NEIGHBOURS;
@@ -67,16 +66,12 @@ pub fn awaited_at(numbers: &[u64], p: usize) -> u64
     numbers[MARK_COLUMN + p] % 256 - NEIGHBOURS
 }
 
-// The place of a label in the block; 256 where it is not of the block. One test: of a label below the base the difference wraps far above.
+// The place of a label in the block; LABEL_COUNT or more where it is not of the block: of a label below the base the difference wraps far above.
 pub fn place_in_block(numbers: &[u64], label: u64) -> usize
     requires { ⌜ Numbers (now numbers) ⌝ }
     ensures { λ r. ⌜ InBlock (now (numbers .entry)) label r ⌝ }
 {
-    let d = std::num::wrapping_sub_u64(label, memory::base(numbers));
-    if LABELS <= d {
-        return LABEL_COUNT;
-    }
-    d as usize
+    std::num::wrapping_sub_u64(label, memory::base(numbers)) as usize
 }
 
 pub fn label_name(names: &[u8], p: usize) -> &[u8]

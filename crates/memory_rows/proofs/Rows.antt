@@ -15,7 +15,7 @@ use Rattle.meaning.specs.Card.{free, labelCount, fresh, withTrees, bare, treeLi
 use Rattle.meaning.specs.Events.{baseOutside}
 use Rattle.octets.specs.Part.{tab}
 use Rattle.octets.proofs.Tab.{tab-ext, tab-snoc, tab-cut}
-use Rattle.octets.proofs.Bits.{all-set}
+use Rattle.memory.proofs.Labels.{word-free}
 use Rattle.memory.specs.Sizes.{nameSpace, ownColumn, rowWidth, rowColumn, branchColumn, markColumn, wordColumn, wordCount, Numbers, noLabel, turnPlace}
 use Rattle.memory.specs.Parts.{Written, Closed}
 use Rattle.memory.specs.Memory.{upTo, textAt, treeName, baseIn, nextIn, routeCount, treeCount, routeIn, wordAt, isFreeAt, labelIn, ownPlace, ownLabel, treeIn, cardOf, turnIn, lastIn, labelBefore}
@@ -63,8 +63,7 @@ words ns v a b c d (suc (suc (suc (suc w)))) h = absurd (omega arith)
 
 -- all set: every label is free
 all-free : (ns : List ℕ) → ((w : ℕ) → w < wordCount → wordAt ns w ≡ 18446744073709551615) → (p : ℕ) → p < labelCount → isFreeAt ns p ≡ true
-unfolding isFreeAt
-all-free ns h p lt = rw (h (p / 64) (omega arith)) (all-set (p % 64) (omega arith))
+all-free ns h p lt = word-free ns (p / 64) (h (p / 64) (omega arith)) p refl
 
 abbrev pub full : ℕ → List ℕ → List ℕ
 full v ns = set (set (set (set ns wordColumn v) (wordColumn + 1) v) (wordColumn + 2) v) (wordColumn + 3) v
