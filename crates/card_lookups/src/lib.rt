@@ -9,6 +9,8 @@ ghost use Rattle.meaning.specs.Calls.{feedIn};
 use meaning::LABEL_COUNT;
 use meaning::NEIGHBOUR_COUNT;
 use memory::NEIGHBOURS;
+use memory::NUMBER_COUNT;
+use memory::OCTET_COUNT;
 
 // Where the tree at place i leads while u is its upstream, whose own branch is held. The one place is cleared where the row
 // was laid, and nothing is read again: a load behind a store to a part of what it loads would wait for that store.
