@@ -147,24 +147,6 @@ module _ {ℓ} {A : Type ℓ} where
 
 -- ---- a part copied to another place
 
-copy-more : (s e : List ℕ) (from to i : ℕ) → from + 8 ≤ length s → to + 8 ≤ length s → i < 8 → e ≡ mid to i s (take i (drop from s)) → set e (to + i) (getD s (from + i) 0) ≡ mid to (i + 1) s (take (i + 1) (drop from s))
-copy-more s e from to i h k l p =
-    mid-more (drop from s) s e 0 (getD s (from + i) 0) to i (simp length-drop (omega arith)) (omega arith) p (sym (getD-drop from s i 0))
-
--- eight stores, one after the other
-pub copy-eight : (s : List ℕ) (from to : ℕ) → from + 8 ≤ length s → to + 8 ≤ length s → set (set (set (set (set (set (set (set s to (getD s from 0)) (to + 1) (getD s (from + 1) 0)) (to + 2) (getD s (from + 2) 0)) (to + 3) (getD s (from + 3) 0)) (to + 4) (getD s (from + 4) 0)) (to + 5) (getD s (from + 5) 0)) (to + 6) (getD s (from + 6) 0)) (to + 7) (getD s (from + 7) 0) ≡ mid to 8 s (take 8 (drop from s))
-copy-eight s from to h k =
-    let p : to ≡ to + 0 = omega arith in
-    let q : from ≡ from + 0 = omega arith in
-    let e1 : set s to (getD s from 0) ≡ mid to 1 s (take 1 (drop from s)) = ap₂ (λ (a b : ℕ). set s a (getD s b 0)) p q ∙ copy-more s s from to 0 h k (omega arith) (mid-none to s) in
-    let e2 = copy-more s _ from to 1 h k (omega arith) e1 in
-    let e3 = copy-more s _ from to 2 h k (omega arith) e2 in
-    let e4 = copy-more s _ from to 3 h k (omega arith) e3 in
-    let e5 = copy-more s _ from to 4 h k (omega arith) e4 in
-    let e6 = copy-more s _ from to 5 h k (omega arith) e5 in
-    let e7 = copy-more s _ from to 6 h k (omega arith) e6 in
-    copy-more s _ from to 7 h k (omega arith) e7
-
 -- a part behind one that was copied: what it is copied from stands as it was
 unmoved : (s ys : List ℕ) (to i from k : ℕ) → from + k ≤ to → to + i ≤ length s → length ys ≡ i → take k (drop from (mid to i s ys)) ≡ take k (drop from s)
 unmoved s ys to i from k h l e =
@@ -198,10 +180,14 @@ eight-of s i h =
     (rw (first-of s i (i + 1) 7 refl (omega arith), first-of s (i + 1) (i + 2) 6 (omega arith) (omega arith), first-of s (i + 2) (i + 3) 5 (omega arith) (omega arith), first-of s (i + 3) (i + 4) 4 (omega arith) (omega arith), first-of s (i + 4) (i + 5) 3 (omega arith) (omega arith), first-of s (i + 5) (i + 6) 2 (omega arith) (omega arith), first-of s (i + 6) (i + 7) 1 (omega arith) (omega arith), first-of s (i + 7) (i + 8) 0 (omega arith) (omega arith))
     refl)
 
-pub eight-laid : (d e src : List ℕ) (i n : ℕ) → n ≡ 8 → i + 8 ≤ length src
-    → e ≡ getD src i 0 ∷ getD src (i + 1) 0 ∷ getD src (i + 2) 0 ∷ getD src (i + 3) 0 ∷ getD src (i + 4) 0 ∷ getD src (i + 5) 0 ∷ getD src (i + 6) 0 ∷ getD src (i + 7) 0 ∷ []
-    → mid i n d e ≡ mid i 8 d (take 8 (drop i src))
-eight-laid d e src i n q h is = let all : e ≡ take 8 (drop i src) = is ∙ eight-of src i h in rw (q, all) refl
+pub eight-laid : (d e src : List ℕ) (t f : ℕ) → f + 8 ≤ length src
+    → e ≡ mid t 8 d (getD src f 0 ∷ getD src (f + 1) 0 ∷ getD src (f + 2) 0 ∷ getD src (f + 3) 0 ∷ getD src (f + 4) 0 ∷ getD src (f + 5) 0 ∷ getD src (f + 6) 0 ∷ getD src (f + 7) 0 ∷ [])
+    → e ≡ mid t 8 d (take 8 (drop f src))
+eight-laid d e src t f h p = p ∙ ap (mid t 8 d) (eight-of src f h)
+
+-- a part whose length is written as a difference
+pub mid-put : (t n k : ℕ) (d e l : List ℕ) → n ≡ k → e ≡ l → mid t n d e ≡ mid t k d l
+mid-put t n k d e l p y = rw (p, y) refl
 
 -- d is src as far as place m
 pub record Laid (m : ℕ) (src d : List ℕ) : Type 0 where

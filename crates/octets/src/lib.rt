@@ -1,6 +1,7 @@
 // Slices of octets and of numbers: every loop over them lives here. A caller lends the part that it means, `&mut s[a..e]`.
 ghost use mathlib.Core.Path.{_≡_};
 ghost use Prim.Native.Nat.{ℕ, _+_, _-_, _≤_, _<_};
+ghost use mathlib.Core.List.{[], _∷_};
 ghost use lib.ListN.{length, take, drop, getD, replicate};
 ghost use Rattle.meaning.specs.Octets.{same, twoAt, fourAt};
 ghost use Rattle.octets.specs.Part.{mid, shifted};
@@ -105,13 +106,24 @@ pub fn copy(dst: &mut [u8], src: &[u8])
     }
 }
 
-// Eight octets from a place of one slice to the same place of another, all read before one is written: one load and one store when
-// compiled.
+// Eight octets, all read before, from a place of a slice on: one store when compiled.
+fn put_eight(s: &mut [u8], i: usize, a: u8, b: u8, c: u8, d: u8, e: u8, f: u8, g: u8, h: u8)
+    requires { ⌜ i + 8 ≤ length (now s) ⌝ }
+    ensures { λ _. ⌜ now (s .exit) ≡ mid i 8 (now (s .entry)) (a ∷ b ∷ c ∷ d ∷ e ∷ f ∷ g ∷ h ∷ []) ⌝ }
+{
+    let end = i + 8;
+    copy(&mut s[i..end], &[a, b, c, d, e, f, g, h]);
+}
+
+// Eight octets from a place of one slice to the same place of another, and from one place of a slice to another: one load and one store
+// when compiled.
 fn lay_eight(dst: &mut [u8], src: &[u8], i: usize)
     requires { ⌜ (i + 8 ≤ length (now dst)) × (i + 8 ≤ length (now src)) ⌝ }
     ensures { λ _. ⌜ now (dst .exit) ≡ mid i 8 (now (dst .entry)) (take 8 (drop i (now (src .entry)))) ⌝ }
 {
-    let eight = [
+    put_eight(
+        dst,
+        i,
         src[i],
         src[i + 1],
         src[i + 2],
@@ -120,9 +132,7 @@ fn lay_eight(dst: &mut [u8], src: &[u8], i: usize)
         src[i + 5],
         src[i + 6],
         src[i + 7],
-    ];
-    let e = i + 8;
-    copy(&mut dst[i..e], &eight);
+    );
 }
 
 // The same as `copy`, for a text whose length nobody foresees: by eights, of which the last goes over some that are there already, where
@@ -155,7 +165,6 @@ pub fn copy_numbers(dst: &mut [u64], src: &[u64])
     }
 }
 
-// Eight octets from one place of a slice to another, all read before one is written: one load and one store when compiled.
 fn copy_eight(s: &mut [u8], from: usize, to: usize)
     requires { ⌜ (from + 8 ≤ length (now s)) × (to + 8 ≤ length (now s)) ⌝ }
     ensures { λ _. ⌜ now (s .exit) ≡ mid to 8 (now (s .entry)) (take 8 (drop from (now (s .entry)))) ⌝ }
@@ -168,14 +177,7 @@ fn copy_eight(s: &mut [u8], from: usize, to: usize)
     let f = s[from + 5];
     let g = s[from + 6];
     let h = s[from + 7];
-    s[to] = a;
-    s[to + 1] = b;
-    s[to + 2] = c;
-    s[to + 3] = d;
-    s[to + 4] = e;
-    s[to + 5] = f;
-    s[to + 6] = g;
-    s[to + 7] = h;
+    put_eight(s, to, a, b, c, d, e, f, g, h);
 }
 
 fn copy_few(s: &mut [u8], from: usize, to: usize, n: usize)

@@ -1,12 +1,8 @@
 use native.Mathlib.Omega.{arith}
-use mathlib.Core.Path.{refl}
-use lib.ListN.{length-set}
 use borrow.Author.Needs.{needs}
-use Rattle.octets.proofs.Parts.{copy-eight}
+use Rattle.octets.proofs.Parts.{eight-laid}
 use Rattle.octets.proofs.copy_eight.Statement.{statement}
 use Rattle.octets.proofs.copy_eight.Tie as tie
-use Rattle.octets.proofs.copy_eight.Reads as reads
-use Rattle.octets.proofs.copy_eight.Lts as lts
 
 slice-read-a : tie.Need-slice-read-a
 slice-read-a c = search needs
@@ -53,58 +49,16 @@ add-h c = search needs
 slice-read-h : tie.Need-slice-read-h
 slice-read-h c = search needs
 
-slice-write-s : tie.Need-slice-write-s
-slice-write-s c = search needs
-
-add-s : tie.Need-add-s
-add-s c = search needs
-
-slice-write-s-2 : tie.Need-slice-write-s-2
-slice-write-s-2 c = simp length-set (omega arith)
-
-add-s-2 : tie.Need-add-s-2
-add-s-2 c = search needs
-
-slice-write-s-3 : tie.Need-slice-write-s-3
-slice-write-s-3 c = simp length-set (omega arith)
-
-add-s-3 : tie.Need-add-s-3
-add-s-3 c = search needs
-
-slice-write-s-4 : tie.Need-slice-write-s-4
-slice-write-s-4 c = simp length-set (omega arith)
-
-add-s-4 : tie.Need-add-s-4
-add-s-4 c = search needs
-
-slice-write-s-5 : tie.Need-slice-write-s-5
-slice-write-s-5 c = simp length-set (omega arith)
-
-add-s-5 : tie.Need-add-s-5
-add-s-5 c = search needs
-
-slice-write-s-6 : tie.Need-slice-write-s-6
-slice-write-s-6 c = simp length-set (omega arith)
-
-add-s-6 : tie.Need-add-s-6
-add-s-6 c = search needs
-
-slice-write-s-7 : tie.Need-slice-write-s-7
-slice-write-s-7 c = simp length-set (omega arith)
-
-add-s-7 : tie.Need-add-s-7
-add-s-7 c = search needs
-
-slice-write-s-8 : tie.Need-slice-write-s-8
-slice-write-s-8 c = simp length-set (omega arith)
+put-eight-requires : tie.Need-put-eight-requires
+put-eight-requires c κs = search needs
 
 same-length : tie.Need-same-length
-same-length c = simp length-set refl
+same-length c = search needs
 
 returns : tie.Need-returns
 returns c =
-    let a = c .before .before .before .before .before .before .before .before .args in
-    copy-eight (a .s .now) (a .from) (a .to) (omega arith) (omega arith)
+    let s = c .before .before .before .before .before .before .before .before .before .before .before .before .before in
+    eight-laid (s .args .s .now) _ (s .args .s .now) (s .args .to) (s .args .from) (s .pre .0) (c .before .before .put-eight .ensures)
 
 pub copy-eight-spec : {M : Type 1} → statement M
 copy-eight-spec =
@@ -125,20 +79,6 @@ copy-eight-spec =
     slice-read-g
     add-h
     slice-read-h
-    slice-write-s
-    add-s
-    slice-write-s-2
-    add-s-2
-    slice-write-s-3
-    add-s-3
-    slice-write-s-4
-    add-s-4
-    slice-write-s-5
-    add-s-5
-    slice-write-s-6
-    add-s-6
-    slice-write-s-7
-    add-s-7
-    slice-write-s-8
+    put-eight-requires
     same-length
     returns)
