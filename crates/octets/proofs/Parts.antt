@@ -173,17 +173,12 @@ copied-more s e from to i k h l p =
 first-of : (s : List ℕ) (i j k : ℕ) → j ≡ i + 1 → i < length s → take (suc k) (drop i s) ≡ getD s i 0 ∷ take k (drop j s)
 first-of s i j k e h = rw (drop-cons s i 0 h, e, add-one i) refl
 
-eight-of : (s : List ℕ) (i : ℕ) → i + 8 ≤ length s
+pub eight-of : (s : List ℕ) (i : ℕ) → i + 8 ≤ length s
     → (getD s i 0 ∷ getD s (i + 1) 0 ∷ getD s (i + 2) 0 ∷ getD s (i + 3) 0 ∷ getD s (i + 4) 0 ∷ getD s (i + 5) 0 ∷ getD s (i + 6) 0 ∷ getD s (i + 7) 0 ∷ []) ≡ take 8 (drop i s)
 eight-of s i h =
     sym
     (rw (first-of s i (i + 1) 7 refl (omega arith), first-of s (i + 1) (i + 2) 6 (omega arith) (omega arith), first-of s (i + 2) (i + 3) 5 (omega arith) (omega arith), first-of s (i + 3) (i + 4) 4 (omega arith) (omega arith), first-of s (i + 4) (i + 5) 3 (omega arith) (omega arith), first-of s (i + 5) (i + 6) 2 (omega arith) (omega arith), first-of s (i + 6) (i + 7) 1 (omega arith) (omega arith), first-of s (i + 7) (i + 8) 0 (omega arith) (omega arith))
     refl)
-
-pub eight-laid : (d e src : List ℕ) (t f : ℕ) → f + 8 ≤ length src
-    → e ≡ mid t 8 d (getD src f 0 ∷ getD src (f + 1) 0 ∷ getD src (f + 2) 0 ∷ getD src (f + 3) 0 ∷ getD src (f + 4) 0 ∷ getD src (f + 5) 0 ∷ getD src (f + 6) 0 ∷ getD src (f + 7) 0 ∷ [])
-    → e ≡ mid t 8 d (take 8 (drop f src))
-eight-laid d e src t f h p = p ∙ ap (mid t 8 d) (eight-of src f h)
 
 -- a part whose length is written as a difference
 pub mid-put : (t n k : ℕ) (d e l : List ℕ) → n ≡ k → e ≡ l → mid t n d e ≡ mid t k d l

@@ -106,33 +106,49 @@ pub fn copy(dst: &mut [u8], src: &[u8])
     }
 }
 
-// Eight octets, all read before, from a place of a slice on: one store when compiled.
-fn put_eight(s: &mut [u8], i: usize, a: u8, b: u8, c: u8, d: u8, e: u8, f: u8, g: u8, h: u8)
-    requires { ⌜ i + 8 ≤ length (now s) ⌝ }
-    ensures { λ _. ⌜ now (s .exit) ≡ mid i 8 (now (s .entry)) (a ∷ b ∷ c ∷ d ∷ e ∷ f ∷ g ∷ h ∷ []) ⌝ }
-{
-    let end = i + 8;
-    copy(&mut s[i..end], &[a, b, c, d, e, f, g, h]);
+// Eight octets that are copied at once: all are read before one is written, which is one load and one store when compiled.
+struct Eight {
+    a: u8,
+    b: u8,
+    c: u8,
+    d: u8,
+    e: u8,
+    f: u8,
+    g: u8,
+    h: u8,
 }
 
-// Eight octets from a place of one slice to the same place of another, and from one place of a slice to another: one load and one store
-// when compiled.
+fn eight_at(s: &[u8], i: usize) -> Eight
+    requires { ⌜ i + 8 ≤ length (now s) ⌝ }
+    ensures { λ r. ⌜ (r .a ∷ r .b ∷ r .c ∷ r .d ∷ r .e ∷ r .f ∷ r .g ∷ r .h ∷ []) ≡ take 8 (drop i (now (s .entry))) ⌝ }
+{
+    Eight {
+        a: s[i],
+        b: s[i + 1],
+        c: s[i + 2],
+        d: s[i + 3],
+        e: s[i + 4],
+        f: s[i + 5],
+        g: s[i + 6],
+        h: s[i + 7],
+    }
+}
+
+fn put_eight(s: &mut [u8], i: usize, x: Eight)
+    requires { ⌜ i + 8 ≤ length (now s) ⌝ }
+    ensures { λ _. ⌜ now (s .exit) ≡ mid i 8 (now (s .entry)) (x .a ∷ x .b ∷ x .c ∷ x .d ∷ x .e ∷ x .f ∷ x .g ∷ x .h ∷ []) ⌝ }
+{
+    let end = i + 8;
+    copy(&mut s[i..end], &[x.a, x.b, x.c, x.d, x.e, x.f, x.g, x.h]);
+}
+
+// From a place of one slice to the same place of another, and from one place of a slice to another.
 fn lay_eight(dst: &mut [u8], src: &[u8], i: usize)
     requires { ⌜ (i + 8 ≤ length (now dst)) × (i + 8 ≤ length (now src)) ⌝ }
     ensures { λ _. ⌜ now (dst .exit) ≡ mid i 8 (now (dst .entry)) (take 8 (drop i (now (src .entry)))) ⌝ }
 {
-    put_eight(
-        dst,
-        i,
-        src[i],
-        src[i + 1],
-        src[i + 2],
-        src[i + 3],
-        src[i + 4],
-        src[i + 5],
-        src[i + 6],
-        src[i + 7],
-    );
+    let x = eight_at(src, i);
+    put_eight(dst, i, x);
 }
 
 // The same as `copy`, for a text whose length nobody foresees: by eights, of which the last goes over some that are there already, where
@@ -169,15 +185,8 @@ fn copy_eight(s: &mut [u8], from: usize, to: usize)
     requires { ⌜ (from + 8 ≤ length (now s)) × (to + 8 ≤ length (now s)) ⌝ }
     ensures { λ _. ⌜ now (s .exit) ≡ mid to 8 (now (s .entry)) (take 8 (drop from (now (s .entry)))) ⌝ }
 {
-    let a = s[from];
-    let b = s[from + 1];
-    let c = s[from + 2];
-    let d = s[from + 3];
-    let e = s[from + 4];
-    let f = s[from + 5];
-    let g = s[from + 6];
-    let h = s[from + 7];
-    put_eight(s, to, a, b, c, d, e, f, g, h);
+    let x = eight_at(s, from);
+    put_eight(s, to, x);
 }
 
 fn copy_few(s: &mut [u8], from: usize, to: usize, n: usize)
