@@ -1,7 +1,7 @@
 // Trees in the card's memory: what is asked of them, and what changes in one place.
 ghost use mathlib.Core.Path.{_≡_};
 ghost use mathlib.Core.Bool.{true, false};
-ghost use mathlib.Core.List.{List};
+ghost use mathlib.Core.List.{List, [], _∷_};
 ghost use mathlib.Core.Logic.{_⊎_};
 ghost use Prim.Native.Nat.{ℕ, _+_, _*_, _-_, _≤_, _<_};
 ghost use lib.ListN.{length, getD, set};
@@ -9,6 +9,7 @@ ghost use Rattle.meaning.specs.Octets.{pick, place, any, count, same};
 ghost use Rattle.meaning.specs.Wire.{nameLimit};
 ghost use Rattle.meaning.specs.Card.{withTrees, withBranch, withLeaf, treePlace, treeAt, isBranch, useOf, heldFor, carries, labelCount, treeLimit, neighbourCount};
 ghost use Rattle.meaning.specs.Events.{setUse, setLabel, ended};
+ghost use Rattle.octets.specs.Part.{tab};
 ghost use Rattle.memory.specs.Sizes.{Numbers, Names, nameSpace};
 ghost use Rattle.memory.specs.Memory.{cardOf, baseIn, treeCount, treeName, isMappedAt, carriesAt, ownPlace};
 use meaning::NAME_LIMIT;
@@ -74,29 +75,53 @@ pub fn branch(numbers: &[u64], i: usize, n: usize) -> u64
     numbers[BRANCH_COLUMN + i * ROW_WIDTH + n]
 }
 
+// Four numbers that stand one after the other.
+struct Four {
+    a: u64,
+    b: u64,
+    c: u64,
+    d: u64,
+}
+
+fn four_at(numbers: &[u64], i: usize) -> Four
+    requires { ⌜ i + 4 ≤ length (now numbers) ⌝ }
+    ensures { λ r. ⌜ (r .a ∷ r .b ∷ r .c ∷ r .d ∷ []) ≡ tab 4 (λ n. getD (now (numbers .entry)) (i + n) 0) ⌝ }
+{
+    Four {
+        a: numbers[i + 0],
+        b: numbers[i + 1],
+        c: numbers[i + 2],
+        d: numbers[i + 3],
+    }
+}
+
 // The sixteen branches, all read before the caller writes one: so a lookup makes no copy on the way to the lent array.
 pub fn branches(numbers: &[u64], i: usize) -> [u64; NEIGHBOUR_COUNT]
     requires { ⌜ Numbers (now numbers) × (i < treeCount (now numbers)) × (i < treeLimit) ⌝ }
     ensures { λ r. ⌜ ((os : List ℕ) → r ≡ treeAt i (cardOf (now (numbers .entry)) os) .branches) ⌝ }
 {
     let a = BRANCH_COLUMN + i * ROW_WIDTH;
+    let p = four_at(numbers, a);
+    let q = four_at(numbers, a + 4);
+    let r = four_at(numbers, a + 8);
+    let s = four_at(numbers, a + 12);
     [
-        numbers[a + 0],
-        numbers[a + 1],
-        numbers[a + 2],
-        numbers[a + 3],
-        numbers[a + 4],
-        numbers[a + 5],
-        numbers[a + 6],
-        numbers[a + 7],
-        numbers[a + 8],
-        numbers[a + 9],
-        numbers[a + 10],
-        numbers[a + 11],
-        numbers[a + 12],
-        numbers[a + 13],
-        numbers[a + 14],
-        numbers[a + 15],
+        p.a,
+        p.b,
+        p.c,
+        p.d,
+        q.a,
+        q.b,
+        q.c,
+        q.d,
+        r.a,
+        r.b,
+        r.c,
+        r.d,
+        s.a,
+        s.b,
+        s.c,
+        s.d,
     ]
 }
 
