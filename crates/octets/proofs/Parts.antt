@@ -168,6 +168,12 @@ copied-more s e from to i k h l p =
     ∙ mid-mid to i k (to + i) (i + k) s ys (take k (drop (from + i) (mid to i s ys))) (omega arith) y refl refl
     ∙ ap (mid to (i + k) s) (ap (λ (x : List ℕ). ys ++ x) z ∙ sym (take-add i k (drop from s)))
 
+-- and the last of n
+pub copied-all : (s e x : List ℕ) (from to i n : ℕ) → i ≤ n → from + n ≤ to → to + n ≤ length s → e ≡ mid to i s (take i (drop from s)) → x ≡ mid (to + i) (n - i) e (take (n - i) (drop (from + i) e)) → x ≡ mid to n s (take n (drop from s))
+copied-all s e x from to i n le h l p q =
+    let k : i + (n - i) ≡ n = omega arith in
+    q ∙ copied-more s e from to i (n - i) (omega arith) (omega arith) p ∙ ap (λ (j : ℕ). mid to j s (take j (drop from s))) k
+
 -- ---- a text by eights
 
 first-of : (s : List ℕ) (i j k : ℕ) → j ≡ i + 1 → i < length s → take (suc k) (drop i s) ≡ getD s i 0 ∷ take k (drop j s)
@@ -183,6 +189,10 @@ eight-of s i h =
 -- a part whose length is written as a difference
 pub mid-put : (t n k : ℕ) (d e l : List ℕ) → n ≡ k → e ≡ l → mid t n d e ≡ mid t k d l
 mid-put t n k d e l p y = rw (p, y) refl
+
+-- a part that is the same by another name
+pub mid-same : (t k : ℕ) (d e l m : List ℕ) → e ≡ mid t k d l → l ≡ m → e ≡ mid t k d m
+mid-same t k d e l m p q = p ∙ ap (mid t k d) q
 
 -- d is src as far as place m
 pub record Laid (m : ℕ) (src d : List ℕ) : Type 0 where

@@ -6,17 +6,11 @@ ghost use lib.ListN.{length, take, drop, getD, replicate};
 ghost use Rattle.meaning.specs.Octets.{same, twoAt, fourAt};
 ghost use Rattle.octets.specs.Part.{mid, shifted};
 
-fn wide(x: u8) -> u64
-    ensures { λ r. ⌜ (r ≡ x) × (r < 256) ⌝ }
-{
-    x as u64
-}
-
 // The octet at a place, and 0 past the end, as the definitions read it.
 pub fn at(s: &[u8], i: usize) -> u64
     ensures { λ r. ⌜ (r ≡ getD (now (s .entry)) i 0) × (r < 256) ⌝ }
 {
-    if i < s.len() { wide(s[i]) } else { 0 }
+    if i < s.len() { s[i] as u64 } else { 0 }
 }
 
 // Big-endian numbers of two octets and of four.

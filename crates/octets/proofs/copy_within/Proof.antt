@@ -1,10 +1,10 @@
-use Prim.Native.Nat.{ℕ, _≤_, _-_, _+_}
+use Prim.Native.Nat.{_≤_, _-_}
 use native.Mathlib.Omega.{arith}
-use mathlib.Core.Path.{_≡_, refl, ap, _∙_}
+use mathlib.Core.Path.{_≡_, refl, _∙_}
 use lib.ListN.{length, take, drop}
 use borrow.Author.Needs.{needs}
 use Rattle.octets.specs.Part.{mid}
-use Rattle.octets.proofs.Parts.{mid-none, copied-more}
+use Rattle.octets.proofs.Parts.{mid-none, copied-more, copied-all}
 use Rattle.octets.proofs.copy_within.Statement.{statement}
 use Rattle.octets.proofs.copy_within.Tie as tie
 
@@ -60,10 +60,7 @@ returns : tie.Need-returns Inv-loop μ-loop
 returns c =
     let l = c .before .before .before .before .before in
     let a = l .before .before .args in
-    let e : l .loop .i + (a .n - l .loop .i) ≡ a .n = omega arith in
-    c .before .before .copy-few .ensures
-    ∙ copied-more (a .s .now) (l .loop .s) (a .from) (a .to) (l .loop .i) (a .n - l .loop .i) (omega arith) (omega arith) (l .loop .inv .2)
-    ∙ ap (λ (k : ℕ). mid (a .to) k (a .s .now) (take k (drop (a .from) (a .s .now)))) e
+    copied-all (a .s .now) (l .loop .s) _ (a .from) (a .to) (l .loop .i) (a .n) (omega arith) (omega arith) (omega arith) (l .loop .inv .2) (c .before .before .copy-few .ensures)
 
 pub copy-within-spec : {M : Type 1} → statement M
 copy-within-spec =
