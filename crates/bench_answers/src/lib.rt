@@ -10,6 +10,7 @@ ghost use Rattle.bench_words.specs.Words.{octetsOf};
 ghost use Rattle.bench_verbs.specs.Line.{Said, orderOf};
 ghost use Rattle.bench_orders.specs.Tells.{meant, InLine};
 ghost use Rattle.bench_replies.specs.Reply.{replyTo, Says, Answers};
+ghost use Rattle.bench_answers.specs.Counts.{Counts};
 use bench_orders::Order;
 use memory::NUMBER_COUNT;
 use memory::OCTET_COUNT;
@@ -45,6 +46,36 @@ fn on_tree(
     bench_lines::put_feed(text, b"tree", leaf, &branches)
 }
 
+// ---- counts
+
+// An order that is answered with one count: no other comes here.
+fn on_counted(
+    numbers: &mut [u64; NUMBER_COUNT],
+    order: Order,
+    number: u64,
+    text: &mut [u8],
+) -> usize
+    requires { ⌜ Counts order × (textSpace ≤ length (now text)) ⌝ }
+    ensures { λ r. ⌜ ((room : ℕ) (l os : List ℕ) → Says (replyTo number room (cardOf (now (numbers .entry)) os) (meant l order))
+        r (now (text .exit)) (cardOf (now (numbers .exit)) os)) ⌝ }
+{
+    match order {
+        Order::Bad => bench_lines::put_count(text, b"?", number),
+        Order::Start(base) => bench_lines::put_count(
+            text,
+            b"start",
+            card::start(numbers, base) as u64,
+        ),
+        Order::Room(n) => bench_lines::put_count(text, b"room", n as u64),
+        Order::Free => bench_lines::put_count(
+            text,
+            b"free",
+            card_lookups::free_labels(numbers) as u64,
+        ),
+        _ => 0,
+    }
+}
+
 // ---- any order
 
 // Does what is ordered.
@@ -63,51 +94,19 @@ fn obey(
 {
     match order {
         Order::Blank => 0,
-        Order::Bad => bench_lines::put_count(text, b"?", number),
-        Order::Start(base) => bench_lines::put_count(
-            text,
-            b"start",
-            card::start(numbers, base) as u64,
-        ),
-        Order::Room(n) => bench_lines::put_count(text, b"room", n as u64),
+        Order::Bad | Order::Start(_) | Order::Room(_) | Order::Free => {
+            on_counted(numbers, order, number, text)
+        }
         Order::Label(label) => on_label(numbers, label, text),
         Order::Tree { start, end } => on_tree(numbers, names, &line[start..end], text),
-        Order::Free => bench_lines::put_count(
-            text,
-            b"free",
-            card_lookups::free_labels(numbers) as u64,
-        ),
-        Order::Save(second) => bench_saves::on_save(numbers, names, second, room, text),
-        Order::Restore { second, start, end } => {
-            bench_saves::on_restore(numbers, names, second, &line[start..end], text)
-        }
-        Order::Move { second, start, end } => {
-            bench_saves::on_move(second, &line[start..end], room, text)
+        Order::Save(_) | Order::Restore { .. } | Order::Move { .. } => {
+            bench_saves::on_saved(numbers, names, line, order, room, text)
         }
         Order::Layers { .. } | Order::Wrap { .. } | Order::Unwrap { .. } => {
             bench_wraps::on_layered(line, order, room, text)
         }
-        Order::Plan {
-            neighbour,
-            start,
-            end,
-        } => bench_plans::on_plan(numbers, names, neighbour, &line[start..end], text),
-        Order::Vet {
-            neighbour,
-            sets,
-            start,
-            end,
-        } => {
-            let from = sets.start;
-            let to = sets.end;
-            bench_plans::on_vet(
-                numbers,
-                names,
-                neighbour,
-                &line[from..to],
-                &line[start..end],
-                text,
-            )
+        Order::Plan { .. } | Order::Vet { .. } => {
+            bench_plans::on_planned(numbers, names, line, order, text)
         }
         _ => bench_events::on_event(numbers, names, line, order, room, text),
     }

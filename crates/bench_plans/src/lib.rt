@@ -6,9 +6,12 @@ ghost use Rattle.memory.specs.Memory.{cardOf};
 ghost use Rattle.meaning_plan.specs.PlanOctets.{entrySize, entryIn, listIn, listLimit, checkedOctets, plannedOctets};
 ghost use Rattle.bench_words.specs.Words.{octetsOf};
 ghost use Rattle.bench_verbs.specs.Line.{Said};
+ghost use Rattle.bench_orders.specs.Tells.{meant, InLine};
 ghost use Rattle.bench_lines.specs.Text.{Adds, textSpace};
 ghost use Rattle.bench_replies.specs.Reply.{replyTo, Says};
 ghost use Rattle.bench_replies.specs.PlanText.{saidLine, moveText, moveSpace, movesText, movesSpace, movesLine, planLine, verdictLine};
+ghost use Rattle.bench_plans.specs.Planned.{OnPlans};
+use bench_orders::Order;
 use meaning_plan::ENTRY_SIZE;
 use meaning_plan::LIST_LIMIT;
 use memory::NUMBER_COUNT;
@@ -117,7 +120,7 @@ fn put_verdict(
 // ---- the orders
 
 // A list that empties the line to a neighbour.
-pub fn on_plan(
+fn on_plan(
     numbers: &[u64; NUMBER_COUNT],
     names: &[u8; OCTET_COUNT],
     neighbour: u32,
@@ -134,7 +137,7 @@ pub fn on_plan(
 }
 
 // Whether a list may be carried out.
-pub fn on_vet(
+fn on_vet(
     numbers: &[u64; NUMBER_COUNT],
     names: &[u8; OCTET_COUNT],
     neighbour: u32,
@@ -151,4 +154,43 @@ pub fn on_vet(
     let mut list = bench_replies::input();
     let k = bench_words::decode_hex(listed, &mut list);
     put_verdict(numbers, names, neighbour, &sets[..n], &list[..k], text)
+}
+
+// An order on plans: no other comes here.
+pub fn on_planned(
+    numbers: &[u64; NUMBER_COUNT],
+    names: &[u8; OCTET_COUNT],
+    line: &[u8],
+    order: Order,
+    text: &mut [u8],
+) -> usize
+    requires { ⌜ InLine (now line) order × OnPlans order × (textSpace ≤ length (now text)) ⌝ }
+    ensures { λ r. ⌜ (let c = cardOf (now (numbers .entry)) (now (names .entry)) in
+        ((number room : ℕ) → Says (replyTo number room c (meant (now (line .entry)) order)) r (now (text .exit)) c)) ⌝ }
+{
+    match order {
+        Order::Plan {
+            neighbour,
+            start,
+            end,
+        } => on_plan(numbers, names, neighbour, &line[start..end], text),
+        Order::Vet {
+            neighbour,
+            sets,
+            start,
+            end,
+        } => {
+            let from = sets.start;
+            let to = sets.end;
+            on_vet(
+                numbers,
+                names,
+                neighbour,
+                &line[from..to],
+                &line[start..end],
+                text,
+            )
+        }
+        _ => 0,
+    }
 }

@@ -9,8 +9,11 @@ ghost use Rattle.bench_lines.specs.Text.{textSpace, countLine, eventLine};
 ghost use Rattle.memory.specs.Memory.{cardOf};
 ghost use Rattle.bench_words.specs.Words.{octetsOf};
 ghost use Rattle.bench_verbs.specs.Line.{Said};
+ghost use Rattle.bench_orders.specs.Tells.{meant, InLine};
 ghost use Rattle.bench_replies.specs.Reply.{saveWord, restoreWord, replyTo, Says};
+ghost use Rattle.bench_saves.specs.Saved.{OnSaves};
 use bench_orders::OLD_SAVE_LIMIT;
+use bench_orders::Order;
 use meaning::SAVE_LIMIT;
 use memory::NUMBER_COUNT;
 use memory::OCTET_COUNT;
@@ -62,7 +65,7 @@ fn put_restored(text: &mut [u8], second: bool, answer: u32) -> usize
 // ---- the orders
 
 // The table as octets, for a card swap.
-pub fn on_save(
+fn on_save(
     numbers: &[u64; NUMBER_COUNT],
     names: &[u8; OCTET_COUNT],
     second: bool,
@@ -86,7 +89,7 @@ pub fn on_save(
     put_saved(text, second, answer, octets)
 }
 
-pub fn on_restore(
+fn on_restore(
     numbers: &mut [u64; NUMBER_COUNT],
     names: &mut [u8; OCTET_COUNT],
     second: bool,
@@ -160,7 +163,7 @@ fn on_older(hex: &[u8], room: u32, text: &mut [u8]) -> usize
     bench_lines::put_event(text, b"older", answer, moved)
 }
 
-pub fn on_move(second: bool, hex: &[u8], room: u32, text: &mut [u8]) -> usize
+fn on_move(second: bool, hex: &[u8], room: u32, text: &mut [u8]) -> usize
     requires { ⌜ (length (now hex) ≤ 2 * saveLimit new) × (textSpace ≤ length (now text)) ⌝ }
     ensures { λ r. ⌜ ((number : ℕ) (c : Card) → Says (replyTo number room c (Said.moves (formOf second) (octetsOf (now (hex .entry))))) r (now (text .exit)) c) ⌝ }
 {
@@ -168,4 +171,27 @@ pub fn on_move(second: bool, hex: &[u8], room: u32, text: &mut [u8]) -> usize
         return on_older(hex, room, text);
     }
     on_newer(hex, room, text)
+}
+
+// An order on saves: no other comes here.
+pub fn on_saved(
+    numbers: &mut [u64; NUMBER_COUNT],
+    names: &mut [u8; OCTET_COUNT],
+    line: &[u8],
+    order: Order,
+    room: u32,
+    text: &mut [u8],
+) -> usize
+    requires { ⌜ InLine (now line) order × OnSaves order × (textSpace ≤ length (now text)) ⌝ }
+    ensures { λ r. ⌜ ((number : ℕ) → Says (replyTo number room (cardOf (now (numbers .entry)) (now (names .entry))) (meant (now (line .entry)) order))
+        r (now (text .exit)) (cardOf (now (numbers .exit)) (now (names .exit)))) ⌝ }
+{
+    match order {
+        Order::Save(second) => on_save(numbers, names, second, room, text),
+        Order::Restore { second, start, end } => {
+            on_restore(numbers, names, second, &line[start..end], text)
+        }
+        Order::Move { second, start, end } => on_move(second, &line[start..end], room, text),
+        _ => 0,
+    }
 }
