@@ -1,8 +1,8 @@
 use Rattle.bench_replies.proofs.Reply.{lies, short, not-written}
 use Rattle.bench_orders.specs.Tells.{meant}
 use borrow.Author.Needs.{needs}
-use Rattle.bench_events.proofs.on_event.Statement.{statement}
-use Rattle.bench_events.proofs.on_event.Tie as tie
+use Rattle.bench_answers.proofs.on_event.Statement.{statement}
+use Rattle.bench_answers.proofs.on_event.Tie as tie
 
 enum-known-order : tie.Need-enum-known-order
 enum-known-order c = search needs

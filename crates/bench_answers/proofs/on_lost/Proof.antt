@@ -1,4 +1,4 @@
--- `bench_events::on_lost` meets its contract: the card's `lost`, told as every order that writes records. Assumes nothing.
+-- `bench_answers::on_lost` meets its contract: the card's `lost`, told as every order that writes records. Assumes nothing.
 use native.Mathlib.Omega.{arith}
 use Rattle.meaning_save.specs.Save.{new, saveLimit}
 use Rattle.meaning.specs.Events.{event, lost}
@@ -7,8 +7,8 @@ use Rattle.bench_words.specs.Words.{ascii}
 use Rattle.bench_replies.specs.Reply.{replyTo}
 use Rattle.bench_replies.proofs.Reply.{part-fits, event-fits, says-told}
 use borrow.Author.Needs.{needs}
-use Rattle.bench_events.proofs.on_lost.Statement.{statement}
-use Rattle.bench_events.proofs.on_lost.Tie as tie
+use Rattle.bench_answers.proofs.on_lost.Statement.{statement}
+use Rattle.bench_answers.proofs.on_lost.Tie as tie
 
 put-event-requires : tie.Need-put-event-requires
 put-event-requires c κs =

@@ -1,4 +1,4 @@
--- `bench_events::on_notice` meets its contract: a notice, told by the law of all orders that write records. Assumes nothing.
+-- `bench_answers::on_notice` meets its contract: a notice, told by the law of all orders that write records. Assumes nothing.
 use native.Mathlib.Omega.{arith}
 use mathlib.Core.List.{[]}
 use Rattle.meaning.specs.Notice.{notice}
@@ -7,8 +7,8 @@ use Rattle.bench_words.specs.Words.{ascii}
 use Rattle.bench_replies.specs.Reply.{replyTo}
 use Rattle.bench_replies.proofs.Reply.{notice-fits, record-fits, says-record}
 use borrow.Author.Needs.{needs}
-use Rattle.bench_events.proofs.on_notice.Statement.{statement}
-use Rattle.bench_events.proofs.on_notice.Tie as tie
+use Rattle.bench_answers.proofs.on_notice.Statement.{statement}
+use Rattle.bench_answers.proofs.on_notice.Tie as tie
 
 put-event-requires : tie.Need-put-event-requires
 put-event-requires c κs =
