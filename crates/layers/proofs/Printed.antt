@@ -15,7 +15,7 @@ use Rattle.meaning_laws.specs.SaveLists.{tree-ok}
 use Rattle.meaning_laws.specs.SaveLaws.{ruled-keeps, taken-is-save}
 use Rattle.meaning_laws.specs.SaveRules.{all-at, Rules, rules}
 use Rattle.bench_words.specs.Words.{isHexTo, octetsOf, Puts}
-use Rattle.layers_text.specs.TreeText.{treeLine}
+use Rattle.layers.specs.TreeText.{treeLine}
 use Rattle.layers.specs.Shown.{treesText, tableText, noSave, shownOf, hexIn, shown, AllNamed}
 
 -- ---- the lines

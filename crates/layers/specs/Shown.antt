@@ -11,7 +11,7 @@ use Rattle.meaning.specs.Card.{Tree, Card, treeAt, treeLimit}
 use Rattle.meaning_save.specs.Save.{old, new, saveLimit, tableIn, isSave}
 use Rattle.bench_words.specs.Words.{ascii, isHexTo, octetsOf}
 use Rattle.bench_lines.specs.Text.{countLine}
-use Rattle.layers_text.specs.TreeText.{treeLine, lineSpace}
+use Rattle.layers.specs.TreeText.{treeLine, lineSpace}
 
 unfoldable pub treesText : Card → List Tree → List ℕ
 treesText c [] = []

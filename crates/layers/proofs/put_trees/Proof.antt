@@ -7,7 +7,7 @@ use Rattle.memory.specs.Memory.{cardOf}
 use Rattle.memory.proofs.Memory.{trees-length}
 use Rattle.bench_lines.specs.Text.{Adds}
 use Rattle.bench_lines.proofs.Text.{adds-none, adds-then}
-use Rattle.layers_text.specs.TreeText.{lineSpace}
+use Rattle.layers.specs.TreeText.{lineSpace}
 use Rattle.layers.specs.Shown.{treesText}
 use Rattle.layers.proofs.Printed.{trees-more, table-whole}
 use Rattle.layers.proofs.put_trees.Statement.{statement}

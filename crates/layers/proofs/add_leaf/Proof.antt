@@ -1,10 +1,10 @@
 use native.Mathlib.Omega.{arith}
 use Rattle.bench_lines.proofs.Text.{adds-none}
-use Rattle.layers_text.specs.TreeText.{leafWords}
+use Rattle.layers.specs.TreeText.{leafWords}
 use Rattle.bench_words.specs.Words.{ascii}
 use borrow.Author.Needs.{needs}
-use Rattle.layers_text.proofs.add_leaf.Statement.{statement}
-use Rattle.layers_text.proofs.add_leaf.Tie as tie
+use Rattle.layers.proofs.add_leaf.Statement.{statement}
+use Rattle.layers.proofs.add_leaf.Tie as tie
 
 slice-aggregate-add : tie.Need-slice-aggregate-add
 slice-aggregate-add c = search needs

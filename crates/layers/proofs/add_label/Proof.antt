@@ -2,10 +2,10 @@ use native.Mathlib.Omega.{arith}
 use borrow.Author.Tests.{eq-eqb, ne-eqb}
 use Rattle.bench_lines.proofs.Text.{adds-then}
 use Rattle.bench_words.specs.Words.{ascii}
-use Rattle.layers_text.specs.TreeText.{labelWords}
+use Rattle.layers.specs.TreeText.{labelWords}
 use borrow.Author.Needs.{needs}
-use Rattle.layers_text.proofs.add_label.Statement.{statement}
-use Rattle.layers_text.proofs.add_label.Tie as tie
+use Rattle.layers.proofs.add_label.Statement.{statement}
+use Rattle.layers.proofs.add_label.Tie as tie
 
 slice-aggregate-add : tie.Need-slice-aggregate-add
 slice-aggregate-add c = search needs

@@ -5,12 +5,12 @@ use lib.ListN.{length, take}
 use lib.Seq.{take-all}
 use borrow.Author.Needs.{needs}
 use Rattle.bench_lines.proofs.Text.{adds-none, adds-then}
-use Rattle.layers_text.proofs.Words.{words-more}
+use Rattle.layers.proofs.Words.{words-more}
 use Rattle.bench_lines.specs.Text.{Adds}
-use Rattle.layers_text.specs.TreeText.{branchesWords}
+use Rattle.layers.specs.TreeText.{branchesWords}
 use Rattle.meaning.specs.Card.{branchesFrom}
-use Rattle.layers_text.proofs.add_branches.Statement.{statement}
-use Rattle.layers_text.proofs.add_branches.Tie as tie
+use Rattle.layers.proofs.add_branches.Statement.{statement}
+use Rattle.layers.proofs.add_branches.Tie as tie
 
 abbrev Inv-loop : tie.InvT-loop
 Inv-loop text₀ from branches at₀ i₀ text at i = (i ≤ length branches) × (length text ≡ length text₀) × (at ≤ from + 67 * i) × Adds (branchesWords (branchesFrom 0 (take i branches))) text₀ text from at

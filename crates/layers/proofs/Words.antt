@@ -14,7 +14,7 @@ use Rattle.bench_words.specs.Words.{ascii, numeral}
 use Rattle.bench_lines.specs.Text.{Adds}
 use Rattle.bench_lines.proofs.Text.{adds-then, branches-snoc}
 use Rattle.bench_layers.specs.LayerText.{peeledText}
-use Rattle.layers_text.specs.TreeText.{labelWords, branchWords, branchesWords, orNone, feedWords, treeLine}
+use Rattle.layers.specs.TreeText.{labelWords, branchWords, branchesWords, orNone, feedWords, treeLine}
 
 -- ---- branches
 

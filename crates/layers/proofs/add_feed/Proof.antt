@@ -1,10 +1,10 @@
 use native.Mathlib.Omega.{arith}
 use Rattle.bench_words.specs.Words.{ascii}
-use Rattle.layers_text.specs.TreeText.{feedWords}
-use Rattle.layers_text.proofs.Words.{feed-nothing, feed-listed}
+use Rattle.layers.specs.TreeText.{feedWords}
+use Rattle.layers.proofs.Words.{feed-nothing, feed-listed}
 use borrow.Author.Needs.{needs}
-use Rattle.layers_text.proofs.add_feed.Statement.{statement}
-use Rattle.layers_text.proofs.add_feed.Tie as tie
+use Rattle.layers.proofs.add_feed.Statement.{statement}
+use Rattle.layers.proofs.add_feed.Tie as tie
 
 add-leaf-requires : tie.Need-add-leaf-requires
 add-leaf-requires c κs = search needs

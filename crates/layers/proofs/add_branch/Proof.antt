@@ -1,10 +1,10 @@
 use native.Mathlib.Omega.{arith}
 use Rattle.bench_lines.proofs.Text.{adds-none, adds-then}
 use Rattle.bench_words.specs.Words.{ascii}
-use Rattle.layers_text.proofs.Words.{words-none, words-one}
+use Rattle.layers.proofs.Words.{words-none, words-one}
 use borrow.Author.Needs.{needs}
-use Rattle.layers_text.proofs.add_branch.Statement.{statement}
-use Rattle.layers_text.proofs.add_branch.Tie as tie
+use Rattle.layers.proofs.add_branch.Statement.{statement}
+use Rattle.layers.proofs.add_branch.Tie as tie
 
 returns : tie.Need-returns
 returns c = (rw (words-none _ _ (c .if1 .taken)) (adds-none _ _), omega arith)

@@ -2,10 +2,10 @@ use native.Mathlib.Omega.{arith}
 use mathlib.Core.Path.{ap, _∙_}
 use Rattle.meaning.specs.Wire.{elementRefusal}
 use Rattle.bench_lines.proofs.Text.{adds-then}
-use Rattle.layers_text.proofs.Words.{adds-same, line-of}
+use Rattle.layers.proofs.Words.{adds-same, line-of}
 use borrow.Author.Needs.{needs}
-use Rattle.layers_text.proofs.add_tree.Statement.{statement}
-use Rattle.layers_text.proofs.add_tree.Tie as tie
+use Rattle.layers.proofs.add_tree.Statement.{statement}
+use Rattle.layers.proofs.add_tree.Tie as tie
 
 tree-name-requires : tie.Need-tree-name-requires
 tree-name-requires c κs = search needs

@@ -3,11 +3,11 @@ use mathlib.Core.Path.{ap}
 use mathlib.Core.List.{[], _∷_, _++_}
 use Rattle.meaning.specs.Card.{Feed}
 use Rattle.bench_lines.proofs.Text.{adds-then}
-use Rattle.layers_text.specs.TreeText.{feedWords}
-use Rattle.layers_text.proofs.Words.{adds-same}
+use Rattle.layers.specs.TreeText.{feedWords}
+use Rattle.layers.proofs.Words.{adds-same}
 use borrow.Author.Needs.{needs}
-use Rattle.layers_text.proofs.add_leads.Statement.{statement}
-use Rattle.layers_text.proofs.add_leads.Tie as tie
+use Rattle.layers.proofs.add_leads.Statement.{statement}
+use Rattle.layers.proofs.add_leads.Tie as tie
 
 find-name-requires : tie.Need-find-name-requires
 find-name-requires c κs = search needs
