@@ -6,7 +6,7 @@ use native.Mathlib.Omega.{arith}
 use mathlib.Core.Path.{_≡_, refl, sym, ap, ap₂, _∙_}
 use mathlib.Core.List.{List, [], _∷_, _++_}
 use lib.ListN.{length, take, drop, getD, length-drop, take-append-drop}
-use lib.Seq.{drop-drop, drop-cons}
+use lib.Seq.{drop-drop, drop-cons, ext-getD, getD-take, getD-drop, length-take-le}
 use mathlib.Core.Bool.{true, false, _&&_}
 use lib.Dec.{eqb}
 use Rattle.meaning.specs.Octets.{same}
@@ -24,11 +24,11 @@ pub same-differ : (a b : List ℕ) (i : ℕ) → (getD a i 0 ≡ getD b i 0 → 
 same-differ a b i ne = not-same a b (λ e. ne (ap (λ (l : List ℕ). getD l i 0) e))
 
 -- two octets
-pub same-two : (a b : List ℕ) (i : ℕ) → i + 2 ≤ length a → i + 2 ≤ length b → (eqb (getD a i 0) (getD b i 0) && eqb (getD a (i + 1) 0) (getD b (i + 1) 0)) ≡ same (take 2 (drop i a)) (take 2 (drop i b))
+pub same-two : (a b : List ℕ) (i j : ℕ) → i + 2 ≤ length a → j + 2 ≤ length b → (eqb (getD a i 0) (getD b j 0) && eqb (getD a (i + 1) 0) (getD b (j + 1) 0)) ≡ same (take 2 (drop i a)) (take 2 (drop j b))
 unfolding same
-same-two a b i h k =
-    rw (drop-cons a i 0 (omega arith), drop-cons b i 0 (omega arith), drop-cons a (suc i) 0 (omega arith), drop-cons b (suc i) 0 (omega arith), add-one i)
-    (by-test (eqb (getD a i 0) (getD b i 0)) (λ t. rw t (by-test (eqb (getD a (suc i) 0) (getD b (suc i) 0)) (λ u. rw u refl) (λ u. rw u refl))) (λ t. rw t refl))
+same-two a b i j h k =
+    rw (drop-cons a i 0 (omega arith), drop-cons b j 0 (omega arith), drop-cons a (suc i) 0 (omega arith), drop-cons b (suc j) 0 (omega arith), add-one i, add-one j)
+    (by-test (eqb (getD a i 0) (getD b j 0)) (λ t. rw t (by-test (eqb (getD a (suc i) 0) (getD b (suc j) 0)) (λ u. rw u refl) (λ u. rw u refl))) (λ t. rw t refl))
 
 -- a part and the part behind it are one part
 same-split : (k m : ℕ) (xs ys : List ℕ) → k ≤ length xs → k ≤ length ys → (same (take k xs) (take k ys) && same (take m (drop k xs)) (take m (drop k ys))) ≡ same (take (k + m) xs) (take (k + m) ys)
@@ -39,9 +39,20 @@ same-split (suc k) m (x ∷ xs) [] h l = absurd (not-suc-le-zero l)
 same-split (suc k) m (x ∷ xs) (y ∷ ys) h l =
     rw (suc-add k m) (by-test (eqb x y) (λ t. rw t (same-split k m xs ys (le-of-suc-le-suc h) (le-of-suc-le-suc l))) (λ t. rw t refl))
 
-pub same-join : (k m n i j : ℕ) (a b : List ℕ) → n ≡ k + m → j ≡ i + k → j ≤ length a → j ≤ length b → (same (take k (drop i a)) (take k (drop i b)) && same (take m (drop j a)) (take m (drop j b))) ≡ same (take n (drop i a)) (take n (drop i b))
-same-join k m n i j a b e f h l =
-    rw (e, f, sym (drop-drop k i a), sym (drop-drop k i b)) (same-split k m (drop i a) (drop i b) (simp length-drop (omega arith)) (simp length-drop (omega arith)))
+pub same-join : (k m n i j p q : ℕ) (a b : List ℕ) → n ≡ k + m → p ≡ i + k → q ≡ j + k → p ≤ length a → q ≤ length b → (same (take k (drop i a)) (take k (drop j b)) && same (take m (drop p a)) (take m (drop q b))) ≡ same (take n (drop i a)) (take n (drop j b))
+same-join k m n i j p q a b e f g h l =
+    rw (e, f, g, sym (drop-drop k i a), sym (drop-drop k j b)) (same-split k m (drop i a) (drop j b) (simp length-drop (omega arith)) (simp length-drop (omega arith)))
+
+-- parts whose octets are the same
+pub same-at : (k i j : ℕ) (a b : List ℕ) → i + k ≤ length a → j + k ≤ length b → ((m : ℕ) → m < k → getD a (i + m) 0 ≡ getD b (j + m) 0) → same (take k (drop i a)) (take k (drop j b)) ≡ true
+same-at k i j a b h l p =
+    let x : length (take k (drop i a)) ≡ k = length-take-le k (drop i a) (simp length-drop (omega arith)) in
+    let y : length (take k (drop j b)) ≡ k = length-take-le k (drop j b) (simp length-drop (omega arith)) in
+    let e : take k (drop i a) ≡ take k (drop j b) =
+    ext-getD 0 (take k (drop i a)) (take k (drop j b)) (x ∙ sym y) (λ m lt.
+    let q : m < k = omega (arith, x) in
+    getD-take k (drop i a) m 0 q ∙ getD-drop i a m 0 ∙ p m q ∙ sym (getD-take k (drop j b) m 0 q ∙ getD-drop j b m 0)) in
+    ap (same (take k (drop i a))) (sym e) ∙ same-refl (take k (drop i a))
 
 -- parts that differ
 pub same-part : (k i : ℕ) (a b : List ℕ) → same (take k (drop i a)) (take k (drop i b)) ≡ false → same a b ≡ false

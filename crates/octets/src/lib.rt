@@ -28,26 +28,28 @@ pub fn four_at(s: &[u8], i: usize) -> u64
     two_at(s, i) * 65536 + two_at(s, i + 2)
 }
 
-// Whether two slices hold the same octets from place i on: two, four, and eight, which is one comparison of 64 bits when compiled.
-fn equal_two(a: &[u8], b: &[u8], i: usize) -> bool
-    requires { ⌜ (i + 2 ≤ length (now a)) × (i + 2 ≤ length (now b)) ⌝ }
-    ensures { λ r. ⌜ r ≡ same (take 2 (drop i (now (a .entry)))) (take 2 (drop i (now (b .entry)))) ⌝ }
+// Whether two slices hold the same octets, the one from place i on and the other from place j on: two, four, and eight, which is one
+// comparison of 64 bits when compiled.
+fn equal_two(a: &[u8], i: usize, b: &[u8], j: usize) -> bool
+    requires { ⌜ (i + 2 ≤ length (now a)) × (j + 2 ≤ length (now b)) ⌝ }
+    ensures { λ r. ⌜ r ≡ same (take 2 (drop i (now (a .entry)))) (take 2 (drop j (now (b .entry)))) ⌝ }
 {
-    (a[i] == b[i]) & (a[i + 1] == b[i + 1])
+    (a[i] == b[j]) & (a[i + 1] == b[j + 1])
 }
 
-fn equal_four(a: &[u8], b: &[u8], i: usize) -> bool
-    requires { ⌜ (i + 4 ≤ length (now a)) × (i + 4 ≤ length (now b)) ⌝ }
-    ensures { λ r. ⌜ r ≡ same (take 4 (drop i (now (a .entry)))) (take 4 (drop i (now (b .entry)))) ⌝ }
+pub fn equal_four(a: &[u8], i: usize, b: &[u8], j: usize) -> bool
+    requires { ⌜ (i + 4 ≤ length (now a)) × (j + 4 ≤ length (now b)) ⌝ }
+    ensures { λ r. ⌜ r ≡ same (take 4 (drop i (now (a .entry)))) (take 4 (drop j (now (b .entry)))) ⌝ }
 {
-    equal_two(a, b, i) & equal_two(a, b, i + 2)
+    equal_two(a, i, b, j) & equal_two(a, i + 2, b, j + 2)
 }
 
 fn equal_eight(a: &[u8], b: &[u8], i: usize) -> bool
     requires { ⌜ (i + 8 ≤ length (now a)) × (i + 8 ≤ length (now b)) ⌝ }
     ensures { λ r. ⌜ r ≡ same (take 8 (drop i (now (a .entry)))) (take 8 (drop i (now (b .entry)))) ⌝ }
 {
-    equal_four(a, b, i) & equal_four(a, b, i + 4)
+    let k = i + 4;
+    equal_four(a, i, b, i) & equal_four(a, k, b, k)
 }
 
 // Fewer than eight: the four of a root at once, others one by one.
@@ -56,7 +58,7 @@ fn equal_few(a: &[u8], b: &[u8]) -> bool
     ensures { λ r. ⌜ r ≡ same (now (a .entry)) (now (b .entry)) ⌝ }
 {
     if a.len() == 4 {
-        return equal_four(a, b, 0);
+        return equal_four(a, 0, b, 0);
     }
     let mut n = a.len();
     while 0 < n {

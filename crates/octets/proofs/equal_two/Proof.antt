@@ -1,6 +1,6 @@
 use native.Mathlib.Omega.{arith}
-use borrow.Author.Needs.{needs}
 use Rattle.octets.proofs.Same.{same-two}
+use borrow.Author.Needs.{needs}
 use Rattle.octets.proofs.equal_two.Statement.{statement}
 use Rattle.octets.proofs.equal_two.Tie as tie
 
@@ -25,7 +25,7 @@ shared-slice-read-result-4 c = search needs
 returns : tie.Need-returns
 returns c =
     let a = c .before .before .before .before .args in
-    same-two (a .a .now) (a .b .now) (a .i) (omega arith) (omega arith)
+    same-two (a .a .now) (a .b .now) (a .i) (a .j) (omega arith) (omega arith)
 
 pub equal-two-spec : {M : Type 1} → statement M
 equal-two-spec =
