@@ -6,13 +6,14 @@ use mathlib.Core.Path.{_≡_, refl, sym, ap, _∙_}
 use mathlib.Core.List.{List, _∷_}
 use lib.ListN.{length, take, drop, getD, set, replicate, length-set, length-drop, length-replicate}
 use lib.Seq.{getD-set-same, getD-set-other, length-take-le}
-use lib.Dec.{eqb, ltb}
-use borrow.Author.Tests.{eq-eqb, ltb-true, ltb-false}
-use mathlib.Core.Bool.{true, false, _&&_}
+use lib.Dec.{ltb}
+use borrow.Author.Tests.{ltb-true, ltb-false}
+use mathlib.Core.Bool.{true, false}
 use Rattle.meaning.specs.Octets.{same}
 use Rattle.meaning.specs.Lists.{by-test, same-eq}
 use Rattle.octets.specs.Part.{mid, shifted}
 use Rattle.octets.proofs.Parts.{mid-length, mid-in, mid-before, mid-after, moved-length, moved-in, shifted-length}
+use Rattle.octets.proofs.Same.{same-at}
 use Rattle.octets.proofs.Tab.{tab-length, tab-get, tab-ext, tab-is}
 use Rattle.memory.specs.Memory.{upTo, textAt}
 use Rattle.memory.proofs.Memory.{upTo-le, upTo-in}
@@ -116,15 +117,15 @@ text-octet k at j os s e h =
     let l : upTo k (getD os at 0) ≡ length s = sym (tab-length (upTo k (getD os at 0)) (λ j. getD os (at + 1 + j) 0)) ∙ ap length e in
     sym (tab-get (upTo k (getD os at 0)) (λ j. getD os (at + 1 + j) 0) j 0 (omega arith)) ∙ ap (λ (l : List ℕ). getD l j 0) e
 
--- it is not s where one of the last four octets of s does not stand there
-pub may-not : (k at n e : ℕ) (os s : List ℕ) → n ≡ length s → 4 ≤ n → e ≡ at + n
-    → (((eqb (getD os (e - 3) 0) (getD s (n - 4) 0) && eqb (getD os (e - 2) 0) (getD s (n - 3) 0)) && eqb (getD os (e - 1) 0) (getD s (n - 2) 0)) && eqb (getD os e 0) (getD s (n - 1) 0)) ≡ false
-    → same (textAt k os at) s ≡ false
-may-not k at n e os s hn h4 he differ =
+-- it is not s where the last four octets of s do not stand there
+pub may-not : (k at n f : ℕ) (os s : List ℕ) → n ≡ length s → 4 ≤ n → f ≡ at + n - 3 → f + 4 ≤ length os → same (take 4 (drop f os)) (take 4 (drop (n - 4) s)) ≡ false → same (textAt k os at) s ≡ false
+may-not k at n f os s hn h4 hf h differ =
     by-test (same (textAt k os at) s)
     (λ t.
-    let octet : (i j : ℕ) → i ≡ at + 1 + j → j < n → eqb (getD os i 0) (getD s j 0) ≡ true =
-    λ i j q lt. eq-eqb (getD os i 0) (getD s j 0) (ap (λ (m : ℕ). getD os m 0) q ∙ text-octet k at j os s (same-eq (textAt k os at) s t) (omega arith)) in
-    let z : true ≡ false = rw (octet (e - 3) (n - 4) (omega arith) (omega arith), octet (e - 2) (n - 3) (omega arith) (omega arith), octet (e - 1) (n - 2) (omega arith) (omega arith), octet e (n - 1) (omega arith) (omega arith)) at differ in
+    let all : same (take 4 (drop f os)) (take 4 (drop (n - 4) s)) ≡ true =
+    same-at 4 f (n - 4) os s h (omega arith) (λ m lt.
+    let q : f + m ≡ at + 1 + (n - 4 + m) = omega arith in
+    ap (λ (x : ℕ). getD os x 0) q ∙ text-octet k at (n - 4 + m) os s (same-eq (textAt k os at) s t) (omega arith)) in
+    let z : true ≡ false = sym all ∙ differ in
     absurd (let o : _≡_ {A = ℕ} 0 1 = cc in omega arith))
     (λ t. t)

@@ -155,11 +155,7 @@ pub fn may_be(names: &[u8], k: usize, a: usize, s: &[u8]) -> bool
     if k < n {
         return true;
     }
-    let e = a + n;
-    (names[e - 3] == s[n - 4])
-        & (names[e - 2] == s[n - 3])
-        & (names[e - 1] == s[n - 2])
-        & (names[e] == s[n - 1])
+    octets::equal_four(names, a + n - 3, s, n - 4)
 }
 
 // How many octets the name of the tree at place i takes of its space, with its length before it.
