@@ -16,6 +16,7 @@ use Rattle.meaning.specs.Wire.{rootIn, rootLength, nameLimit}
 use Rattle.meaning.specs.Card.{Route, Tree, Card, noEntry, withRoutes, withTrees, withCounts, routePlace, isFor, bare, treeAt, isBranch, isEmpty, isLone}
 use Rattle.meaning.specs.Events.{ofRoot, total, inRoot, oneStanding, oneLone, changed, recountedFor, recount, recounted}
 use Rattle.meaning_laws.specs.Counts.{recount-still}
+use Rattle.octets.proofs.Same.{same-at}
 use Rattle.octets.proofs.Tab.{tab-length, tab-get}
 use Rattle.memory.specs.Sizes.{nameSpace}
 use Rattle.memory.specs.Memory.{upTo, textAt, treeName, cardOf, routeCount, treeCount, routeIn}
@@ -121,17 +122,16 @@ root-octet os r i j e h =
     let long : 4 + j < length a = (let l : length (drop 4 a) ≡ length a - 4 = length-drop 4 a in omega (arith, t .0)) in
     name-octet os i (4 + j) long ∙ sym (getD-drop 4 a j 0) ∙ sym (t .1) ∙ ap (λ (l : List ℕ). getD l j 0) e
 
--- it is not r where one of the last four octets of r does not stand there
-pub may-not-of : (os r : List ℕ) (i n e : ℕ) → n ≡ length r → 4 ≤ n → e ≡ i * nameSpace + n
-    → (((eqb (getD os (e + 1) 0) (getD r (n - 4) 0) && eqb (getD os (e + 2) 0) (getD r (n - 3) 0)) && eqb (getD os (e + 3) 0) (getD r (n - 2) 0)) && eqb (getD os (e + 4) 0) (getD r (n - 1) 0)) ≡ false
-    → same (rootIn (treeName os i)) r ≡ false
-may-not-of os r i n e hn h4 he differ =
+-- it is not r where the last four octets of r do not stand there
+pub may-not-of : (os r : List ℕ) (i n f : ℕ) → n ≡ length r → 4 ≤ n → f ≡ i * nameSpace + n + 1 → f + 4 ≤ length os → same (take 4 (drop f os)) (take 4 (drop (n - 4) r)) ≡ false → same (rootIn (treeName os i)) r ≡ false
+may-not-of os r i n f hn h4 hf h differ =
     by-test (same (rootIn (treeName os i)) r)
     (λ t.
-    let octet : (m j : ℕ) → m ≡ i * nameSpace + 1 + (4 + j) → j < n → eqb (getD os m 0) (getD r j 0) ≡ true =
-    λ m j q lt. eq-eqb (getD os m 0) (getD r j 0) (ap (λ (k : ℕ). getD os k 0) q ∙ root-octet os r i j (same-eq (rootIn (treeName os i)) r t) (omega arith)) in
-    let z : true ≡ false = rw (octet (e + 1) (n - 4) (omega arith) (omega arith), octet (e + 2) (n - 3) (omega arith) (omega arith), octet (e + 3) (n - 2) (omega arith) (omega arith), octet (e + 4) (n - 1) (omega arith) (omega arith)) at differ in
-    absurd (never (sym z)))
+    let all : same (take 4 (drop f os)) (take 4 (drop (n - 4) r)) ≡ true =
+    same-at 4 f (n - 4) os r h (omega arith) (λ m lt.
+    let q : f + m ≡ i * nameSpace + 1 + (4 + (n - 4 + m)) = omega arith in
+    ap (λ (k : ℕ). getD os k 0) q ∙ root-octet os r i (n - 4 + m) (same-eq (rootIn (treeName os i)) r t) (omega arith)) in
+    absurd (never (sym (sym all ∙ differ))))
     (λ t. t)
 
 pub of-root-not : (r os ns : List ℕ) (i : ℕ) → i < treeCount ns → same (rootIn (treeName os i)) r ≡ false → false ≡ ofRoot r (treeAt i (cardOf ns os))

@@ -161,11 +161,7 @@ fn may_be_of(names: &[u8], i: usize, root: &[u8]) -> bool
     if ROOT_LIMIT < n {
         return true;
     }
-    let e = i * NAME_SPACE + n;
-    (names[e + 1] == root[n - 4])
-        & (names[e + 2] == root[n - 3])
-        & (names[e + 3] == root[n - 2])
-        & (names[e + 4] == root[n - 1])
+    octets::equal_four(names, i * NAME_SPACE + n + 1, root, n - 4)
 }
 
 pub fn is_of_root(names: &[u8], i: usize, root: &[u8]) -> bool

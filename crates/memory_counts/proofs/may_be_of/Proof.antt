@@ -1,6 +1,6 @@
 use Prim.Native.Nat.{_+_, _*_}
 use native.Mathlib.Omega.{arith}
-use mathlib.Core.Path.{refl, sym}
+use mathlib.Core.Path.{refl, sym, _∙_}
 use lib.ListN.{length}
 use borrow.Author.Needs.{needs}
 use Rattle.memory.specs.Sizes.{nameSpace}
@@ -15,61 +15,23 @@ returns c = λ z. absurd (never (sym z))
 returns-2 : tie.Need-returns-2
 returns-2 c = λ z. absurd (never (sym z))
 
-mul-e : tie.Need-mul-e
-mul-e c = search needs
+mul-equal-four : tie.Need-mul-equal-four
+mul-equal-four c = search needs
 
-add-e : tie.Need-add-e
-add-e c = search needs
+add-equal-four : tie.Need-add-equal-four
+add-equal-four c = search needs
 
-add-result : tie.Need-add-result
-add-result c = search needs
+add-equal-four-2 : tie.Need-add-equal-four-2
+add-equal-four-2 c = search needs
 
-shared-slice-read-result : tie.Need-shared-slice-read-result
-shared-slice-read-result c = search needs
-
-shared-slice-read-result-2 : tie.Need-shared-slice-read-result-2
-shared-slice-read-result-2 c = search needs
-
-add-result-2 : tie.Need-add-result-2
-add-result-2 c = search needs
-
-shared-slice-read-result-3 : tie.Need-shared-slice-read-result-3
-shared-slice-read-result-3 c = search needs
-
-sub-result : tie.Need-sub-result
-sub-result c = search needs
-
-shared-slice-read-result-4 : tie.Need-shared-slice-read-result-4
-shared-slice-read-result-4 c = search needs
-
-add-result-3 : tie.Need-add-result-3
-add-result-3 c = search needs
-
-shared-slice-read-result-5 : tie.Need-shared-slice-read-result-5
-shared-slice-read-result-5 c = search needs
-
-sub-result-2 : tie.Need-sub-result-2
-sub-result-2 c = search needs
-
-shared-slice-read-result-6 : tie.Need-shared-slice-read-result-6
-shared-slice-read-result-6 c = search needs
-
-add-result-4 : tie.Need-add-result-4
-add-result-4 c = search needs
-
-shared-slice-read-result-7 : tie.Need-shared-slice-read-result-7
-shared-slice-read-result-7 c = search needs
-
-sub-result-3 : tie.Need-sub-result-3
-sub-result-3 c = search needs
-
-shared-slice-read-result-8 : tie.Need-shared-slice-read-result-8
-shared-slice-read-result-8 c = search needs
+equal-four-requires : tie.Need-equal-four-requires
+equal-four-requires c κs = search needs
 
 returns-3 : tie.Need-returns-3
 returns-3 c =
-    let a = c .before .before .before .before .before .before .before .before .before .before .args in
-    may-not-of (a .names .now) (a .root .now) (a .i) (length (a .root .now)) (a .i * nameSpace + length (a .root .now)) refl (omega arith) refl
+    let a = c .before .before .before .before .before .args in
+    let n = length (a .root .now) in
+    λ z. may-not-of (a .names .now) (a .root .now) (a .i) n (a .i * nameSpace + n + 1) refl (omega arith) refl (omega arith) (sym (c .equal-four .ensures) ∙ z)
 
 pub may-be-of-spec : {M : Type 1} → statement M
 may-be-of-spec =
@@ -77,21 +39,8 @@ may-be-of-spec =
     (tie.spec
     returns
     returns-2
-    mul-e
-    add-e
-    add-result
-    shared-slice-read-result
-    shared-slice-read-result-2
-    add-result-2
-    shared-slice-read-result-3
-    sub-result
-    shared-slice-read-result-4
-    add-result-3
-    shared-slice-read-result-5
-    sub-result-2
-    shared-slice-read-result-6
-    add-result-4
-    shared-slice-read-result-7
-    sub-result-3
-    shared-slice-read-result-8
+    mul-equal-four
+    add-equal-four
+    add-equal-four-2
+    equal-four-requires
     returns-3)
