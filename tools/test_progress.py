@@ -112,6 +112,23 @@ class Progress(Case):
         self.assertEqual(ran.returncode, 3)
         self.assertNotIn("why", ran.stdout)
 
+    def test_a_part_beside_the_edits(self):
+        words = ("--edits", "--took", "x=1", "--beside", "archives=ls target/must-fail/two; touch made", "--then", "library=ls made", "check", "rt", "ci")
+        ran = self.progress(*words, PAUSE=PAUSE)
+        self.assertEqual(ran.returncode, 0)
+        *lines, last = ran.stdout.splitlines()
+        self.assertEqual(last, "7 passed, 0 failed")
+        self.assertIn("made", lines)
+        self.assertNotIn("second.out", lines)  # it began before the last edit
+        self.assertRegex("\n".join(lines[-2:]), "^archives: [0-9]+ s\nlibrary: [0-9]+ s$")
+
+    def test_a_part_beside_the_edits_that_fails(self):
+        ran = self.progress("--edits", "--took", "x=1", "--beside", "archives=echo why; exit 4", "--then", "y=echo never", "check", "rt", "ci")
+        self.assertEqual(ran.returncode, 4)
+        self.assertIn("why", ran.stdout.splitlines())
+        self.assertNotIn("never", ran.stdout)
+        self.assertEqual(ran.stdout.splitlines()[-1], "check: archives failed")
+
     def test_quiet(self):
         ran = self.progress("--quiet", "--rooms", "two", "bench", "rt", "check", "two", PAUSE=PAUSE)
         self.assertEqual((ran.returncode, ran.stdout), (0, ""))
