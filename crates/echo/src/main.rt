@@ -6,6 +6,7 @@ ghost use Rattle.meaning.specs.Wire.{opaqueLimit, rootLimit, nameLimit};
 use libc::STDOUT_FILENO;
 use meaning::NAME_LIMIT;
 use meaning::OPAQUE_LIMIT;
+use meaning::RECORD_BESIDE;
 use meaning::RECORD_LIMIT;
 use wire_reader::Read;
 
