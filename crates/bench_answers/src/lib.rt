@@ -2,16 +2,20 @@
 ghost use mathlib.Core.Path.{_≡_};
 ghost use mathlib.Core.List.{List};
 ghost use Prim.Native.Nat.{ℕ, _≤_};
-ghost use lib.ListN.{length};
-ghost use Rattle.meaning.specs.Card.{Card};
-ghost use Rattle.bench_lines.specs.Text.{textSpace};
+ghost use lib.ListN.{length, take};
+ghost use Rattle.meaning.specs.Card.{Card, sentLimit};
+ghost use Rattle.meaning.specs.Calls.{Does};
+ghost use Rattle.meaning_save.specs.Save.{new, saveLimit};
+ghost use Rattle.bench_lines.specs.Text.{eventLine, textSpace};
 ghost use Rattle.memory.specs.Memory.{cardOf};
 ghost use Rattle.bench_words.specs.Words.{octetsOf};
 ghost use Rattle.bench_verbs.specs.Line.{Said, orderOf};
 ghost use Rattle.bench_orders.specs.Tells.{meant, InLine};
-ghost use Rattle.bench_replies.specs.Reply.{replyTo, Says, Answers, WritesRecords};
+ghost use Rattle.bench_replies.specs.Reply.{eventRoom, replyTo, Says, Answers, WritesRecords};
 ghost use Rattle.bench_answers.specs.Counts.{Counts};
+ghost use Rattle.bench_answers.specs.Held.{hexIn, heldIn, callOf, wordOf};
 use bench_orders::Order;
+use bench_words::Word;
 use memory::NUMBER_COUNT;
 use memory::OCTET_COUNT;
 
@@ -48,162 +52,98 @@ fn on_tree(
 
 // ---- events
 
-fn on_take(
+// Where the HEX of an order that writes records lies in its line.
+fn hex_in(order: Order) -> Word
+    ensures { λ r. ⌜ r ≡ hexIn order ⌝ }
+{
+    match order {
+        Order::Take {
+            neighbour: _,
+            start,
+            end,
+        } => Word { start, end },
+        Order::Join { start, end } => Word { start, end },
+        Order::Leave { start, end } => Word { start, end },
+        Order::Route {
+            start,
+            end,
+            route: _,
+        } => Word { start, end },
+        Order::Notice {
+            neighbour: _,
+            number: _,
+            start,
+            end,
+        } => Word { start, end },
+        _ => Word { start: 0, end: 0 },
+    }
+}
+
+// The call of an order that writes records, with its octets: no other comes here.
+fn call(
     numbers: &mut [u64; NUMBER_COUNT],
     names: &mut [u8; OCTET_COUNT],
-    neighbour: u32,
-    hex: &[u8],
-    room: u32,
-    text: &mut [u8],
+    order: Order,
+    octets: &[u8],
+    out: &mut [u8],
+    answer: &mut u32,
 ) -> usize
-    requires { ⌜ (length (now hex) ≤ 8192) × (textSpace ≤ length (now text)) ⌝ }
-    ensures { λ r. ⌜ ((number : ℕ) → Says (replyTo number room (cardOf (now (numbers .entry)) (now (names .entry))) (Said.take neighbour (octetsOf (now (hex .entry)))))
-        r (now (text .exit)) (cardOf (now (numbers .exit)) (now (names .exit)))) ⌝ }
+    requires { ⌜ WritesRecords order ⌝ }
+    ensures { λ r. ⌜ Does (callOf (length (now (out .entry))) (cardOf (now (numbers .entry)) (now (names .entry))) order (now (octets .entry)))
+        (now (answer .exit)) r (now (out .entry)) (now (out .exit)) (cardOf (now (numbers .exit)) (now (names .exit))) ⌝ }
 {
-    let mut message = bench_replies::input();
-    let n = bench_words::decode_hex(hex, &mut message);
-    let mut out = bench_replies::output();
-    let mut answer: u32 = 0;
-    let records = card::receive(
-        numbers,
-        names,
-        neighbour,
-        &message[..n],
-        bench_replies::lent(&mut out, room),
-        &mut answer,
-    );
-    bench_lines::put_event(text, b"take", answer, records)
+    match order {
+        Order::Take { neighbour, .. } => {
+            card::receive_core(numbers, names, neighbour, octets, out, answer)
+        }
+        Order::Join { .. } => card::join_core(numbers, names, octets, out, answer),
+        Order::Leave { .. } => card::leave_core(numbers, names, octets, out, answer),
+        Order::Route { route, .. } => card::route_core(numbers, names, octets, route, out, answer),
+        Order::Notice {
+            neighbour,
+            number,
+            ..
+        } => notice_writer::notice_core(numbers, neighbour, number, octets, out, answer),
+        Order::Lost(neighbour) => card::lost_core(numbers, names, neighbour, out, answer),
+        _ => 0,
+    }
 }
 
-fn on_join(
+// The line of an order that writes records: no other comes here.
+fn put_told(text: &mut [u8], order: Order, answer: u32, records: &[u8]) -> usize
+    requires { ⌜ WritesRecords order × (length (now records) ≤ saveLimit new) × (textSpace ≤ length (now text)) ⌝ }
+    ensures { λ r. ⌜ (take r (now (text .exit)) ≡ eventLine (wordOf order) answer (now (records .entry))) × (r ≤ textSpace) ⌝ }
+{
+    match order {
+        Order::Take { .. } => bench_lines::put_event(text, b"take", answer, records),
+        Order::Join { .. } => bench_lines::put_event(text, b"join", answer, records),
+        Order::Leave { .. } => bench_lines::put_event(text, b"leave", answer, records),
+        Order::Route { .. } => bench_lines::put_event(text, b"route", answer, records),
+        Order::Notice { .. } => bench_lines::put_event(text, b"notice", answer, records),
+        Order::Lost(_) => bench_lines::put_event(text, b"lost", answer, records),
+        _ => 0,
+    }
+}
+
+fn tell_call(
     numbers: &mut [u64; NUMBER_COUNT],
     names: &mut [u8; OCTET_COUNT],
-    hex: &[u8],
-    room: u32,
+    order: Order,
+    octets: &[u8],
+    out: &mut [u8],
     text: &mut [u8],
 ) -> usize
-    requires { ⌜ (length (now hex) ≤ 8192) × (textSpace ≤ length (now text)) ⌝ }
-    ensures { λ r. ⌜ ((number : ℕ) → Says (replyTo number room (cardOf (now (numbers .entry)) (now (names .entry))) (Said.join (octetsOf (now (hex .entry)))))
+    requires { ⌜ WritesRecords order × (length (now out) ≤ sentLimit) × (textSpace ≤ length (now text)) ⌝ }
+    ensures { λ r. ⌜ ((number room : ℕ) (l : List ℕ) → length (now (out .entry)) ≡ eventRoom room → now (octets .entry) ≡ heldIn l order
+        → Says (replyTo number room (cardOf (now (numbers .entry)) (now (names .entry))) (meant l order))
         r (now (text .exit)) (cardOf (now (numbers .exit)) (now (names .exit)))) ⌝ }
 {
-    let mut element = bench_replies::input();
-    let n = bench_words::decode_hex(hex, &mut element);
-    let mut out = bench_replies::output();
     let mut answer: u32 = 0;
-    let records = card::join(
-        numbers,
-        names,
-        &element[..n],
-        bench_replies::lent(&mut out, room),
-        &mut answer,
-    );
-    bench_lines::put_event(text, b"join", answer, records)
+    let n = call(numbers, names, order, octets, out, &mut answer);
+    put_told(text, order, answer, &out[..n])
 }
 
-fn on_leave(
-    numbers: &mut [u64; NUMBER_COUNT],
-    names: &mut [u8; OCTET_COUNT],
-    hex: &[u8],
-    room: u32,
-    text: &mut [u8],
-) -> usize
-    requires { ⌜ (length (now hex) ≤ 8192) × (textSpace ≤ length (now text)) ⌝ }
-    ensures { λ r. ⌜ ((number : ℕ) → Says (replyTo number room (cardOf (now (numbers .entry)) (now (names .entry))) (Said.leave (octetsOf (now (hex .entry)))))
-        r (now (text .exit)) (cardOf (now (numbers .exit)) (now (names .exit)))) ⌝ }
-{
-    let mut element = bench_replies::input();
-    let n = bench_words::decode_hex(hex, &mut element);
-    let mut out = bench_replies::output();
-    let mut answer: u32 = 0;
-    let records = card::leave(
-        numbers,
-        names,
-        &element[..n],
-        bench_replies::lent(&mut out, room),
-        &mut answer,
-    );
-    bench_lines::put_event(text, b"leave", answer, records)
-}
-
-fn on_route(
-    numbers: &mut [u64; NUMBER_COUNT],
-    names: &mut [u8; OCTET_COUNT],
-    hex: &[u8],
-    via: u32,
-    room: u32,
-    text: &mut [u8],
-) -> usize
-    requires { ⌜ (length (now hex) ≤ 8192) × (textSpace ≤ length (now text)) ⌝ }
-    ensures { λ r. ⌜ ((number : ℕ) → Says (replyTo number room (cardOf (now (numbers .entry)) (now (names .entry))) (Said.route (octetsOf (now (hex .entry))) via))
-        r (now (text .exit)) (cardOf (now (numbers .exit)) (now (names .exit)))) ⌝ }
-{
-    let mut root = bench_replies::input();
-    let n = bench_words::decode_hex(hex, &mut root);
-    let mut out = bench_replies::output();
-    let mut answer: u32 = 0;
-    let records = card::route(
-        numbers,
-        names,
-        &root[..n],
-        via,
-        bench_replies::lent(&mut out, room),
-        &mut answer,
-    );
-    bench_lines::put_event(text, b"route", answer, records)
-}
-
-fn on_lost(
-    numbers: &mut [u64; NUMBER_COUNT],
-    names: &mut [u8; OCTET_COUNT],
-    neighbour: u32,
-    room: u32,
-    text: &mut [u8],
-) -> usize
-    requires { ⌜ textSpace ≤ length (now text) ⌝ }
-    ensures { λ r. ⌜ ((number : ℕ) → Says (replyTo number room (cardOf (now (numbers .entry)) (now (names .entry))) (Said.lost neighbour))
-        r (now (text .exit)) (cardOf (now (numbers .exit)) (now (names .exit)))) ⌝ }
-{
-    let mut out = bench_replies::output();
-    let mut answer: u32 = 0;
-    let records = card::lost(
-        numbers,
-        names,
-        neighbour,
-        bench_replies::lent(&mut out, room),
-        &mut answer,
-    );
-    bench_lines::put_event(text, b"lost", answer, records)
-}
-
-// Why a message was refused, to the neighbour that sent it.
-fn on_notice(
-    numbers: &mut [u64; NUMBER_COUNT],
-    neighbour: u32,
-    number: u32,
-    hex: &[u8],
-    room: u32,
-    text: &mut [u8],
-) -> usize
-    requires { ⌜ (length (now hex) ≤ 8192) × (textSpace ≤ length (now text)) ⌝ }
-    ensures { λ r. ⌜ ((line : ℕ) (os : List ℕ) → Says (replyTo line room (cardOf (now (numbers .entry)) os) (Said.notice neighbour number (octetsOf (now (hex .entry)))))
-        r (now (text .exit)) (cardOf (now (numbers .exit)) os)) ⌝ }
-{
-    let mut refused = bench_replies::input();
-    let n = bench_words::decode_hex(hex, &mut refused);
-    let mut out = bench_replies::output();
-    let mut answer: u32 = 0;
-    let record = notice_writer::notice(
-        numbers,
-        neighbour,
-        number,
-        &refused[..n],
-        bench_replies::lent(&mut out, room),
-        &mut answer,
-    );
-    bench_lines::put_event(text, b"notice", answer, record)
-}
-
-// An order that writes records: no other comes here.
+// An order that writes records: no other comes here. The HEX is read and the output lent in one place for all.
 fn on_event(
     numbers: &mut [u64; NUMBER_COUNT],
     names: &mut [u8; OCTET_COUNT],
@@ -216,26 +156,20 @@ fn on_event(
     ensures { λ r. ⌜ ((number : ℕ) → Says (replyTo number room (cardOf (now (numbers .entry)) (now (names .entry))) (meant (now (line .entry)) order))
         r (now (text .exit)) (cardOf (now (numbers .exit)) (now (names .exit)))) ⌝ }
 {
-    match order {
-        Order::Take {
-            neighbour,
-            start,
-            end,
-        } => on_take(numbers, names, neighbour, &line[start..end], room, text),
-        Order::Join { start, end } => on_join(numbers, names, &line[start..end], room, text),
-        Order::Leave { start, end } => on_leave(numbers, names, &line[start..end], room, text),
-        Order::Route { start, end, route } => {
-            on_route(numbers, names, &line[start..end], route, room, text)
-        }
-        Order::Notice {
-            neighbour,
-            number,
-            start,
-            end,
-        } => on_notice(numbers, neighbour, number, &line[start..end], room, text),
-        Order::Lost(neighbour) => on_lost(numbers, names, neighbour, room, text),
-        _ => 0,
-    }
+    let word = hex_in(order);
+    let start = word.start;
+    let end = word.end;
+    let mut octets = bench_replies::input();
+    let n = bench_words::decode_hex(&line[start..end], &mut octets);
+    let mut out = bench_replies::output();
+    tell_call(
+        numbers,
+        names,
+        order,
+        &octets[..n],
+        bench_replies::lent(&mut out, room),
+        text,
+    )
 }
 
 // ---- counts
