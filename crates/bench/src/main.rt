@@ -7,7 +7,7 @@ ghost use Rattle.memory.specs.Memory.{cardOf};
 ghost use Rattle.bench_verbs.specs.Line.{lineLimit, orderOf};
 ghost use Rattle.bench_replies.specs.Reply.{replyTo, Answers};
 ghost use Rattle.bench_input.specs.Kept.{Keeps};
-ghost use Rattle.bench_input.specs.Input.{Stand, ended, after, afterAll};
+ghost use Rattle.bench_input.specs.Input.{Stand, after, afterAll};
 ghost use Rattle.bench.specs.Input.{Seat, seatAfter, Stands};
 ghost use Rattle.bench_lines.specs.Text.{textSpace};
 use bench_answers::Answered;
@@ -20,11 +20,16 @@ use memory::OCTET_COUNT;
 // the room that is lent before an order says less: that of the longest save
 const WHOLE_ROOM: u32 = SAVE_LIMIT as u32;
 
-// How many lines are done, how much of the next is kept, the room, and whether there is more to read.
+// How many lines are done, how much of the next is kept, and the room.
 struct State {
     number: u64,
     kept: usize,
     room: u32,
+}
+
+// How many octets came, and whether there is more to read.
+struct Got {
+    count: usize,
     more: bool,
 }
 
@@ -53,33 +58,10 @@ fn reply(
     }
 }
 
-fn end_line(
-    numbers: &mut [u64; NUMBER_COUNT],
-    names: &mut [u8; OCTET_COUNT],
-    line: &[u8],
-    text: &mut [u8],
-    state: State,
-) -> State
-    requires { ⌜ textSpace ≤ length (now text) ⌝ }
-    ensures { λ r. ⌜ ((s : Stand Seat) → Stands s (state .number) (state .room) (cardOf (now (numbers .entry)) (now (names .entry))) (now (line .entry)) (state .kept)
-        → Stands (ended seatAfter s) (r .number) (r .room) (cardOf (now (numbers .exit)) (now (names .exit))) (now (line .entry)) (r .kept)) ⌝ }
-{
-    let number = std::num::wrapping_add_u64(state.number, 1);
-    let done = reply(numbers, names, line, text, number, state);
-    let n = done.length;
-    io::write_all(1, &text[..n]);
-    State {
-        number,
-        kept: 0,
-        room: done.room,
-        more: true,
-    }
-}
-
 fn take_octet(
     numbers: &mut [u64; NUMBER_COUNT],
     names: &mut [u8; OCTET_COUNT],
-    line: &mut [u8],
+    line: &mut [u8; LINE_LIMIT],
     text: &mut [u8],
     c: u8,
     state: State,
@@ -88,26 +70,32 @@ fn take_octet(
     ensures { λ r. ⌜ ((s : Stand Seat) → Stands s (state .number) (state .room) (cardOf (now (numbers .entry)) (now (names .entry))) (now (line .entry)) (state .kept)
         → Stands (after seatAfter s c) (r .number) (r .room) (cardOf (now (numbers .exit)) (now (names .exit))) (now (line .exit)) (r .kept)) ⌝ }
 {
-    if c == b'\n' {
-        return end_line(numbers, names, line, text, state);
+    if c != b'\n' {
+        return State {
+            number: state.number,
+            kept: bench_input::keep(line, state.kept, c),
+            room: state.room,
+        };
     }
+    let number = std::num::wrapping_add_u64(state.number, 1);
+    let done = reply(numbers, names, line, text, number, state);
+    let n = done.length;
+    io::write_all(1, &text[..n]);
     State {
-        number: state.number,
-        kept: bench_input::keep(line, state.kept, c),
-        room: state.room,
-        more: true,
+        number,
+        kept: 0,
+        room: done.room,
     }
 }
 
 fn take_chunk(
     numbers: &mut [u64; NUMBER_COUNT],
     names: &mut [u8; OCTET_COUNT],
-    line: &mut [u8],
-    text: &mut [u8],
+    line: &mut [u8; LINE_LIMIT],
+    text: &mut [u8; TEXT_SPACE],
     chunk: &[u8],
     from: State,
 ) -> State
-    requires { ⌜ textSpace ≤ length (now text) ⌝ }
     ensures { λ r. ⌜ ((s : Stand Seat) → Stands s (from .number) (from .room) (cardOf (now (numbers .entry)) (now (names .entry))) (now (line .entry)) (from .kept)
         → Stands (afterAll seatAfter s (now (chunk .entry))) (r .number) (r .room) (cardOf (now (numbers .exit)) (now (names .exit))) (now (line .exit)) (r .kept)) ⌝ }
 {
@@ -120,29 +108,43 @@ fn take_chunk(
     state
 }
 
-// Reads once, and answers the lines that end in what came. At the end of the input, what is kept is a line too.
-fn step(
-    numbers: &mut [u64; NUMBER_COUNT],
-    names: &mut [u8; OCTET_COUNT],
-    line: &mut [u8; LINE_LIMIT],
-    text: &mut [u8; TEXT_SPACE],
-    state: State,
-) -> State {
-    let mut chunk = io::large_buffer();
-    let got = libc::read(0, &mut chunk);
+// Reads once. At the end of the input, what is kept is a line too, and the octet that ends it comes.
+fn read_chunk(chunk: &mut [u8], kept: usize) -> Got
+    ensures { λ r. ⌜ r .count ≤ length (now (chunk .exit)) ⌝ }
+{
+    let got = libc::read(0, chunk);
     if 0 < got {
-        let n = io::count(got, &chunk);
-        return take_chunk(numbers, names, line, text, &chunk[..n], state);
+        return Got {
+            count: io::count(got, chunk),
+            more: true,
+        };
     }
-    if 0 < state.kept {
-        end_line(numbers, names, line, text, state);
+    if kept == 0 {
+        return Got {
+            count: 0,
+            more: false,
+        };
     }
-    State {
-        number: state.number,
-        kept: 0,
-        room: state.room,
+    if chunk.len() == 0 {
+        return Got {
+            count: 0,
+            more: false,
+        };
+    }
+    chunk[0] = b'\n';
+    Got {
+        count: 1,
         more: false,
     }
+}
+
+// The line and its text have a function each because the proof of `main` would work out their octets one by one.
+fn blank_line() -> [u8; LINE_LIMIT] {
+    [0; LINE_LIMIT]
+}
+
+fn blank_text() -> [u8; TEXT_SPACE] {
+    [0; TEXT_SPACE]
 }
 
 // The room is at first that of the longest save: events have no more than their buffer of it.
@@ -150,18 +152,29 @@ fn step(
 fn main() {
     let mut numbers = [0u64; NUMBER_COUNT];
     let mut names = [0u8; OCTET_COUNT];
-    let mut line = [0u8; LINE_LIMIT];
-    let mut text = [0u8; TEXT_SPACE];
+    let mut line = blank_line();
+    let mut text = blank_text();
+    let mut chunk = io::large_buffer();
     card::start(&mut numbers, 16);
     let mut state = State {
         number: 0,
         kept: 0,
         room: WHOLE_ROOM,
-        more: true,
     };
+    let mut more = true;
     let mut turns = u64::MAX;
-    while turns > 0 && state.more {
-        state = step(&mut numbers, &mut names, &mut line, &mut text, state);
+    while turns > 0 && more {
+        let got = read_chunk(&mut chunk, state.kept);
+        more = got.more;
+        let n = got.count;
+        state = take_chunk(
+            &mut numbers,
+            &mut names,
+            &mut line,
+            &mut text,
+            &chunk[..n],
+            state,
+        );
         turns -= 1;
     }
 }

@@ -1,21 +1,46 @@
+-- `bench::main` ends and is safe. Assumes nothing.
+use mathlib.Core.Path.{_≡_, sym}
+use lib.ListN.{length}
+use lib.Seq.{length-take-le}
 use borrow.Author.Needs.{needs}
 use Rattle.bench.proofs.main.Statement.{statement}
 use Rattle.bench.proofs.main.Tie as tie
 
 abbrev Inv-loop : tie.InvT-loop
-Inv-loop numbers₀ names₀ line₀ text₀ state₀ turns₀ numbers names line text state turns = Unit {0}
+Inv-loop numbers₀ names₀ line₀ text₀ chunk₀ state₀ more₀ turns₀ numbers names line text chunk state more turns = 65536 ≡ length chunk
 
 abbrev μ-loop : tie.MeasureT-loop
-μ-loop numbers₀ names₀ line₀ text₀ state₀ turns₀ numbers names line text state turns = turns
+μ-loop numbers₀ names₀ line₀ text₀ chunk₀ state₀ more₀ turns₀ numbers names line text chunk state more turns = turns
+
+blank-line-requires : tie.Need-blank-line-requires Inv-loop μ-loop
+blank-line-requires c κs = search needs
+
+blank-text-requires : tie.Need-blank-text-requires Inv-loop μ-loop
+blank-text-requires c κs = search needs
+
+large-buffer-requires : tie.Need-large-buffer-requires Inv-loop μ-loop
+large-buffer-requires c κs = search needs
 
 start-requires : tie.Need-start-requires Inv-loop μ-loop
 start-requires c κs = search needs
 
 loop-holds : tie.Need-loop-holds Inv-loop μ-loop
-loop-holds c = tt
+loop-holds c = c .before .before .large-buffer .ensures
 
-step-requires : tie.Need-step-requires Inv-loop μ-loop
-step-requires c κs = search needs
+slice-aggregate-read-chunk : tie.Need-slice-aggregate-read-chunk Inv-loop μ-loop
+slice-aggregate-read-chunk c = search needs
+
+read-chunk-requires : tie.Need-read-chunk-requires Inv-loop μ-loop
+read-chunk-requires c κs = search needs
+
+array-share-prefix-chunk : tie.Need-array-share-prefix-chunk Inv-loop μ-loop
+array-share-prefix-chunk c = search needs
+
+slice-aggregate-take-chunk : tie.Need-slice-aggregate-take-chunk Inv-loop μ-loop
+slice-aggregate-take-chunk c = sym (length-take-le (c .before .before .before .before .before .before .read-chunk .result .count) (c .before .before .before .before .before .before .read-chunk .last .0) (c .before .before .before .before .before .before .read-chunk .ensures))
+
+take-chunk-requires : tie.Need-take-chunk-requires Inv-loop μ-loop
+take-chunk-requires c κs = search needs
 
 sub-turns : tie.Need-sub-turns Inv-loop μ-loop
 sub-turns c = search needs
@@ -24,7 +49,7 @@ loop-less : tie.Need-loop-less Inv-loop μ-loop
 loop-less c = search needs
 
 loop-again : tie.Need-loop-again Inv-loop μ-loop
-loop-again c = tt
+loop-again c = search needs
 
 returns : tie.Need-returns Inv-loop μ-loop
 returns c = tt
@@ -38,9 +63,16 @@ main-spec =
     (tie.spec
     Inv-loop
     μ-loop
+    blank-line-requires
+    blank-text-requires
+    large-buffer-requires
     start-requires
     loop-holds
-    step-requires
+    slice-aggregate-read-chunk
+    read-chunk-requires
+    array-share-prefix-chunk
+    slice-aggregate-take-chunk
+    take-chunk-requires
     sub-turns
     loop-less
     loop-again

@@ -1,25 +1,28 @@
+-- `bench::take_chunk` meets its contract. Assumes nothing.
 use Prim.Native.Nat.{_-_, _≤_, _<_}
 use native.Mathlib.Omega.{arith}
 use mathlib.Core.Path.{_≡_, refl, sym}
-use borrow.Author.Needs.{needs}
 use lib.ListN.{length, take}
 use lib.Seq.{take-all}
 use Rattle.memory.specs.Memory.{cardOf}
 use Rattle.bench_input.specs.Input.{Stand, afterAll}
 use Rattle.bench_input.proofs.Input.{after-none, after-next}
 use Rattle.bench.specs.Input.{Seat, seatAfter, Stands}
+use borrow.Author.Needs.{needs}
 use Rattle.bench.proofs.take_chunk.Statement.{statement}
 use Rattle.bench.proofs.take_chunk.Tie as tie
 
 abbrev Inv-loop : tie.InvT-loop
-Inv-loop numbers₀ names₀ line₀ text₀ chunk state₀ i₀ numbers names line text state i = (i ≤ length chunk) × (length line ≡ length line₀) × (length text ≡ length text₀)
-    × ((s : Stand Seat) → Stands s (state₀ .number) (state₀ .room) (cardOf numbers₀ names₀) line₀ (state₀ .kept) → Stands (afterAll seatAfter s (take i chunk)) (state .number) (state .room) (cardOf numbers names) line (state .kept))
+Inv-loop numbers₀ names₀ line₀ text₀ chunk state₀ i₀ numbers names line text state i =
+    (i ≤ length chunk)
+    × ((s : Stand Seat) → Stands s (state₀ .number) (state₀ .room) (cardOf numbers₀ names₀) line₀ (state₀ .kept)
+    → Stands (afterAll seatAfter s (take i chunk)) (state .number) (state .room) (cardOf numbers names) line (state .kept))
 
 abbrev μ-loop : tie.MeasureT-loop
 μ-loop numbers₀ names₀ line₀ text₀ chunk state₀ i₀ numbers names line text state i = length chunk - i
 
 loop-holds : tie.Need-loop-holds Inv-loop μ-loop
-loop-holds c = (omega arith, refl, refl, λ s h. rw (after-none seatAfter s) h)
+loop-holds c = (omega arith, λ s h. rw (after-none seatAfter s) h)
 
 shared-slice-read-take-octet : tie.Need-shared-slice-read-take-octet Inv-loop μ-loop
 shared-slice-read-take-octet c = search needs
@@ -35,27 +38,16 @@ loop-less c = search needs
 
 loop-again : tie.Need-loop-again Inv-loop μ-loop
 loop-again c =
-    let at-loop = c .before .before .before .before .before .before .before .before .before .before .before in
-    let start = at-loop .before .before .before .before in
-    let chunk = start .args .chunk .now in
+    let at-loop = c .before .before .before .before .before .before .before in
+    let chunk = at-loop .before .before .args .chunk .now in
     let i = at-loop .loop .i in
-    let h : i < length chunk = omega arith in (
-      omega arith,
-      omega arith,
-      omega arith,
-      λ s k. rw (sym (after-next seatAfter s chunk i h)) (c .before .before .before .before .take-octet .ensures _ (at-loop .loop .inv .3 s k)),
-    )
-
-same-length : tie.Need-same-length Inv-loop μ-loop
-same-length c = c .before .loop .inv .1
-
-same-length-2 : tie.Need-same-length-2 Inv-loop μ-loop
-same-length-2 c = c .before .loop .inv .2
+    let h : i < length chunk = c .before .before .before .before .before .before .loop-test .taken in
+    (omega arith, λ s k. rw (sym (after-next seatAfter s chunk i h)) (c .take-octet .ensures _ (at-loop .loop .inv .1 s k)))
 
 returns : tie.Need-returns Inv-loop μ-loop
 returns c =
-    let whole = take-all (c .before .loop .i) (c .before .before .before .before .before .args .chunk .now) (c .loop-test .left) in
-    λ s h. rw whole at (c .before .loop .inv .3 s h)
+    let whole = take-all (c .before .loop .i) (c .before .before .before .args .chunk .now) (c .loop-test .left) in
+    λ s h. rw whole at (c .before .loop .inv .1 s h)
 
 pub take-chunk-spec : {M : Type 1} → statement M
 take-chunk-spec =
@@ -69,6 +61,4 @@ take-chunk-spec =
     add-i
     loop-less
     loop-again
-    same-length
-    same-length-2
     returns)

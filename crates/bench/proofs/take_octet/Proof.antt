@@ -1,40 +1,53 @@
+-- `bench::take_octet` meets its contract: the line goes on, or is answered. Assumes nothing.
 use native.Mathlib.Omega.{arith}
+use mathlib.Core.Path.{sym}
+use lib.Seq.{length-take-le}
+use Rattle.bench_input.specs.Input.{nextNumber}
 use Rattle.bench_input.proofs.Input.{after-end, after-more}
 use Rattle.bench.specs.Input.{seatAfter}
-use Rattle.bench.proofs.Input.{longer-stands}
+use Rattle.bench.proofs.Input.{ended-stands, longer-stands}
 use borrow.Author.Needs.{needs}
 use Rattle.bench.proofs.take_octet.Statement.{statement}
 use Rattle.bench.proofs.take_octet.Tie as tie
 
-end-line-requires : tie.Need-end-line-requires
-end-line-requires c κs = search needs
+keep-requires : tie.Need-keep-requires
+keep-requires c κs = search needs
+
+returns : tie.Need-returns
+returns c = λ s h. rw (after-more seatAfter s _ (c .before .before .if1 .taken)) (longer-stands s _ h (omega arith) (c .keep .ensures (s .octets) (h .keeps)))
+
+wrapping-add-u64-requires : tie.Need-wrapping-add-u64-requires
+wrapping-add-u64-requires c κs = search needs
+
+reply-requires : tie.Need-reply-requires
+reply-requires c κs = search needs
+
+slice-reshare-prefix-write-all : tie.Need-slice-reshare-prefix-write-all
+slice-reshare-prefix-write-all c = search needs
+
+slice-aggregate-write-all : tie.Need-slice-aggregate-write-all
+slice-aggregate-write-all c = sym (length-take-le (c .before .before .before .reply .result .length) (c .before .before .before .reply .last .1 .1 .1 .0) (omega arith))
+
+write-all-requires : tie.Need-write-all-requires
+write-all-requires c κs = search needs
 
 same-length : tie.Need-same-length
 same-length c = search needs
 
-same-length-2 : tie.Need-same-length-2
-same-length-2 c = search needs
-
-returns : tie.Need-returns
-returns c = λ s h. rw (after-end seatAfter s _ (c .before .before .before .before .before .before .before .if1 .taken)) (c .before .before .end-line .ensures s h)
-
-keep-requires : tie.Need-keep-requires
-keep-requires c κs = search needs
-
-same-length-3 : tie.Need-same-length-3
-same-length-3 c = search needs
-
 returns-2 : tie.Need-returns-2
-returns-2 c = λ s h. rw (after-more seatAfter s _ (c .before .before .before .before .if1 .left)) (longer-stands s _ h (omega arith) (c .before .before .keep .ensures (s .octets) (h .keeps)))
+unfolding nextNumber
+returns-2 c = λ s h. rw (after-end seatAfter s _ (c .before .before .before .before .before .before .before .before .before .before .before .if1 .left)) (ended-stands s h (c .before .before .before .before .before .before .before .before .before .before .wrapping-add-u64 .ensures) (c .before .before .before .before .reply .ensures .1 (s .octets) (h .keeps) (h .long)))
 
 pub take-octet-spec : {M : Type 1} → statement M
 take-octet-spec =
     tie.close
     (tie.spec
-    end-line-requires
-    same-length
-    same-length-2
-    returns
     keep-requires
-    same-length-3
+    returns
+    wrapping-add-u64-requires
+    reply-requires
+    slice-reshare-prefix-write-all
+    slice-aggregate-write-all
+    write-all-requires
+    same-length
     returns-2)
