@@ -16,6 +16,7 @@ ghost use Rattle.bench_answers.specs.Counts.{Counts};
 ghost use Rattle.bench_answers.specs.Held.{hexIn, heldIn, callOf, wordOf};
 use bench_orders::Order;
 use bench_words::Word;
+use meaning::NEIGHBOUR_COUNT;
 use memory::NUMBER_COUNT;
 use memory::OCTET_COUNT;
 
@@ -27,7 +28,7 @@ fn on_label(numbers: &[u64; NUMBER_COUNT], label: u32, text: &mut [u8]) -> usize
     ensures { λ r. ⌜ ((number room : ℕ) (os : List ℕ) → Says (replyTo number room (cardOf (now (numbers .entry)) os) (Said.label label))
         r (now (text .exit)) (cardOf (now (numbers .entry)) os)) ⌝ }
 {
-    let mut branches = [0u64; 16];
+    let mut branches = [0u64; NEIGHBOUR_COUNT];
     let leaf = card_lookups::lookup_label_core(numbers, label, &mut branches);
     bench_lines::put_feed(text, b"label", leaf, &branches)
 }
@@ -45,7 +46,7 @@ fn on_tree(
 {
     let mut element = bench_replies::input();
     let n = bench_words::decode_hex(hex, &mut element);
-    let mut branches = [0u64; 16];
+    let mut branches = [0u64; NEIGHBOUR_COUNT];
     let leaf = card_lookups::lookup_name_core(numbers, names, &element[..n], &mut branches);
     bench_lines::put_feed(text, b"tree", leaf, &branches)
 }

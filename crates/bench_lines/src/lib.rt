@@ -3,11 +3,12 @@ ghost use Prim.Native.Nat.{_+_, _*_, _≤_};
 ghost use mathlib.Core.Path.{_≡_};
 ghost use mathlib.Core.List.{[], _∷_};
 ghost use lib.ListN.{length, take};
-ghost use Rattle.meaning.specs.Card.{branchesFrom};
+ghost use Rattle.meaning.specs.Card.{branchesFrom, neighbourCount};
 ghost use Rattle.meaning_save.specs.Save.{new, saveLimit};
 ghost use Rattle.bench_words.specs.Words.{numeral, hexOf};
 ghost use Rattle.meaning.specs.Calls.{feedIn};
 ghost use Rattle.bench_lines.specs.Text.{countLine, recordsText, eventLine, branchesText, leafText, feedLine, Adds, textSpace};
+use meaning::NEIGHBOUR_COUNT;
 use meaning::SAVE_DIGITS;
 
 // The space of a line's text, as `textSpace` in specs/Text.antt.
@@ -66,7 +67,7 @@ fn add_branch(text: &mut [u8], at: usize, neighbour: usize, label: u64) -> usize
 }
 
 fn add_branches(text: &mut [u8], from: usize, branches: &[u64]) -> usize
-    requires { ⌜ (length (now branches) ≤ 16) × (from + 672 ≤ length (now text)) ⌝ }
+    requires { ⌜ (length (now branches) ≤ neighbourCount) × (from + 672 ≤ length (now text)) ⌝ }
     ensures { λ r. ⌜ Adds (branchesText (branchesFrom 0 (now (branches .entry)))) (now (text .entry)) (now (text .exit)) from r ⌝ }
     ensures { λ r. ⌜ r ≤ from + 672 ⌝ }
 {
@@ -79,7 +80,7 @@ fn add_branches(text: &mut [u8], from: usize, branches: &[u64]) -> usize
     at
 }
 
-fn add_sixteen(text: &mut [u8], at: usize, branches: &[u64; 16]) -> usize
+fn add_sixteen(text: &mut [u8], at: usize, branches: &[u64; NEIGHBOUR_COUNT]) -> usize
     requires { ⌜ at + 672 ≤ length (now text) ⌝ }
     ensures { λ r. ⌜ Adds (branchesText (branchesFrom 0 (now (branches .entry)))) (now (text .entry)) (now (text .exit)) at r ⌝ }
     ensures { λ r. ⌜ r ≤ at + 672 ⌝ }
@@ -126,7 +127,12 @@ pub fn put_event(text: &mut [u8], word: &[u8], answer: u32, records: &[u8]) -> u
 }
 
 // `WORD`, the leaf mark and the branches, or that there is nothing.
-pub fn put_feed(text: &mut [u8], word: &[u8], leaf: bool, branches: &[u64; 16]) -> usize
+pub fn put_feed(
+    text: &mut [u8],
+    word: &[u8],
+    leaf: bool,
+    branches: &[u64; NEIGHBOUR_COUNT],
+) -> usize
     requires { ⌜ (length (now word) ≤ 8) × (textSpace ≤ length (now text)) ⌝ }
     ensures { λ r. ⌜ take r (now (text .exit)) ≡ feedLine (now (word .entry)) (feedIn (now (branches .entry)) leaf) ⌝ }
     ensures { λ r. ⌜ r ≤ textSpace ⌝ }

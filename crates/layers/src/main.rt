@@ -4,7 +4,7 @@ ghost use mathlib.Core.List.{[], _∷_, _++_};
 ghost use Prim.Native.Nat.{_+_, _*_, _≤_, _<_};
 ghost use lib.ListN.{length, take};
 ghost use Rattle.meaning.specs.Wire.{elementRefusal};
-ghost use Rattle.meaning.specs.Card.{branchesFrom, lookupName, treeAt, treeLimit};
+ghost use Rattle.meaning.specs.Card.{branchesFrom, lookupName, treeAt, treeLimit, neighbourCount};
 ghost use Rattle.meaning.specs.Calls.{feedIn};
 ghost use Rattle.meaning_save.specs.Save.{new, saveLimit};
 ghost use Rattle.memory.specs.Sizes.{Numbers, Names};
@@ -16,6 +16,7 @@ ghost use Rattle.layers.specs.Shown.{tableText, noSave, shownOf, hexIn, 
 use libc::STDIN_FILENO;
 use libc::STDOUT_FILENO;
 use meaning::NAME_LIMIT;
+use meaning::NEIGHBOUR_COUNT;
 use meaning::SAVE_DIGITS;
 use meaning::SAVE_LIMIT;
 use meaning::TREE_LIMIT;
@@ -61,7 +62,7 @@ fn add_branch(text: &mut [u8], at: usize, neighbour: usize, label: u64) -> usize
 }
 
 fn add_branches(text: &mut [u8], from: usize, branches: &[u64]) -> usize
-    requires { ⌜ (length (now branches) ≤ 16) × (from + 1072 ≤ length (now text)) ⌝ }
+    requires { ⌜ (length (now branches) ≤ neighbourCount) × (from + 1072 ≤ length (now text)) ⌝ }
     ensures { λ r. ⌜ Adds (branchesWords (branchesFrom 0 (now (branches .entry)))) (now (text .entry)) (now (text .exit)) from r ⌝ }
     ensures { λ r. ⌜ r ≤ from + 1072 ⌝ }
 {
@@ -74,7 +75,7 @@ fn add_branches(text: &mut [u8], from: usize, branches: &[u64]) -> usize
     at
 }
 
-fn add_sixteen(text: &mut [u8], at: usize, branches: &[u64; 16]) -> usize
+fn add_sixteen(text: &mut [u8], at: usize, branches: &[u64; NEIGHBOUR_COUNT]) -> usize
     requires { ⌜ at + 1072 ≤ length (now text) ⌝ }
     ensures { λ r. ⌜ Adds (branchesWords (branchesFrom 0 (now (branches .entry)))) (now (text .entry)) (now (text .exit)) at r ⌝ }
     ensures { λ r. ⌜ r ≤ at + 1072 ⌝ }
@@ -93,7 +94,7 @@ fn add_leaf(text: &mut [u8], at: usize, leaf: bool) -> usize
     at
 }
 
-fn add_feed(text: &mut [u8], start: usize, leaf: bool, branches: &[u64; 16]) -> usize
+fn add_feed(text: &mut [u8], start: usize, leaf: bool, branches: &[u64; NEIGHBOUR_COUNT]) -> usize
     requires { ⌜ start + feedSpace ≤ length (now text) ⌝ }
     ensures { λ r. ⌜ Adds (feedWords (feedIn (now (branches .entry)) leaf)) (now (text .entry)) (now (text .exit)) start r ⌝ }
     ensures { λ r. ⌜ r ≤ start + feedSpace ⌝ }
@@ -113,7 +114,7 @@ fn add_leads(text: &mut [u8], at: usize, numbers: &[u64], names: &[u8], name: &[
         (now (text .entry)) (now (text .exit)) at r ⌝ }
     ensures { λ r. ⌜ r ≤ at + feedSpace + 1 ⌝ }
 {
-    let mut branches = [0u64; 16];
+    let mut branches = [0u64; NEIGHBOUR_COUNT];
     let leaf = card_lookups::find_name(numbers, names, name, &mut branches);
     let at = add_feed(text, at, leaf, &branches);
     bench_lines::add(text, at, b"\n")

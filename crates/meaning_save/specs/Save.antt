@@ -196,10 +196,10 @@ treeRead f o =
 unfoldable pub treeEnd : Form → List ℕ → List ℕ
 treeEnd f o = drop (treeBeside + extent f (drop 3 o)) o
 
--- (a neighbour's number is read modulo 16, so that whatever is read has a place in the card's memory; what is not as it was written is refused below)
+-- (a neighbour's number is read modulo the number of neighbours, so that whatever is read has a place in the card's memory; what is not as it was written is refused below)
 unfoldable pub useRead : Form → List ℕ → Use
 useRead f o =
-    let n = getD o 8 0 % 16 in
+    let n = getD o 8 0 % neighbourCount in
     let a = nameIn f (drop 9 o) in
     pick (eqb (getD o 7 0) 1) (mapped n a) (awaiting n a)
 

@@ -4,7 +4,7 @@ ghost use mathlib.Core.List.{[], _∷_, _++_};
 ghost use Prim.Native.Nat.{_+_, _≤_, _<_};
 ghost use lib.ListN.{length, take, drop};
 ghost use Rattle.meaning.specs.Octets.{pick, two, fourAt};
-ghost use Rattle.meaning.specs.Wire.{nameLimit};
+ghost use Rattle.meaning.specs.Wire.{nameLimit, rootLimit};
 ghost use lib.Dec.{eqb};
 ghost use Rattle.meaning_save.specs.Save.{old, new, formOf, spacedIn, nameIn, extent, savedOpaque};
 ghost use Rattle.memory.specs.Memory.{upTo};
@@ -54,7 +54,7 @@ fn family(k: usize) -> u8
 
 // What stands before the root in a name: the element's type, the family by the root's length, and that length.
 fn put_element_head(out: &mut [u8], k: usize)
-    requires { ⌜ (length (now out) ≡ 4) × (k ≤ 16) ⌝ }
+    requires { ⌜ (length (now out) ≡ 4) × (k ≤ rootLimit) ⌝ }
     ensures { λ _. ⌜ now (out .exit) ≡ 6 ∷ (two (pick (eqb k 4) 1 2) ++ (k ∷ [])) ⌝ }
 {
     let head = [6, 0, family(k), k as u8];

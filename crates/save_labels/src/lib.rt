@@ -20,6 +20,7 @@ use meaning::NAME_LIMIT;
 use meaning::TREE_LIMIT;
 use meaning::USE_BESIDE;
 use memory::LABELS;
+use memory::NEIGHBOURS;
 
 // ---- labels in use
 
@@ -42,7 +43,7 @@ fn read_use(octets: &[u8], at: usize, second: bool, numbers: &mut [u64], names: 
     let mut name = [0u8; NAME_LIMIT];
     let n = save_fields::read_name(octets, at + 9, second, &mut name);
     let held = octets::at(octets, at + 7) == 1;
-    let neighbour = octets::at(octets, at + 8) % 16;
+    let neighbour = octets::at(octets, at + 8) % NEIGHBOURS;
     memory_marks::enter_use(numbers, names, p as usize, held, neighbour, &name[0..n]);
 }
 

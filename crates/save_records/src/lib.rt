@@ -106,7 +106,7 @@ fn put_fours(numbers: &[u64], i: usize, out: &mut [u8])
     ensures { λ _. ⌜ ((os : List ℕ) → now (out .exit) ≡ foursOf (treeAt i (cardOf (now (numbers .entry)) os) .branches)) ⌝ }
 {
     let mut k = 0;
-    while k < 16 {
+    while k < NEIGHBOUR_COUNT {
         let a = k * 4;
         let e = a + 4;
         put_four(&mut out[a..e], memory_trees::branch(numbers, i, k));

@@ -10,6 +10,8 @@ ghost use Rattle.memory.specs.Sizes.{Numbers, Names};
 ghost use Rattle.memory.specs.Memory.{cardOf, treeCount, routeCount};
 ghost use Rattle.save_rows.specs.Stages.{withBranches, rowsRead, labelsBegin};
 use meaning::NAME_LIMIT;
+use meaning::NEIGHBOUR_COUNT;
+use meaning::ROOT_LIMIT;
 use meaning::ROUTE_SIZE;
 use meaning::TREE_BESIDE;
 
@@ -20,7 +22,7 @@ fn read_route(octets: &[u8], at: usize, numbers: &mut [u64], names: &mut [u8])
     ensures { λ _. ⌜ (let c = cardOf (now (numbers .entry)) (now (names .entry)) in
         cardOf (now (numbers .exit)) (now (names .exit)) ≡ withRoutes (c .routes ++ (routeRead (drop at (now (octets .entry))) ∷ [])) c) ⌝ }
 {
-    let root = save_fields::spaced(octets, at + 4, 16);
+    let root = save_fields::spaced(octets, at + 4, ROOT_LIMIT);
     let via = octets::at(octets, at + 3);
     memory_routes::append_route(numbers, names, root, via, 0, 0);
 }
@@ -44,7 +46,7 @@ fn read_branches(octets: &[u8], at: usize, numbers: &mut [u64], i: usize)
         cardOf (now (numbers .exit)) os ≡ withTrees (set (c .trees) i (withBranches (foursIn neighbourCount (drop at (now (octets .entry)))) (treeAt i c))) c)) ⌝ }
 {
     let mut n = 0;
-    while n < 16 {
+    while n < NEIGHBOUR_COUNT {
         let label = save_fields::four_at(octets, at + n * 4);
         memory_trees::set_branch(numbers, i, n, label);
         n += 1;

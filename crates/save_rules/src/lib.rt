@@ -11,6 +11,7 @@ ghost use Rattle.meaning_save.specs.Save.{isName, isUse, isCarried, allCarried,
 ghost use Rattle.memory.specs.Sizes.{Numbers, Names};
 ghost use Rattle.memory.specs.Memory.{cardOf, baseIn, isFreeAt, isMappedAt, labelIn, labelName, treeCount};
 use meaning::LABEL_COUNT;
+use memory::NEIGHBOURS;
 
 // ---- labels
 
@@ -22,7 +23,7 @@ fn is_near(numbers: &[u64], p: usize) -> bool
     if memory_labels::mapped_at(numbers, p) != 17 {
         return true;
     }
-    memory_labels::awaited_at(numbers, p) < 16
+    memory_labels::awaited_at(numbers, p) < NEIGHBOURS
 }
 
 // The neighbour of a label in use is one of the sixteen, whatever the memory holds: its name is what can be wrong.

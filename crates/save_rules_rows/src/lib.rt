@@ -9,6 +9,8 @@ ghost use Rattle.meaning.specs.Card.{treeAt, isEmpty, isFor, routeLimit, treeLi
 ghost use Rattle.meaning_save.specs.Save.{isName, onceEach, isRoute, sameRoot, isBranchLabel, isTree};
 ghost use Rattle.memory.specs.Sizes.{Numbers, Names};
 ghost use Rattle.memory.specs.Memory.{cardOf, routeIn, treeCount};
+use meaning::NEIGHBOUR_COUNT;
+use memory::NO_NEIGHBOUR;
 
 // ---- routes
 
@@ -97,7 +99,7 @@ fn branches_good(numbers: &[u64], i: usize) -> bool
     ensures { λ r. ⌜ ((os : List ℕ) → r ≡ all isBranchLabel (treeAt i (cardOf (now (numbers .entry)) os) .branches)) ⌝ }
 {
     let mut k = 0;
-    while k < 16 {
+    while k < NEIGHBOUR_COUNT {
         if !is_branch_label(memory_trees::branch(numbers, i, k)) {
             return false;
         }
@@ -114,7 +116,7 @@ fn leads_somewhere(numbers: &[u64], i: usize) -> bool
     if memory_trees::is_leaf(numbers, i) {
         return true;
     }
-    memory_trees::any_branch(numbers, i, 16, 0, 16)
+    memory_trees::any_branch(numbers, i, NO_NEIGHBOUR, 0, NO_NEIGHBOUR)
 }
 
 fn is_tree(numbers: &[u64], names: &[u8], i: usize) -> bool
