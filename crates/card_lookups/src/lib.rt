@@ -2,9 +2,9 @@
 ghost use mathlib.Core.Path.{_≡_};
 ghost use mathlib.Core.List.{List};
 ghost use Prim.Native.Nat.{ℕ, _<_};
-ghost use Rattle.meaning.specs.Card.{freeLabels, treeAt, feedOf, lookupLabel, lookupName, nothing, treeLimit};
+ghost use Rattle.meaning.specs.Card.{freeLabels, treeAt, feedOf, lookupLabel, lookupName, nothing};
 ghost use Rattle.memory.specs.Sizes.{Numbers, Names};
-ghost use Rattle.memory.specs.Memory.{cardOf, treeCount};
+ghost use Rattle.memory.specs.Memory.{cardOf, StandsAt};
 ghost use Rattle.meaning.specs.Calls.{feedIn};
 use meaning::LABEL_COUNT;
 use meaning::NEIGHBOUR_COUNT;
@@ -15,7 +15,7 @@ use memory::OCTET_COUNT;
 // Where the tree at place i leads while u is its upstream, whose own branch is held. The one place is cleared where the row
 // was laid, and nothing is read again: a load behind a store to a part of what it loads would wait for that store.
 fn feed_at(numbers: &[u64], i: usize, u: u64, branches: &mut [u64; NEIGHBOUR_COUNT]) -> bool
-    requires { ⌜ Numbers (now numbers) × (i < treeCount (now numbers)) × (i < treeLimit) ⌝ }
+    requires { ⌜ Numbers (now numbers) × StandsAt (now numbers) i ⌝ }
     ensures { λ r. ⌜ ((os : List ℕ) → feedIn (now (branches .exit)) r ≡ feedOf u (treeAt i (cardOf (now (numbers .entry)) os))) ⌝ }
 {
     *branches = memory_trees::branches(numbers, i);

@@ -3,10 +3,10 @@ ghost use mathlib.Core.Path.{_≡_};
 ghost use mathlib.Core.List.{List};
 ghost use Prim.Native.Nat.{ℕ, _+_, _*_, _≤_, _<_};
 ghost use Rattle.meaning.specs.Wire.{rootIn, recordLimit};
-ghost use Rattle.meaning.specs.Card.{withBranch, withLeaf, treeAt, routeOf, routePlace, treeLimit, thisNode};
+ghost use Rattle.meaning.specs.Card.{withBranch, withLeaf, treeAt, routeOf, routePlace, thisNode};
 ghost use Rattle.meaning.specs.Events.{need, labelsShort, upstream, holder};
 ghost use Rattle.memory.specs.Sizes.{Numbers, Names};
-ghost use Rattle.memory.specs.Memory.{cardOf, treeCount};
+ghost use Rattle.memory.specs.Memory.{cardOf, StandsAt};
 ghost use Rattle.event_holder.specs.Move.{moveSize, relabelSize};
 use meaning::RECORD_BESIDE;
 use memory::NEIGHBOURS;
@@ -14,7 +14,7 @@ use memory::NO_NEIGHBOUR;
 
 // How many octets the records of a move have.
 pub fn move_size(numbers: &[u64], names: &[u8], i: usize, u: u64) -> usize
-    requires { ⌜ Numbers (now numbers) × Names (now names) × (i < treeCount (now numbers)) × (i < treeLimit) ⌝ }
+    requires { ⌜ Numbers (now numbers) × Names (now names) × StandsAt (now numbers) i ⌝ }
     ensures { λ r. ⌜ (r ≡ moveSize (treeAt i (cardOf (now (numbers .entry)) (now (names .entry)))) u) × (r ≤ 2 * recordLimit) ⌝ }
 {
     let size = RECORD_BESIDE + memory_trees::tree_name(names, i).len();
@@ -31,7 +31,7 @@ pub fn move_size(numbers: &[u64], names: &[u8], i: usize, u: u64) -> usize
 }
 
 pub fn relabel_size(numbers: &[u64], names: &[u8], i: usize, u: u64) -> usize
-    requires { ⌜ Numbers (now numbers) × Names (now names) × (i < treeCount (now numbers)) × (i < treeLimit) ⌝ }
+    requires { ⌜ Numbers (now numbers) × Names (now names) × StandsAt (now numbers) i ⌝ }
     ensures { λ r. ⌜ (let c = cardOf (now (numbers .entry)) (now (names .entry)) in (r ≡ relabelSize c (treeAt i c) u) × (r ≤ 2 * recordLimit)) ⌝ }
 {
     if memory_trees::held_for(numbers, i) == u {
@@ -42,7 +42,7 @@ pub fn relabel_size(numbers: &[u64], names: &[u8], i: usize, u: u64) -> usize
 
 // 12: no label is free for the tree at place i, which is to hold one for u.
 pub fn no_label_for(numbers: &[u64], i: usize, u: u64) -> bool
-    requires { ⌜ Numbers (now numbers) × (i < treeCount (now numbers)) × (i < treeLimit) ⌝ }
+    requires { ⌜ Numbers (now numbers) × StandsAt (now numbers) i ⌝ }
     ensures { λ r. ⌜ ((os : List ℕ) → (let c = cardOf (now (numbers .entry)) os in r ≡ labelsShort c (need c (treeAt i c) u))) ⌝ }
 {
     if memory_trees::held_for(numbers, i) == u {
@@ -80,7 +80,7 @@ pub fn upstream_of(numbers: &[u64], names: &[u8], name: &[u8]) -> u64
 // The neighbour for which the tree at place i holds a label where u is its upstream, once neighbour n's branch is x (NO_NEIGHBOUR: nobody's
 // changes) and its leaf mark is `leaf`; 17 for none.
 pub fn holder_then(numbers: &[u64], i: usize, n: usize, x: u64, leaf: bool, u: u64) -> u64
-    requires { ⌜ Numbers (now numbers) × (i < treeCount (now numbers)) × (i < treeLimit) ⌝ }
+    requires { ⌜ Numbers (now numbers) × StandsAt (now numbers) i ⌝ }
     ensures { λ r. ⌜ ((os : List ℕ) → r ≡ holder u (withLeaf leaf (withBranch n x (treeAt i (cardOf (now (numbers .entry)) os))))) ⌝ }
 {
     if leaf {
@@ -94,7 +94,7 @@ pub fn holder_then(numbers: &[u64], i: usize, n: usize, x: u64, leaf: bool, u: u
 
 // The same of the tree as it is.
 pub fn holder(numbers: &[u64], i: usize, u: u64) -> u64
-    requires { ⌜ Numbers (now numbers) × (i < treeCount (now numbers)) × (i < treeLimit) ⌝ }
+    requires { ⌜ Numbers (now numbers) × StandsAt (now numbers) i ⌝ }
     ensures { λ r. ⌜ ((os : List ℕ) → r ≡ holder u (treeAt i (cardOf (now (numbers .entry)) os))) ⌝ }
 {
     holder_then(

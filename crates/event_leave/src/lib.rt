@@ -2,11 +2,11 @@
 ghost use mathlib.Core.Path.{_≡_};
 ghost use Prim.Native.Nat.{_<_};
 ghost use lib.ListN.{length};
-ghost use Rattle.meaning.specs.Card.{treeAt, treePlace, treeLimit};
+ghost use Rattle.meaning.specs.Card.{treeAt, treePlace};
 ghost use Rattle.meaning.specs.Events.{finish};
 ghost use Rattle.meaning.specs.Calls.{Does};
 ghost use Rattle.memory.specs.Sizes.{Numbers, Names};
-ghost use Rattle.memory.specs.Memory.{cardOf, treeCount};
+ghost use Rattle.memory.specs.Memory.{cardOf, StandsAt};
 ghost use Rattle.event_leave.specs.Order.{leaveOf};
 use memory::NO_NEIGHBOUR;
 
@@ -18,8 +18,7 @@ fn leave_standing(
     out: &mut [u8],
     answer: &mut u32,
 ) -> usize
-    requires { ⌜ (let c = cardOf (now numbers) (now names) in Numbers (now numbers) × Names (now names) × (i < treeCount (now numbers)) × (i < treeLimit)
-        × (i ≡ treePlace (treeAt i c .name) c)) ⌝ }
+    requires { ⌜ (let c = cardOf (now numbers) (now names) in Numbers (now numbers) × Names (now names) × (i ≡ treePlace (treeAt i c .name) c) × StandsAt (now numbers) i) ⌝ }
     ensures { λ r. ⌜ (let c = cardOf (now (numbers .entry)) (now (names .entry)) in Does (finish (length (now (out .entry))) c (leaveOf c (treeAt i c .name)))
         (now (answer .exit)) r (now (out .entry)) (now (out .exit)) (cardOf (now (numbers .exit)) (now (names .exit)))) ⌝ }
 {

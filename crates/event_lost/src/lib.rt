@@ -11,7 +11,7 @@ ghost use Rattle.meaning.specs.Events.{finish, swept, shed, shedFrom, sweptBelo
 ghost use Rattle.meaning_laws.specs.Losses.{lossSize};
 ghost use Rattle.meaning.specs.Calls.{Does};
 ghost use Rattle.memory.specs.Sizes.{Numbers, Names};
-ghost use Rattle.memory.specs.Memory.{cardOf, treeCount};
+ghost use Rattle.memory.specs.Memory.{cardOf, StandsAt};
 ghost use Rattle.event_holder.specs.Move.{Wrote};
 ghost use Rattle.event_tree.specs.End.{Ended};
 ghost use Rattle.event_lost.specs.Lost.{lostTo, lossAll};
@@ -23,7 +23,7 @@ use meaning::RECORD_LIMIT;
 
 // How many octets the Withdraw of the tree at place i has, once neighbour n is lost; 0 where it sends none.
 fn loss_of(numbers: &[u64], names: &[u8], i: usize, n: usize) -> usize
-    requires { ⌜ Numbers (now numbers) × Names (now names) × (i < treeCount (now numbers)) × (i < treeLimit) × (n < neighbourCount) ⌝ }
+    requires { ⌜ Numbers (now numbers) × Names (now names) × (n < neighbourCount) × StandsAt (now numbers) i ⌝ }
     ensures { λ r. ⌜ (let c = cardOf (now (numbers .entry)) (now (names .entry)) in (r ≡ lossSize n c (treeAt i c)) × (r ≤ recordLimit)) ⌝ }
 {
     let u = memory_trees::held_for(numbers, i);
@@ -77,8 +77,7 @@ fn shed_one(
     at: usize,
     id: u32,
 ) -> Written
-    requires { ⌜ Numbers (now numbers) × Names (now names) × (i < treeCount (now numbers)) × (i < treeLimit)
-        × (at + length (records id (shed i (cardOf (now numbers) (now names)) .sent)) ≤ length (now out)) ⌝ }
+    requires { ⌜ Numbers (now numbers) × Names (now names) × (at + length (records id (shed i (cardOf (now numbers) (now names)) .sent)) ≤ length (now out)) × StandsAt (now numbers) i ⌝ }
     ensures { λ r. ⌜ Wrote (shed i (cardOf (now (numbers .entry)) (now (names .entry)))) id at (now (out .entry)) (now (out .exit)) (cardOf (now (numbers .exit)) (now (names .entry))) (r .at) (r .id) ⌝ }
 {
     let u = memory_trees::held_for(numbers, i);
@@ -113,7 +112,7 @@ fn shed_all(numbers: &mut [u64], names: &[u8], out: &mut [u8], id: u32) -> Writt
 // ---- empty trees
 
 fn sweep_one(numbers: &mut [u64], names: &mut [u8], i: usize)
-    requires { ⌜ Numbers (now numbers) × Names (now names) × (i < treeCount (now numbers)) × (i < treeLimit) ⌝ }
+    requires { ⌜ Numbers (now numbers) × Names (now names) × StandsAt (now numbers) i ⌝ }
     ensures { λ _. ⌜ cardOf (now (numbers .exit)) (now (names .exit)) ≡ swept i (cardOf (now (numbers .entry)) (now (names .entry))) ⌝ }
 {
     if memory_counts::is_empty(numbers, i) {

@@ -4,15 +4,15 @@ ghost use mathlib.Core.List.{List};
 ghost use Prim.Native.Nat.{ℕ, _≤_, _<_};
 ghost use lib.ListN.{length};
 ghost use Rattle.meaning.specs.Wire.{nameLimit};
-ghost use Rattle.meaning.specs.Card.{treeAt, treePlace, treeLimit, neighbourCount};
+ghost use Rattle.meaning.specs.Card.{treeAt, treePlace, neighbourCount};
 ghost use Rattle.meaning.specs.Events.{finish, otherLabel, onMapping};
 ghost use Rattle.meaning.specs.Calls.{Does};
 ghost use Rattle.memory.specs.Sizes.{Numbers, Names};
-ghost use Rattle.memory.specs.Memory.{cardOf, treeCount};
+ghost use Rattle.memory.specs.Memory.{cardOf, treeCount, StandsAt};
 
 // 10: neighbour n's branch of the tree at place i stands with another label.
 fn other_label(numbers: &[u64], i: usize, n: usize, label: u64) -> bool
-    requires { ⌜ Numbers (now numbers) × (i < treeCount (now numbers)) × (i < treeLimit) × (n < neighbourCount) ⌝ }
+    requires { ⌜ Numbers (now numbers) × (n < neighbourCount) × StandsAt (now numbers) i ⌝ }
     ensures { λ r. ⌜ ((os : List ℕ) → r ≡ otherLabel (treeAt i (cardOf (now (numbers .entry)) os)) n label) ⌝ }
 {
     let b = memory_trees::branch(numbers, i, n);
@@ -32,8 +32,8 @@ fn map_standing(
     out: &mut [u8],
     answer: &mut u32,
 ) -> usize
-    requires { ⌜ (let c = cardOf (now numbers) (now names) in Numbers (now numbers) × Names (now names) × (i < treeCount (now numbers)) × (i < treeLimit) × (n < neighbourCount) × (16 ≤ label)
-        × (i ≡ treePlace (treeAt i c .name) c)) ⌝ }
+    requires { ⌜ (let c = cardOf (now numbers) (now names) in Numbers (now numbers) × Names (now names) × (n < neighbourCount) × (16 ≤ label)
+        × (i ≡ treePlace (treeAt i c .name) c) × StandsAt (now numbers) i) ⌝ }
     ensures { λ r. ⌜ (let c = cardOf (now (numbers .entry)) (now (names .entry)) in Does (finish (length (now (out .entry))) c (onMapping c n (treeAt i c .name) label))
         (now (answer .exit)) r (now (out .entry)) (now (out .exit)) (cardOf (now (numbers .exit)) (now (names .exit)))) ⌝ }
 {

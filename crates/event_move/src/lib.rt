@@ -3,10 +3,10 @@ ghost use mathlib.Core.Path.{_≡_};
 ghost use Prim.Native.Nat.{_+_, _≤_, _<_};
 ghost use lib.ListN.{length};
 ghost use Rattle.meaning.specs.Wire.{records, recordSize};
-ghost use Rattle.meaning.specs.Card.{treeAt, freeLabels, treeLimit, neighbourCount, thisNode};
+ghost use Rattle.meaning.specs.Card.{treeAt, freeLabels, neighbourCount, thisNode};
 ghost use Rattle.meaning.specs.Events.{giveUp, give, letGo, takeUp, moveLabel, relabel, needMove, need};
 ghost use Rattle.memory.specs.Sizes.{Numbers, Names};
-ghost use Rattle.memory.specs.Memory.{cardOf, treeCount};
+ghost use Rattle.memory.specs.Memory.{cardOf, StandsAt};
 ghost use Rattle.event_holder.specs.Move.{Wrote, moveSize, relabelSize};
 
 // Where the next record goes, and its identifier.
@@ -25,9 +25,8 @@ fn give_up(
     at: usize,
     id: u32,
 ) -> Written
-    requires { ⌜ (let c = cardOf (now numbers) (now names) in Numbers (now numbers) × Names (now names) × (i < treeCount (now numbers)) × (i < treeLimit)
-        × (treeAt i c .label ≡ 0 → ⊥)
-        × (at + recordSize (treeAt i c .name) ≤ length (now out))) ⌝ }
+    requires { ⌜ (let c = cardOf (now numbers) (now names) in Numbers (now numbers) × Names (now names) × (treeAt i c .label ≡ 0 → ⊥)
+        × (at + recordSize (treeAt i c .name) ≤ length (now out)) × StandsAt (now numbers) i) ⌝ }
     ensures { λ r. ⌜ (let c = cardOf (now (numbers .entry)) (now (names .entry)) in Wrote (giveUp i c) id at (now (out .entry)) (now (out .exit)) (cardOf (now (numbers .exit)) (now (names .entry))) (r .at) (r .id)
         × (freeLabels (cardOf (now (numbers .exit)) (now (names .entry))) ≡ freeLabels c)) ⌝ }
 {
@@ -48,8 +47,7 @@ pub fn let_go(
     at: usize,
     id: u32,
 ) -> Written
-    requires { ⌜ Numbers (now numbers) × Names (now names) × (i < treeCount (now numbers)) × (i < treeLimit)
-        × (at + length (records id (letGo i (cardOf (now numbers) (now names)) .sent)) ≤ length (now out)) ⌝ }
+    requires { ⌜ Numbers (now numbers) × Names (now names) × (at + length (records id (letGo i (cardOf (now numbers) (now names)) .sent)) ≤ length (now out)) × StandsAt (now numbers) i ⌝ }
     ensures { λ r. ⌜ (let c = cardOf (now (numbers .entry)) (now (names .entry)) in Wrote (letGo i c) id at (now (out .entry)) (now (out .exit)) (cardOf (now (numbers .exit)) (now (names .entry))) (r .at) (r .id)
         × (freeLabels (cardOf (now (numbers .exit)) (now (names .entry))) ≡ freeLabels c)) ⌝ }
 {
@@ -68,9 +66,9 @@ fn give(
     at: usize,
     id: u32,
 ) -> Written
-    requires { ⌜ (let c = cardOf (now numbers) (now names) in Numbers (now numbers) × Names (now names) × (i < treeCount (now numbers)) × (i < treeLimit) × (u < neighbourCount)
+    requires { ⌜ (let c = cardOf (now numbers) (now names) in Numbers (now numbers) × Names (now names) × (u < neighbourCount)
         × (0 < freeLabels c)
-        × (at + recordSize (treeAt i c .name) ≤ length (now out))) ⌝ }
+        × (at + recordSize (treeAt i c .name) ≤ length (now out)) × StandsAt (now numbers) i) ⌝ }
     ensures { λ r. ⌜ (let c = cardOf (now (numbers .entry)) (now (names .entry)) in Wrote (give i u c) id at (now (out .entry)) (now (out .exit)) (cardOf (now (numbers .exit)) (now (names .exit))) (r .at) (r .id)
         × (freeLabels (cardOf (now (numbers .exit)) (now (names .exit))) + 1 ≡ freeLabels c)) ⌝ }
 {
@@ -93,9 +91,9 @@ pub fn take_up(
     at: usize,
     id: u32,
 ) -> Written
-    requires { ⌜ (let c = cardOf (now numbers) (now names) in Numbers (now numbers) × Names (now names) × (i < treeCount (now numbers)) × (i < treeLimit) × (u ≤ 17) × (u ≡ thisNode → ⊥)
+    requires { ⌜ (let c = cardOf (now numbers) (now names) in Numbers (now numbers) × Names (now names) × (u ≤ 17) × (u ≡ thisNode → ⊥)
         × (needMove u ≤ freeLabels c)
-        × (at + length (records id (takeUp i u c .sent)) ≤ length (now out))) ⌝ }
+        × (at + length (records id (takeUp i u c .sent)) ≤ length (now out)) × StandsAt (now numbers) i) ⌝ }
     ensures { λ r. ⌜ (let c = cardOf (now (numbers .entry)) (now (names .entry)) in Wrote (takeUp i u c) id at (now (out .entry)) (now (out .exit)) (cardOf (now (numbers .exit)) (now (names .exit))) (r .at) (r .id)
         × (freeLabels (cardOf (now (numbers .exit)) (now (names .exit))) + needMove u ≡ freeLabels c)) ⌝ }
 {
@@ -115,9 +113,9 @@ pub fn move_label(
     at: usize,
     id: u32,
 ) -> Written
-    requires { ⌜ (let c = cardOf (now numbers) (now names) in Numbers (now numbers) × Names (now names) × (i < treeCount (now numbers)) × (i < treeLimit) × (u ≤ 17) × (u ≡ thisNode → ⊥)
+    requires { ⌜ (let c = cardOf (now numbers) (now names) in Numbers (now numbers) × Names (now names) × (u ≤ 17) × (u ≡ thisNode → ⊥)
         × (needMove u ≤ freeLabels c)
-        × (at + moveSize (treeAt i c) u ≤ length (now out))) ⌝ }
+        × (at + moveSize (treeAt i c) u ≤ length (now out)) × StandsAt (now numbers) i) ⌝ }
     ensures { λ r. ⌜ (let c = cardOf (now (numbers .entry)) (now (names .entry)) in Wrote (moveLabel i u c) id at (now (out .entry)) (now (out .exit)) (cardOf (now (numbers .exit)) (now (names .exit))) (r .at) (r .id)
         × (freeLabels (cardOf (now (numbers .exit)) (now (names .exit))) + needMove u ≡ freeLabels c)) ⌝ }
 {
@@ -138,9 +136,9 @@ pub fn relabel(
     at: usize,
     id: u32,
 ) -> Written
-    requires { ⌜ (let c = cardOf (now numbers) (now names) in Numbers (now numbers) × Names (now names) × (i < treeCount (now numbers)) × (i < treeLimit) × (u ≤ 17) × (u ≡ thisNode → ⊥)
+    requires { ⌜ (let c = cardOf (now numbers) (now names) in Numbers (now numbers) × Names (now names) × (u ≤ 17) × (u ≡ thisNode → ⊥)
         × (need c (treeAt i c) u ≤ freeLabels c)
-        × (at + relabelSize c (treeAt i c) u ≤ length (now out))) ⌝ }
+        × (at + relabelSize c (treeAt i c) u ≤ length (now out)) × StandsAt (now numbers) i) ⌝ }
     ensures { λ r. ⌜ Wrote (relabel i u (cardOf (now (numbers .entry)) (now (names .entry)))) id at (now (out .entry)) (now (out .exit)) (cardOf (now (numbers .exit)) (now (names .exit))) (r .at) (r .id) ⌝ }
 {
     if memory_trees::held_for(numbers, i) == u {

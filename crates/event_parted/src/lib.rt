@@ -6,10 +6,10 @@ ghost use Prim.Native.Nat.{ℕ, _+_, _*_, _≤_, _<_};
 ghost use lib.ListN.{getD, set};
 ghost use lib.Dec.{eqb};
 ghost use Rattle.meaning.specs.Octets.{pick, cut};
-ghost use Rattle.meaning.specs.Card.{noEntry, labelCount, routeLimit, treeLimit, treeAt, withBranch, withRoutes, withTrees, withLabels, neighbourCount};
+ghost use Rattle.meaning.specs.Card.{noEntry, labelCount, routeLimit, treeAt, withBranch, withRoutes, withTrees, withLabels, neighbourCount};
 ghost use Rattle.meaning.specs.Events.{usesWithout, recounted, recountedWithout, routesWithout, parted};
 ghost use Rattle.memory.specs.Sizes.{Numbers, Names, wordCount};
-ghost use Rattle.memory.specs.Memory.{cardOf, routeCount, treeCount, isFreeAt};
+ghost use Rattle.memory.specs.Memory.{cardOf, routeCount, isFreeAt, StandsAt};
 ghost use Rattle.event_parted.specs.Parted.{branchesWithout, labelsWithout, isOfAt, Freed};
 use meaning::LABEL_COUNT;
 use memory::MARK_COLUMN;
@@ -20,7 +20,7 @@ use memory::WORD_COLUMN;
 
 // The tree at place i loses neighbour n's branch, where it has one, and is counted so.
 fn end_branch(numbers: &mut [u64], names: &[u8], i: usize, n: usize)
-    requires { ⌜ Numbers (now numbers) × Names (now names) × (i < treeCount (now numbers)) × (i < treeLimit) × (n < neighbourCount) ⌝ }
+    requires { ⌜ Numbers (now numbers) × Names (now names) × (n < neighbourCount) × StandsAt (now numbers) i ⌝ }
     ensures { λ _. ⌜ (let c = cardOf (now (numbers .entry)) (now (names .entry)) in let t = withBranch n 0 (treeAt i c) in
         cardOf (now (numbers .exit)) (now (names .entry)) ≡ recounted (treeAt i c) t (withTrees (set (c .trees) i t) c)) ⌝ }
 {

@@ -10,7 +10,7 @@ ghost use Rattle.meaning.specs.Wire.{records, recordLimit};
 ghost use Rattle.meaning.specs.Card.{Card, treeAt, freeLabels, sentLimit, treeLimit, thisNode};
 ghost use Rattle.meaning.specs.Events.{labelsShort, needOne, needAll, moveOne, moveAll};
 ghost use Rattle.memory.specs.Sizes.{Numbers, Names};
-ghost use Rattle.memory.specs.Memory.{cardOf, treeCount};
+ghost use Rattle.memory.specs.Memory.{cardOf, StandsAt};
 ghost use Rattle.event_holder.specs.Move.{Wrote, sizeOne, sizeAll};
 use event_move::Written;
 use meaning::RECORD_LIMIT;
@@ -23,7 +23,7 @@ pub struct Takes {
 
 // That of one tree.
 fn take_one(numbers: &[u64], names: &[u8], i: usize, root: &[u8], u: u64) -> Takes
-    requires { ⌜ Numbers (now numbers) × Names (now names) × (i < treeCount (now numbers)) × (i < treeLimit) ⌝ }
+    requires { ⌜ Numbers (now numbers) × Names (now names) × StandsAt (now numbers) i ⌝ }
     ensures { λ r. ⌜ (let t = treeAt i (cardOf (now (numbers .entry)) (now (names .entry))) in (r .labels ≡ needOne (now (root .entry)) u t) × (r .octets ≡ sizeOne (now (root .entry)) u t)
         × (r .labels ≤ 1) × (r .octets ≤ 2 * recordLimit)) ⌝ }
 {
@@ -107,9 +107,9 @@ fn move_one(
     at: usize,
     id: u32,
 ) -> Written
-    requires { ⌜ (let c = cardOf (now numbers) (now names) in Numbers (now numbers) × Names (now names) × (i < treeCount (now numbers)) × (i < treeLimit) × (u ≤ 17) × (u ≡ thisNode → ⊥)
+    requires { ⌜ (let c = cardOf (now numbers) (now names) in Numbers (now numbers) × Names (now names) × (u ≤ 17) × (u ≡ thisNode → ⊥)
         × (needOne (now root) u (treeAt i c) ≤ freeLabels c)
-        × (at + length (records id (moveOne (now root) u i c .sent)) ≤ length (now out))) ⌝ }
+        × (at + length (records id (moveOne (now root) u i c .sent)) ≤ length (now out)) × StandsAt (now numbers) i) ⌝ }
     ensures { λ r. ⌜ (let c = cardOf (now (numbers .entry)) (now (names .entry)) in Wrote (moveOne (now (root .entry)) u i c) id at (now (out .entry)) (now (out .exit)) (cardOf (now (numbers .exit)) (now (names .exit))) (r .at) (r .id)
         × (freeLabels (cardOf (now (numbers .exit)) (now (names .exit))) + needOne (now (root .entry)) u (treeAt i c) ≡ freeLabels c)) ⌝ }
 {

@@ -9,7 +9,7 @@ ghost use Rattle.meaning.specs.Wire.{rootIn, records, recordLimit};
 ghost use Rattle.meaning.specs.Card.{treeAt, routePlace, withBranch, withLeaf, bare, freeLabels, treeLimit, neighbourCount, thisNode};
 ghost use Rattle.meaning.specs.Events.{relabel, takeUp, needMove, need, labelsShort, holderOf};
 ghost use Rattle.memory.specs.Sizes.{Numbers, Names};
-ghost use Rattle.memory.specs.Memory.{cardOf, treeCount};
+ghost use Rattle.memory.specs.Memory.{cardOf, StandsAt};
 ghost use Rattle.event_holder.specs.Move.{relabelSize};
 ghost use Rattle.event_tree.specs.End.{Ended, thenCut};
 use meaning::TREE_LIMIT;
@@ -19,7 +19,7 @@ use memory::NO_NEIGHBOUR;
 
 // The neighbour that the tree at place i, whose root's place is k, holds a label for, once neighbour n's branch is x; 17 for none.
 pub fn branch_holder(numbers: &[u64], i: usize, k: usize, n: usize, x: u64) -> u64
-    requires { ⌜ Numbers (now numbers) × (i < treeCount (now numbers)) × (i < treeLimit) ⌝ }
+    requires { ⌜ Numbers (now numbers) × StandsAt (now numbers) i ⌝ }
     ensures { λ r. ⌜ ((os : List ℕ) → (let c = cardOf (now (numbers .entry)) os in k ≡ routePlace (rootIn (treeAt i c .name)) c → r ≡ holderOf c (withBranch n x (treeAt i c)))) × (r ≤ 17) × (r ≡ thisNode → ⊥) ⌝ }
 {
     let u = event_holder::upstream_at(numbers, k);
@@ -28,7 +28,7 @@ pub fn branch_holder(numbers: &[u64], i: usize, k: usize, n: usize, x: u64) -> u
 
 // The same, once its leaf mark is `leaf`.
 pub fn leaf_holder(numbers: &[u64], i: usize, k: usize, leaf: bool) -> u64
-    requires { ⌜ Numbers (now numbers) × (i < treeCount (now numbers)) × (i < treeLimit) ⌝ }
+    requires { ⌜ Numbers (now numbers) × StandsAt (now numbers) i ⌝ }
     ensures { λ r. ⌜ ((os : List ℕ) → (let c = cardOf (now (numbers .entry)) os in k ≡ routePlace (rootIn (treeAt i c .name)) c → r ≡ holderOf c (withLeaf leaf (treeAt i c)))) × (r ≤ 17) × (r ≡ thisNode → ⊥) ⌝ }
 {
     let u = event_holder::upstream_at(numbers, k);
@@ -58,7 +58,7 @@ pub fn standing_refusal(
     first: usize,
     room: usize,
 ) -> u32
-    requires { ⌜ Numbers (now numbers) × Names (now names) × (i < treeCount (now numbers)) × (i < treeLimit) × (first ≤ recordLimit) ⌝ }
+    requires { ⌜ Numbers (now numbers) × Names (now names) × (first ≤ recordLimit) × StandsAt (now numbers) i ⌝ }
     ensures { λ r. ⌜ (let c = cardOf (now (numbers .entry)) (now (names .entry)) in r ≡ 12 when labelsShort c (need c (treeAt i c) u)
         else 16 when ltb room (first + relabelSize c (treeAt i c) u) else 0) ⌝ }
 {
@@ -102,9 +102,9 @@ pub fn settle(
     at: usize,
     id: u32,
 ) -> usize
-    requires { ⌜ (let c = cardOf (now numbers) (now names) in Numbers (now numbers) × Names (now names) × (i < treeCount (now numbers)) × (i < treeLimit) × (u ≤ 17) × (u ≡ thisNode → ⊥)
+    requires { ⌜ (let c = cardOf (now numbers) (now names) in Numbers (now numbers) × Names (now names) × (u ≤ 17) × (u ≡ thisNode → ⊥)
         × (need c (treeAt i c) u ≤ freeLabels c)
-        × (at + relabelSize c (treeAt i c) u ≤ length (now out))) ⌝ }
+        × (at + relabelSize c (treeAt i c) u ≤ length (now out)) × StandsAt (now numbers) i) ⌝ }
     ensures { λ r. ⌜ Ended (thenCut empty i (relabel i u (cardOf (now (numbers .entry)) (now (names .entry))))) id at (now (out .entry)) (now (out .exit)) (cardOf (now (numbers .exit)) (now (names .exit))) r ⌝ }
 {
     let w = event_move::relabel(numbers, names, i, u, out, at, id);
@@ -128,9 +128,9 @@ pub fn grow(
     out: &mut [u8],
     id: u32,
 ) -> usize
-    requires { ⌜ (let c = cardOf (now numbers) (now names) in Numbers (now numbers) × Names (now names) × (i < treeCount (now numbers)) × (i < treeLimit) × (u ≤ 17) × (u ≡ thisNode → ⊥)
+    requires { ⌜ (let c = cardOf (now numbers) (now names) in Numbers (now numbers) × Names (now names) × (u ≤ 17) × (u ≡ thisNode → ⊥)
         × (needMove u ≤ freeLabels c)
-        × (length (records id (takeUp i u c .sent)) ≤ length (now out))) ⌝ }
+        × (length (records id (takeUp i u c .sent)) ≤ length (now out)) × StandsAt (now numbers) i) ⌝ }
     ensures { λ r. ⌜ Ended (takeUp i u (cardOf (now (numbers .entry)) (now (names .entry)))) id 0 (now (out .entry)) (now (out .exit)) (cardOf (now (numbers .exit)) (now (names .exit))) r ⌝ }
 {
     let w = event_move::take_up(numbers, names, i, u, out, 0, id);

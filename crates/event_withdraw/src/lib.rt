@@ -4,16 +4,16 @@ ghost use mathlib.Core.List.{List};
 ghost use Prim.Native.Nat.{ℕ, _≤_, _<_};
 ghost use lib.ListN.{length};
 ghost use Rattle.meaning.specs.Wire.{nameLimit};
-ghost use Rattle.meaning.specs.Card.{treeAt, treePlace, withBranch, isEmpty, treeLimit, neighbourCount};
+ghost use Rattle.meaning.specs.Card.{treeAt, treePlace, withBranch, isEmpty, neighbourCount};
 ghost use Rattle.meaning.specs.Events.{finish, lessBranch, onWithdraw, onRelease};
 ghost use Rattle.meaning.specs.Calls.{Does};
 ghost use Rattle.memory.specs.Sizes.{Numbers, Names};
-ghost use Rattle.memory.specs.Memory.{cardOf, treeCount};
+ghost use Rattle.memory.specs.Memory.{cardOf, treeCount, StandsAt};
 use memory::NO_NEIGHBOUR;
 
 // What a Withdraw of a label from neighbour n leaves of the tree at place i: its branch there, and whether it is empty.
 fn less_branch(numbers: &[u64], i: usize, n: usize, label: u64) -> u64
-    requires { ⌜ Numbers (now numbers) × (i < treeCount (now numbers)) × (i < treeLimit) × (n < neighbourCount) ⌝ }
+    requires { ⌜ Numbers (now numbers) × (n < neighbourCount) × StandsAt (now numbers) i ⌝ }
     ensures { λ r. ⌜ ((os : List ℕ) → (let c = cardOf (now (numbers .entry)) os in withBranch n r (treeAt i c) ≡ lessBranch n label (treeAt i c))) ⌝ }
 {
     let b = memory_trees::branch(numbers, i, n);
@@ -21,7 +21,7 @@ fn less_branch(numbers: &[u64], i: usize, n: usize, label: u64) -> u64
 }
 
 fn less_empty(numbers: &[u64], i: usize, n: usize, left: u64) -> bool
-    requires { ⌜ Numbers (now numbers) × (i < treeCount (now numbers)) × (i < treeLimit) × (n < neighbourCount) ⌝ }
+    requires { ⌜ Numbers (now numbers) × (n < neighbourCount) × StandsAt (now numbers) i ⌝ }
     ensures { λ r. ⌜ ((os : List ℕ) → r ≡ isEmpty (withBranch n left (treeAt i (cardOf (now (numbers .entry)) os)))) ⌝ }
 {
     if memory_trees::is_leaf(numbers, i) {
@@ -40,8 +40,8 @@ fn withdraw_standing(
     out: &mut [u8],
     answer: &mut u32,
 ) -> usize
-    requires { ⌜ (let c = cardOf (now numbers) (now names) in Numbers (now numbers) × Names (now names) × (i < treeCount (now numbers)) × (i < treeLimit) × (n < neighbourCount)
-        × (i ≡ treePlace (treeAt i c .name) c)) ⌝ }
+    requires { ⌜ (let c = cardOf (now numbers) (now names) in Numbers (now numbers) × Names (now names) × (n < neighbourCount)
+        × (i ≡ treePlace (treeAt i c .name) c) × StandsAt (now numbers) i) ⌝ }
     ensures { λ r. ⌜ (let c = cardOf (now (numbers .entry)) (now (names .entry)) in Does (finish (length (now (out .entry))) c (onWithdraw c n (treeAt i c .name) label))
         (now (answer .exit)) r (now (out .entry)) (now (out .exit)) (cardOf (now (numbers .exit)) (now (names .exit)))) ⌝ }
 {

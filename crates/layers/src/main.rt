@@ -4,11 +4,11 @@ ghost use mathlib.Core.List.{[], _∷_, _++_};
 ghost use Prim.Native.Nat.{_+_, _*_, _≤_, _<_};
 ghost use lib.ListN.{length, take};
 ghost use Rattle.meaning.specs.Wire.{elementRefusal};
-ghost use Rattle.meaning.specs.Card.{branchesFrom, lookupName, treeAt, treeLimit, neighbourCount};
+ghost use Rattle.meaning.specs.Card.{branchesFrom, lookupName, treeAt, neighbourCount};
 ghost use Rattle.meaning.specs.Calls.{feedIn};
 ghost use Rattle.meaning_save.specs.Save.{new, saveLimit};
 ghost use Rattle.memory.specs.Sizes.{Numbers, Names};
-ghost use Rattle.memory.specs.Memory.{cardOf, treeCount};
+ghost use Rattle.memory.specs.Memory.{cardOf, StandsAt};
 ghost use Rattle.bench_words.specs.Words.{octetsOf};
 ghost use Rattle.bench_lines.specs.Text.{Adds};
 ghost use Rattle.layers.specs.TreeText.{labelWords, leafWords, branchesWords, feedWords, treeLine, labelSpace, branchSpace, feedSpace, lineSpace};
@@ -122,8 +122,7 @@ fn add_leads(text: &mut [u8], at: usize, numbers: &[u64], names: &[u8], name: &[
 
 // The line of the tree at place i.
 fn add_tree(text: &mut [u8], at: usize, numbers: &[u64], names: &[u8], i: usize) -> usize
-    requires { ⌜ Numbers (now numbers) × Names (now names) × (i < treeCount (now numbers)) × (i < treeLimit)
-        × (elementRefusal (treeAt i (cardOf (now numbers) (now names)) .name) ≡ 0) × (at + lineSpace ≤ length (now text)) ⌝ }
+    requires { ⌜ Numbers (now numbers) × Names (now names) × (elementRefusal (treeAt i (cardOf (now numbers) (now names)) .name) ≡ 0) × (at + lineSpace ≤ length (now text)) × StandsAt (now numbers) i ⌝ }
     ensures { λ r. ⌜ (let c = cardOf (now (numbers .entry)) (now (names .entry)) in
         Adds (treeLine c (treeAt i c)) (now (text .entry)) (now (text .exit)) at r) ⌝ }
     ensures { λ r. ⌜ r ≤ at + lineSpace ⌝ }

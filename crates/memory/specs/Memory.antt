@@ -46,6 +46,10 @@ routeCount ns = upTo routeLimit (getD ns 2 0)
 unfoldable pub treeCount : List ℕ → ℕ
 treeCount ns = upTo treeLimit (getD ns 3 0)
 
+-- a tree stands at place i. The limit follows, and is said too: a place in a column needs it
+abbrev pub StandsAt : List ℕ → ℕ → Type 0
+StandsAt ns i = (i < treeCount ns) × (i < treeLimit)
+
 -- the number of root i's entry holds its route and its counts, an octet each: via + 256 * standing + 65536 * lone
 abbrev pub routeNumber : List ℕ → ℕ → ℕ
 routeNumber ns i = getD ns (routeColumn + i) 0

@@ -9,7 +9,7 @@ ghost use Rattle.meaning.specs.Wire.{rootIn};
 ghost use Rattle.meaning.specs.Card.{Tree, withTrees, withBranch, withLeaf, treeAt, isBranch, isEmpty, routePlace, treeLimit, routeLimit, neighbourCount};
 ghost use Rattle.meaning.specs.Events.{ofRoot, total, inRoot, oneStanding, oneLone, changed, recounted};
 ghost use Rattle.memory.specs.Sizes.{Numbers, Names};
-ghost use Rattle.memory.specs.Memory.{cardOf, routeCount, treeCount, treeName};
+ghost use Rattle.memory.specs.Memory.{cardOf, routeCount, treeCount, treeName, StandsAt};
 use meaning::ROOT_LIMIT;
 use memory::NAME_SPACE;
 use memory::NO_NEIGHBOUR;
@@ -23,7 +23,7 @@ pub struct Counts {
 // ---- what one tree counts
 
 pub fn is_empty(numbers: &[u64], i: usize) -> bool
-    requires { ⌜ Numbers (now numbers) × (i < treeCount (now numbers)) × (i < treeLimit) ⌝ }
+    requires { ⌜ Numbers (now numbers) × StandsAt (now numbers) i ⌝ }
     ensures { λ r. ⌜ ((os : List ℕ) → r ≡ isEmpty (treeAt i (cardOf (now (numbers .entry)) os))) ⌝ }
 {
     if memory_trees::is_leaf(numbers, i) {
@@ -63,7 +63,7 @@ fn counts_of(leaf: bool, branches: u64) -> Counts
 
 // The same of the tree at place i.
 pub fn counts_at(numbers: &[u64], i: usize) -> Counts
-    requires { ⌜ Numbers (now numbers) × (i < treeCount (now numbers)) × (i < treeLimit) ⌝ }
+    requires { ⌜ Numbers (now numbers) × StandsAt (now numbers) i ⌝ }
     ensures { λ r. ⌜ ((os : List ℕ) → (let t = treeAt i (cardOf (now (numbers .entry)) os) in (r .standing ≡ oneStanding t) × (r .lone ≡ oneLone t)))
         × (r .standing ≤ 1) × (r .lone ≤ 1) ⌝ }
 {
@@ -92,7 +92,7 @@ pub fn root_place(numbers: &[u64], names: &[u8], name: &[u8]) -> usize
 
 // That of the tree at place i.
 pub fn its_root(numbers: &[u64], names: &[u8], i: usize) -> usize
-    requires { ⌜ Numbers (now numbers) × Names (now names) × (i < treeCount (now numbers)) × (i < treeLimit) ⌝ }
+    requires { ⌜ Numbers (now numbers) × Names (now names) × StandsAt (now numbers) i ⌝ }
     ensures { λ r. ⌜ (let c = cardOf (now (numbers .entry)) (now (names .entry)) in (r ≡ routePlace (rootIn (treeAt i c .name)) c) × (r ≤ routeLimit)) ⌝ }
 {
     root_place(numbers, names, memory_trees::tree_name(names, i))
@@ -119,7 +119,7 @@ pub fn recount(numbers: &mut [u64], k: usize, before: Counts, after: Counts)
 
 // Neighbour n's branch of the tree at place i, whose root's place is k, is `label` from now on, and is counted so.
 pub fn change_branch(numbers: &mut [u64], i: usize, k: usize, n: usize, label: u64)
-    requires { ⌜ Numbers (now numbers) × (i < treeCount (now numbers)) × (i < treeLimit) × (n < neighbourCount) ⌝ }
+    requires { ⌜ Numbers (now numbers) × (n < neighbourCount) × StandsAt (now numbers) i ⌝ }
     ensures { λ _. ⌜ ((os : List ℕ) → (let c = cardOf (now (numbers .entry)) os in let t = withBranch n label (treeAt i c) in
         k ≡ routePlace (rootIn (treeAt i c .name)) c → cardOf (now (numbers .exit)) os ≡ recounted (treeAt i c) t (withTrees (set (c .trees) i t) c))) ⌝ }
 {
@@ -137,7 +137,7 @@ pub fn change_branch(numbers: &mut [u64], i: usize, k: usize, n: usize, label: u
 
 // The same of its leaf.
 pub fn change_leaf(numbers: &mut [u64], i: usize, k: usize, leaf: bool)
-    requires { ⌜ Numbers (now numbers) × (i < treeCount (now numbers)) × (i < treeLimit) ⌝ }
+    requires { ⌜ Numbers (now numbers) × StandsAt (now numbers) i ⌝ }
     ensures { λ _. ⌜ ((os : List ℕ) → (let c = cardOf (now (numbers .entry)) os in let t = withLeaf leaf (treeAt i c) in
         k ≡ routePlace (rootIn (treeAt i c .name)) c → cardOf (now (numbers .exit)) os ≡ recounted (treeAt i c) t (withTrees (set (c .trees) i t) c))) ⌝ }
 {

@@ -6,10 +6,10 @@ ghost use Prim.Native.Nat.{ℕ, _+_, _*_, _-_, _≤_, _<_};
 ghost use lib.ListN.{length, set};
 ghost use Rattle.meaning.specs.Octets.{pick};
 ghost use Rattle.meaning.specs.Wire.{nameLimit};
-ghost use Rattle.meaning.specs.Card.{withLabels, treeAt, mapped, awaiting, labelCount, treeLimit, neighbourCount};
+ghost use Rattle.meaning.specs.Card.{withLabels, treeAt, mapped, awaiting, labelCount, neighbourCount};
 ghost use Rattle.meaning.specs.Events.{setUse, setLabel};
 ghost use Rattle.memory.specs.Sizes.{Numbers, Names, nameSpace};
-ghost use Rattle.memory.specs.Memory.{cardOf, baseIn, treeCount, treeName, isFreeAt, isMappedAt};
+ghost use Rattle.memory.specs.Memory.{cardOf, baseIn, treeCount, treeName, isFreeAt, isMappedAt, StandsAt};
 use memory::LABEL_NAMES;
 use memory::MARK_COLUMN;
 use memory::NAME_SPACE;
@@ -19,7 +19,7 @@ use memory::OWN_COLUMN;
 
 // The label at place p of the block, which is free, is mapped to neighbour n for the tree at place i, which carries it from now on.
 pub fn map_label(numbers: &mut [u64], names: &mut [u8], p: usize, i: usize, n: u64)
-    requires { ⌜ Numbers (now numbers) × Names (now names) × (p < labelCount) × (i < treeCount (now numbers)) × (i < treeLimit) × (n < neighbourCount) × (isFreeAt (now numbers) p ≡ true) ⌝ }
+    requires { ⌜ Numbers (now numbers) × Names (now names) × (p < labelCount) × (n < neighbourCount) × (isFreeAt (now numbers) p ≡ true) × StandsAt (now numbers) i ⌝ }
     ensures { λ _. ⌜ (let c = cardOf (now (numbers .entry)) (now (names .entry)) in cardOf (now (numbers .exit)) (now (names .exit))
         ≡ setLabel i (baseIn (now (numbers .entry)) + p) (setUse (baseIn (now (numbers .entry)) + p) (mapped n (treeAt i c .name)) c)) ⌝ }
 {
@@ -60,8 +60,8 @@ pub fn enter_use(
 
 // The tree at place i carries from now on the label at place p of the block, which is mapped and which no tree carries.
 pub fn attach(numbers: &mut [u64], i: usize, p: usize)
-    requires { ⌜ Numbers (now numbers) × (p < labelCount) × (i < treeCount (now numbers)) × (i < treeLimit) × (isMappedAt (now numbers) p ≡ true)
-        × ((os : List ℕ) (j : ℕ) → j < treeCount (now numbers) → treeAt j (cardOf (now numbers) os) .label ≡ baseIn (now numbers) + p → ⊥) ⌝ }
+    requires { ⌜ Numbers (now numbers) × (p < labelCount) × (isMappedAt (now numbers) p ≡ true)
+        × ((os : List ℕ) (j : ℕ) → j < treeCount (now numbers) → treeAt j (cardOf (now numbers) os) .label ≡ baseIn (now numbers) + p → ⊥) × StandsAt (now numbers) i ⌝ }
     ensures { λ _. ⌜ ((os : List ℕ) → cardOf (now (numbers .exit)) os ≡ setLabel i (baseIn (now (numbers .entry)) + p) (cardOf (now (numbers .entry)) os)) ⌝ }
 {
     numbers[MARK_COLUMN + p] = numbers[MARK_COLUMN + p] % 256 + 256 * i as u64;

@@ -7,7 +7,7 @@ ghost use Rattle.meaning.specs.Octets.{cut};
 ghost use Rattle.meaning.specs.Wire.{nameLimit};
 ghost use Rattle.meaning.specs.Card.{fresh, withTrees, bare, treeLimit};
 ghost use Rattle.memory.specs.Sizes.{Numbers, Names};
-ghost use Rattle.memory.specs.Memory.{cardOf, treeCount};
+ghost use Rattle.memory.specs.Memory.{cardOf, treeCount, StandsAt};
 ghost use Rattle.memory_rows.specs.Lower.{Lowered, LoweredOne, NamesLowered};
 use memory::FOURTH_WORD;
 use memory::MARK_COLUMN;
@@ -86,7 +86,7 @@ fn lower_names(names: &mut [u8], i: usize, n: usize)
 
 // A tree goes, and the gap is closed.
 pub fn remove_tree(numbers: &mut [u64], names: &mut [u8], i: usize)
-    requires { ⌜ Numbers (now numbers) × Names (now names) × (i < treeCount (now numbers)) × (i < treeLimit) ⌝ }
+    requires { ⌜ Numbers (now numbers) × Names (now names) × StandsAt (now numbers) i ⌝ }
     ensures { λ _. ⌜ (let c = cardOf (now (numbers .entry)) (now (names .entry)) in cardOf (now (numbers .exit)) (now (names .exit)) ≡ withTrees (cut (c .trees) i) c) ⌝ }
 {
     let n = memory::tree_count(numbers);

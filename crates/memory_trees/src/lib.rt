@@ -11,7 +11,7 @@ ghost use Rattle.meaning.specs.Card.{withTrees, withBranch, withLeaf, treePlace
 ghost use Rattle.meaning.specs.Events.{setUse, setLabel, ended};
 ghost use Rattle.octets.specs.Part.{tab};
 ghost use Rattle.memory.specs.Sizes.{Numbers, Names, nameSpace};
-ghost use Rattle.memory.specs.Memory.{cardOf, baseIn, treeCount, treeName, isMappedAt, carriesAt, ownPlace};
+ghost use Rattle.memory.specs.Memory.{cardOf, baseIn, treeCount, treeName, isMappedAt, carriesAt, ownPlace, StandsAt};
 use meaning::NAME_LIMIT;
 use meaning::NEIGHBOUR_COUNT;
 use memory::BRANCH_COLUMN;
@@ -51,7 +51,7 @@ pub fn own_counts(numbers: &[u64], i: usize) -> bool
 }
 
 pub fn tree_label(numbers: &[u64], i: usize) -> u64
-    requires { ⌜ Numbers (now numbers) × (i < treeCount (now numbers)) × (i < treeLimit) ⌝ }
+    requires { ⌜ Numbers (now numbers) × StandsAt (now numbers) i ⌝ }
     ensures { λ r. ⌜ ((os : List ℕ) → r ≡ treeAt i (cardOf (now (numbers .entry)) os) .label) ⌝ }
 {
     if own_counts(numbers, i) {
@@ -62,14 +62,14 @@ pub fn tree_label(numbers: &[u64], i: usize) -> u64
 }
 
 pub fn is_leaf(numbers: &[u64], i: usize) -> bool
-    requires { ⌜ Numbers (now numbers) × (i < treeCount (now numbers)) × (i < treeLimit) ⌝ }
+    requires { ⌜ Numbers (now numbers) × StandsAt (now numbers) i ⌝ }
     ensures { λ r. ⌜ ((os : List ℕ) → r ≡ treeAt i (cardOf (now (numbers .entry)) os) .leaf) ⌝ }
 {
     numbers[ROW_COLUMN + i * ROW_WIDTH] != 0
 }
 
 pub fn branch(numbers: &[u64], i: usize, n: usize) -> u64
-    requires { ⌜ Numbers (now numbers) × (i < treeCount (now numbers)) × (i < treeLimit) × (n < neighbourCount) ⌝ }
+    requires { ⌜ Numbers (now numbers) × (n < neighbourCount) × StandsAt (now numbers) i ⌝ }
     ensures { λ r. ⌜ ((os : List ℕ) → r ≡ getD (treeAt i (cardOf (now (numbers .entry)) os) .branches) n 0) ⌝ }
 {
     numbers[BRANCH_COLUMN + i * ROW_WIDTH + n]
@@ -97,7 +97,7 @@ fn four_at(numbers: &[u64], i: usize) -> Four
 
 // The sixteen branches, all read before the caller writes one: so a lookup makes no copy on the way to the lent array.
 pub fn branches(numbers: &[u64], i: usize) -> [u64; NEIGHBOUR_COUNT]
-    requires { ⌜ Numbers (now numbers) × (i < treeCount (now numbers)) × (i < treeLimit) ⌝ }
+    requires { ⌜ Numbers (now numbers) × StandsAt (now numbers) i ⌝ }
     ensures { λ r. ⌜ ((os : List ℕ) → r ≡ treeAt i (cardOf (now (numbers .entry)) os) .branches) ⌝ }
 {
     let a = BRANCH_COLUMN + i * ROW_WIDTH;
@@ -134,7 +134,7 @@ pub fn one(x: u64) -> u64
 
 // How many branches the tree has. All sixteen are read, and no step hangs on which of them stand: nothing foretells that.
 pub fn branch_count(numbers: &[u64], i: usize) -> u64
-    requires { ⌜ Numbers (now numbers) × (i < treeCount (now numbers)) × (i < treeLimit) ⌝ }
+    requires { ⌜ Numbers (now numbers) × StandsAt (now numbers) i ⌝ }
     ensures { λ r. ⌜ ((os : List ℕ) → r ≡ count isBranch (treeAt i (cardOf (now (numbers .entry)) os) .branches)) × (r ≤ neighbourCount) ⌝ }
 {
     let mut sum = 0;
@@ -148,7 +148,7 @@ pub fn branch_count(numbers: &[u64], i: usize) -> u64
 
 // How many of them are neighbour n's: one, or none. A number above 15 is nobody's.
 pub fn count_of(numbers: &[u64], i: usize, n: usize) -> u64
-    requires { ⌜ Numbers (now numbers) × (i < treeCount (now numbers)) × (i < treeLimit) ⌝ }
+    requires { ⌜ Numbers (now numbers) × StandsAt (now numbers) i ⌝ }
     ensures { λ r. ⌜ ((os : List ℕ) → r ≡ pick (isBranch (getD (treeAt i (cardOf (now (numbers .entry)) os) .branches) n 0)) 1 0) × (r ≤ 1) ⌝ }
 {
     if n < NEIGHBOUR_COUNT {
@@ -168,7 +168,7 @@ fn is_other(k: usize, n: usize, but: usize) -> bool
 
 // Whether the tree has a branch of another neighbour than n and `but`. Most have one of a low number, and the first ends the search.
 fn any_other(numbers: &[u64], i: usize, n: usize, but: usize) -> bool
-    requires { ⌜ Numbers (now numbers) × (i < treeCount (now numbers)) × (i < treeLimit) ⌝ }
+    requires { ⌜ Numbers (now numbers) × StandsAt (now numbers) i ⌝ }
     ensures { λ r. ⌜ ((os : List ℕ) → r ≡ any isBranch (set (set (treeAt i (cardOf (now (numbers .entry)) os) .branches) n 0) but 0)) ⌝ }
 {
     let mut k = 0;
@@ -198,7 +198,7 @@ fn is_one(n: usize, x: u64, but: usize) -> bool
 
 // Whether the tree has a branch, once that of neighbour n is x (NO_NEIGHBOUR: nobody's changes), apart from that of neighbour `but` (NO_NEIGHBOUR: none apart).
 pub fn any_branch(numbers: &[u64], i: usize, n: usize, x: u64, but: usize) -> bool
-    requires { ⌜ Numbers (now numbers) × (i < treeCount (now numbers)) × (i < treeLimit) ⌝ }
+    requires { ⌜ Numbers (now numbers) × StandsAt (now numbers) i ⌝ }
     ensures { λ r. ⌜ ((os : List ℕ) → r ≡ any isBranch (set (set (treeAt i (cardOf (now (numbers .entry)) os) .branches) n x) but 0)) ⌝ }
 {
     if is_one(n, x, but) {
@@ -261,7 +261,7 @@ pub fn tree_place(numbers: &[u64], names: &[u8], name: &[u8]) -> usize
 }
 
 pub fn set_branch(numbers: &mut [u64], i: usize, n: usize, label: u64)
-    requires { ⌜ Numbers (now numbers) × (i < treeCount (now numbers)) × (i < treeLimit) × (n < neighbourCount) ⌝ }
+    requires { ⌜ Numbers (now numbers) × (n < neighbourCount) × StandsAt (now numbers) i ⌝ }
     ensures { λ _. ⌜ ((os : List ℕ) → (let c = cardOf (now (numbers .entry)) os in cardOf (now (numbers .exit)) os
         ≡ withTrees (set (c .trees) i (withBranch n label (treeAt i c))) c)) ⌝ }
 {
@@ -269,7 +269,7 @@ pub fn set_branch(numbers: &mut [u64], i: usize, n: usize, label: u64)
 }
 
 pub fn set_leaf(numbers: &mut [u64], i: usize, leaf: bool)
-    requires { ⌜ Numbers (now numbers) × (i < treeCount (now numbers)) × (i < treeLimit) ⌝ }
+    requires { ⌜ Numbers (now numbers) × StandsAt (now numbers) i ⌝ }
     ensures { λ _. ⌜ ((os : List ℕ) → (let c = cardOf (now (numbers .entry)) os in cardOf (now (numbers .exit)) os
         ≡ withTrees (set (c .trees) i (withLeaf leaf (treeAt i c))) c)) ⌝ }
 {
@@ -280,7 +280,7 @@ pub fn set_leaf(numbers: &mut [u64], i: usize, leaf: bool)
 
 // The neighbour for which the tree at place i holds its label; 17 for none.
 pub fn held_for(numbers: &[u64], i: usize) -> u64
-    requires { ⌜ Numbers (now numbers) × (i < treeCount (now numbers)) × (i < treeLimit) ⌝ }
+    requires { ⌜ Numbers (now numbers) × StandsAt (now numbers) i ⌝ }
     ensures { λ r. ⌜ ((os : List ℕ) → (let c = cardOf (now (numbers .entry)) os in r ≡ heldFor c (treeAt i c))) × (r ≤ 17) ⌝ }
 {
     if own_counts(numbers, i) {
@@ -311,7 +311,7 @@ pub fn carrier_at(numbers: &[u64], p: usize) -> usize
 
 // The label that the tree carries awaits release from now on, and the tree carries none: a label that is not mapped has no carrier.
 pub fn end_label(numbers: &mut [u64], i: usize)
-    requires { ⌜ Numbers (now numbers) × (i < treeCount (now numbers)) × (i < treeLimit) × ((os : List ℕ) → treeAt i (cardOf (now numbers) os) .label ≡ 0 → ⊥) ⌝ }
+    requires { ⌜ Numbers (now numbers) × ((os : List ℕ) → treeAt i (cardOf (now numbers) os) .label ≡ 0 → ⊥) × StandsAt (now numbers) i ⌝ }
     ensures { λ _. ⌜ ((os : List ℕ) → (let c = cardOf (now (numbers .entry)) os in cardOf (now (numbers .exit)) os
         ≡ setLabel i 0 (setUse (treeAt i c .label) (ended (useOf (treeAt i c .label) c)) c))) ⌝ }
 {

@@ -3,17 +3,17 @@ ghost use mathlib.Core.Path.{_≡_};
 ghost use mathlib.Core.Bool.{true};
 ghost use mathlib.Core.List.{[]};
 ghost use Prim.Native.Nat.{_<_};
-ghost use Rattle.meaning.specs.Card.{treeAt, bare, treeLimit};
+ghost use Rattle.meaning.specs.Card.{treeAt, bare};
 ghost use Rattle.meaning.specs.Events.{recounted};
 ghost use Rattle.meaning_save.specs.Save.{onceEach, sameRoot, allWorkedOut};
 ghost use Rattle.memory.specs.Sizes.{Numbers, Names};
-ghost use Rattle.memory.specs.Memory.{cardOf, treeCount};
+ghost use Rattle.memory.specs.Memory.{cardOf, StandsAt};
 ghost use Rattle.save_counts.specs.Counted.{counted};
 use memory_counts::Counts;
 
 // The tree at place i, which is not counted yet, is counted in the entry of its root.
 fn count_tree(numbers: &mut [u64], names: &[u8], i: usize)
-    requires { ⌜ Numbers (now numbers) × Names (now names) × (i < treeCount (now numbers)) × (i < treeLimit) ⌝ }
+    requires { ⌜ Numbers (now numbers) × Names (now names) × StandsAt (now numbers) i ⌝ }
     ensures { λ _. ⌜ (let c = cardOf (now (numbers .entry)) (now (names .entry)) in cardOf (now (numbers .exit)) (now (names .entry)) ≡ recounted (bare []) (treeAt i c) c) ⌝ }
 {
     let k = memory_counts::its_root(numbers, names, i);

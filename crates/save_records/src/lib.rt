@@ -5,11 +5,11 @@ ghost use mathlib.Core.List.{List, _∷_, _++_};
 ghost use Prim.Native.Nat.{ℕ, _+_, _*_, _<_};
 ghost use lib.ListN.{length};
 ghost use Rattle.meaning.specs.Octets.{pick, four};
-ghost use Rattle.meaning.specs.Card.{treeAt, labelCount, neighbourCount, routeLimit, treeLimit};
+ghost use Rattle.meaning.specs.Card.{treeAt, labelCount, neighbourCount, routeLimit};
 ghost use Rattle.meaning_save.specs.Save.{formOf, nameSaved, marked, treeKind, useKind, headSaved, routeSaved, foursOf, treeSaved, useSaved, headSize, routeSize, treeBeside, useBeside};
 ghost use Rattle.meaning_laws.specs.SaveFields.{nameSize};
 ghost use Rattle.memory.specs.Sizes.{Numbers, Names};
-ghost use Rattle.memory.specs.Memory.{cardOf, baseIn, treeCount, routeIn, isFreeAt, labelIn, labelName};
+ghost use Rattle.memory.specs.Memory.{cardOf, baseIn, routeIn, isFreeAt, labelIn, labelName, StandsAt};
 use meaning::LABEL_COUNT;
 use meaning::NEIGHBOUR_COUNT;
 use meaning::ROOT_LIMIT;
@@ -102,7 +102,7 @@ fn put_four(out: &mut [u8], n: u64)
 
 // The sixteen branch labels of the tree at place i.
 fn put_fours(numbers: &[u64], i: usize, out: &mut [u8])
-    requires { ⌜ Numbers (now numbers) × (i < treeCount (now numbers)) × (i < treeLimit) × (length (now out) ≡ 4 * neighbourCount) ⌝ }
+    requires { ⌜ Numbers (now numbers) × (length (now out) ≡ 4 * neighbourCount) × StandsAt (now numbers) i ⌝ }
     ensures { λ _. ⌜ ((os : List ℕ) → now (out .exit) ≡ foursOf (treeAt i (cardOf (now (numbers .entry)) os) .branches)) ⌝ }
 {
     let mut k = 0;
@@ -115,7 +115,7 @@ fn put_fours(numbers: &[u64], i: usize, out: &mut [u8])
 }
 
 fn leaf_octet(numbers: &[u64], i: usize) -> u8
-    requires { ⌜ Numbers (now numbers) × (i < treeCount (now numbers)) × (i < treeLimit) ⌝ }
+    requires { ⌜ Numbers (now numbers) × StandsAt (now numbers) i ⌝ }
     ensures { λ r. ⌜ ((os : List ℕ) → r ≡ pick (treeAt i (cardOf (now (numbers .entry)) os) .leaf) 1 0) ⌝ }
 {
     if memory_trees::is_leaf(numbers, i) {
@@ -138,7 +138,7 @@ fn put_tree_name(out: &mut [u8], name: &[u8], second: bool)
 
 // What stands behind the name: the leaf mark and the branches.
 fn put_tree_rest(numbers: &[u64], i: usize, out: &mut [u8])
-    requires { ⌜ Numbers (now numbers) × (i < treeCount (now numbers)) × (i < treeLimit) × (length (now out) ≡ 1 + 4 * neighbourCount) ⌝ }
+    requires { ⌜ Numbers (now numbers) × (length (now out) ≡ 1 + 4 * neighbourCount) × StandsAt (now numbers) i ⌝ }
     ensures { λ _. ⌜ ((os : List ℕ) → now (out .exit) ≡ pick (treeAt i (cardOf (now (numbers .entry)) os) .leaf) 1 0 ∷ foursOf (treeAt i (cardOf (now (numbers .entry)) os) .branches)) ⌝ }
 {
     let leaf = [leaf_octet(numbers, i)];
@@ -148,8 +148,7 @@ fn put_tree_rest(numbers: &[u64], i: usize, out: &mut [u8])
 }
 
 pub fn put_tree_record(numbers: &[u64], names: &[u8], second: bool, i: usize, out: &mut [u8])
-    requires { ⌜ Numbers (now numbers) × Names (now names) × (i < treeCount (now numbers)) × (i < treeLimit)
-        × (length (now out) ≡ treeBeside + nameSize (formOf second) (treeAt i (cardOf (now numbers) (now names)) .name)) ⌝ }
+    requires { ⌜ Numbers (now numbers) × Names (now names) × (length (now out) ≡ treeBeside + nameSize (formOf second) (treeAt i (cardOf (now numbers) (now names)) .name)) × StandsAt (now numbers) i ⌝ }
     ensures { λ _. ⌜ now (out .exit) ≡ treeSaved (formOf second) (treeAt i (cardOf (now (numbers .entry)) (now (names .entry)))) ⌝ }
 {
     let name = memory_trees::tree_name(names, i);

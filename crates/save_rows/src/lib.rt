@@ -7,7 +7,7 @@ ghost use Rattle.meaning.specs.Octets.{fourAt};
 ghost use Rattle.meaning.specs.Card.{withRoutes, withTrees, bare, treeAt, routeLimit, treeLimit, neighbourCount};
 ghost use Rattle.meaning_save.specs.Save.{formOf, nameIn, extent, routeRead, treeRead, foursIn, routesRead, treesRead, treesEnd};
 ghost use Rattle.memory.specs.Sizes.{Numbers, Names};
-ghost use Rattle.memory.specs.Memory.{cardOf, treeCount, routeCount};
+ghost use Rattle.memory.specs.Memory.{cardOf, treeCount, routeCount, StandsAt};
 ghost use Rattle.save_rows.specs.Stages.{withBranches, rowsRead, labelsBegin};
 use meaning::NAME_LIMIT;
 use meaning::NEIGHBOUR_COUNT;
@@ -41,7 +41,7 @@ fn read_routes(octets: &[u8], at: usize, n: usize, numbers: &mut [u64], names: &
 // ---- trees
 
 fn read_branches(octets: &[u8], at: usize, numbers: &mut [u64], i: usize)
-    requires { ⌜ Numbers (now numbers) × (i < treeCount (now numbers)) × (i < treeLimit) × (at < 1073741824) ⌝ }
+    requires { ⌜ Numbers (now numbers) × (at < 1073741824) × StandsAt (now numbers) i ⌝ }
     ensures { λ _. ⌜ ((os : List ℕ) → (let c = cardOf (now (numbers .entry)) os in
         cardOf (now (numbers .exit)) os ≡ withTrees (set (c .trees) i (withBranches (foursIn neighbourCount (drop at (now (octets .entry)))) (treeAt i c))) c)) ⌝ }
 {

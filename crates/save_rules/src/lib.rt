@@ -6,10 +6,10 @@ ghost use mathlib.Core.Bool.{true, false, _&&_};
 ghost use mathlib.Core.List.{List};
 ghost use Prim.Native.Nat.{ℕ, _+_, _<_};
 ghost use Rattle.meaning.specs.Octets.{all};
-ghost use Rattle.meaning.specs.Card.{treeAt, labelCount, treeLimit};
+ghost use Rattle.meaning.specs.Card.{treeAt, labelCount};
 ghost use Rattle.meaning_save.specs.Save.{isName, isUse, isCarried, allCarried, isMappedFor, carriesOwn, holdsRight, onceEach, sameName, sameRoot, keepsRows};
 ghost use Rattle.memory.specs.Sizes.{Numbers, Names};
-ghost use Rattle.memory.specs.Memory.{cardOf, baseIn, isFreeAt, isMappedAt, labelIn, labelName, treeCount};
+ghost use Rattle.memory.specs.Memory.{cardOf, baseIn, isFreeAt, isMappedAt, labelIn, labelName, StandsAt};
 use meaning::LABEL_COUNT;
 use memory::NEIGHBOURS;
 
@@ -95,7 +95,7 @@ pub fn is_mapped_for(numbers: &[u64], names: &[u8], p: usize, name: &[u8]) -> bo
 
 // Whether the label of the tree at place i, if it has one, is mapped for the tree's name.
 fn carries_own(numbers: &[u64], names: &[u8], i: usize) -> bool
-    requires { ⌜ Numbers (now numbers) × Names (now names) × (i < treeCount (now numbers)) × (i < treeLimit) ⌝ }
+    requires { ⌜ Numbers (now numbers) × Names (now names) × StandsAt (now numbers) i ⌝ }
     ensures { λ r. ⌜ (let c = cardOf (now (numbers .entry)) (now (names .entry)) in r ≡ carriesOwn c (treeAt i c)) ⌝ }
 {
     let label = memory_trees::tree_label(numbers, i);
@@ -125,7 +125,7 @@ fn own_labels(numbers: &[u64], names: &[u8]) -> bool
 }
 
 fn holds_right(numbers: &[u64], names: &[u8], i: usize) -> bool
-    requires { ⌜ Numbers (now numbers) × Names (now names) × (i < treeCount (now numbers)) × (i < treeLimit) ⌝ }
+    requires { ⌜ Numbers (now numbers) × Names (now names) × StandsAt (now numbers) i ⌝ }
     ensures { λ r. ⌜ (let c = cardOf (now (numbers .entry)) (now (names .entry)) in r ≡ holdsRight c (treeAt i c)) ⌝ }
 {
     let u = event_holder::upstream_of(numbers, names, memory_trees::tree_name(names, i));

@@ -5,10 +5,10 @@ ghost use mathlib.Core.List.{List};
 ghost use Prim.Native.Nat.{ℕ, _+_, _<_};
 ghost use lib.ListN.{drop};
 ghost use Rattle.meaning.specs.Octets.{any, all};
-ghost use Rattle.meaning.specs.Card.{treeAt, isEmpty, isFor, routeLimit, treeLimit};
+ghost use Rattle.meaning.specs.Card.{treeAt, isEmpty, isFor, routeLimit};
 ghost use Rattle.meaning_save.specs.Save.{isName, onceEach, isRoute, sameRoot, isBranchLabel, isTree};
 ghost use Rattle.memory.specs.Sizes.{Numbers, Names};
-ghost use Rattle.memory.specs.Memory.{cardOf, routeIn, treeCount};
+ghost use Rattle.memory.specs.Memory.{cardOf, routeIn, StandsAt};
 use meaning::NEIGHBOUR_COUNT;
 use memory::NO_NEIGHBOUR;
 
@@ -95,7 +95,7 @@ fn is_branch_label(label: u64) -> bool
 }
 
 fn branches_good(numbers: &[u64], i: usize) -> bool
-    requires { ⌜ Numbers (now numbers) × (i < treeCount (now numbers)) × (i < treeLimit) ⌝ }
+    requires { ⌜ Numbers (now numbers) × StandsAt (now numbers) i ⌝ }
     ensures { λ r. ⌜ ((os : List ℕ) → r ≡ all isBranchLabel (treeAt i (cardOf (now (numbers .entry)) os) .branches)) ⌝ }
 {
     let mut k = 0;
@@ -110,7 +110,7 @@ fn branches_good(numbers: &[u64], i: usize) -> bool
 
 // Whether the tree at place i has a branch or a leaf.
 fn leads_somewhere(numbers: &[u64], i: usize) -> bool
-    requires { ⌜ Numbers (now numbers) × (i < treeCount (now numbers)) × (i < treeLimit) ⌝ }
+    requires { ⌜ Numbers (now numbers) × StandsAt (now numbers) i ⌝ }
     ensures { λ r. ⌜ ((os : List ℕ) → r ≡ not (isEmpty (treeAt i (cardOf (now (numbers .entry)) os)))) ⌝ }
 {
     if memory_trees::is_leaf(numbers, i) {
@@ -120,7 +120,7 @@ fn leads_somewhere(numbers: &[u64], i: usize) -> bool
 }
 
 fn is_tree(numbers: &[u64], names: &[u8], i: usize) -> bool
-    requires { ⌜ Numbers (now numbers) × Names (now names) × (i < treeCount (now numbers)) × (i < treeLimit) ⌝ }
+    requires { ⌜ Numbers (now numbers) × Names (now names) × StandsAt (now numbers) i ⌝ }
     ensures { λ r. ⌜ r ≡ isTree (treeAt i (cardOf (now (numbers .entry)) (now (names .entry)))) ⌝ }
 {
     if !is_name(memory_trees::tree_name(names, i)) {

@@ -2,14 +2,14 @@
 ghost use mathlib.Core.Path.{_≡_};
 ghost use Prim.Native.Nat.{_<_};
 ghost use Rattle.meaning.specs.Octets.{all};
-ghost use Rattle.meaning.specs.Card.{treeAt, treeLimit, labelCount};
+ghost use Rattle.meaning.specs.Card.{treeAt, labelCount};
 ghost use Rattle.meaning_save.specs.Save.{formOf, isShortTree, isShortUse, fitsSave};
 ghost use Rattle.memory.specs.Sizes.{Numbers, Names};
-ghost use Rattle.memory.specs.Memory.{cardOf, treeCount, labelIn};
+ghost use Rattle.memory.specs.Memory.{cardOf, labelIn, StandsAt};
 use meaning::LABEL_COUNT;
 
 fn is_short_tree(numbers: &[u64], names: &[u8], second: bool, i: usize) -> bool
-    requires { ⌜ Numbers (now numbers) × Names (now names) × (i < treeCount (now numbers)) × (i < treeLimit) ⌝ }
+    requires { ⌜ Numbers (now numbers) × Names (now names) × StandsAt (now numbers) i ⌝ }
     ensures { λ r. ⌜ r ≡ isShortTree (formOf second) (treeAt i (cardOf (now (numbers .entry)) (now (names .entry)))) ⌝ }
 {
     save_texts::is_short(memory_trees::tree_name(names, i), second)

@@ -28,7 +28,7 @@ returns : tie.Need-returns
 returns c = λ os.
     let s = c .before .before .before .before in
     let all = c .before .before .branches .ensures os in
-    let n16 = branches-length (s .args .numbers .now) os (s .args .i) (s .pre .1) in
+    let n16 = branches-length (s .args .numbers .now) os (s .args .i) (s .pre .1 .0) in
     feed-is _ _ _ _
     (⊎-elim
     (λ w. w .1 ∙ ap (λ (bs : List ℕ). set bs (s .args .u) 0) all)

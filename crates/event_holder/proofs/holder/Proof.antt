@@ -22,7 +22,7 @@ returns c =
     let t = treeAt (s .args .i) (cardOf (s .args .numbers .now) os) in
     c .holder-then .ensures os
     ∙ ap (λ (b : Bool). holder (s .args .u) (withLeaf b (withBranch 16 0 t))) (c .before .is-leaf .ensures os)
-    ∙ ap (holder (s .args .u)) (with-none t (t .leaf) 0 (branches-length _ os _ (s .pre .1)) ∙ with-own t)
+    ∙ ap (holder (s .args .u)) (with-none t (t .leaf) 0 (branches-length _ os _ (s .pre .1 .0)) ∙ with-own t)
 
 pub holder-spec : {M : Type 1} → statement M
 holder-spec = tie.close (tie.spec is-leaf-requires holder-then-requires returns)

@@ -76,7 +76,7 @@ change-leaf-requires c κs =
     let few = few-trees-stand card _ (start .args .name .now) _ _ N (start .args .out .now) _ _ (the-record-size .ensures) (the-new-refusal .ensures _) (the-if1 .left) in
     let grown-by-one = count-is _ _ _ (the-enter-tree .ensures) ∙ snoc-length card (start .args .name .now) in
     let n = the-tree-count .ensures .0 ∙ sym (trees-length _ (start .args .names .now)) in
-    (search needs, omega (arith, grown-by-one, n), omega (arith, few, n))
+    (search needs, (omega (arith, grown-by-one, n), omega (arith, few, n)))
 
 grow-requires : tie.Need-grow-requires
 grow-requires c κs =
@@ -96,7 +96,7 @@ grow-requires c κs =
     let changed = the-change-leaf .ensures _ (new-place card _ (start .args .name .now) _ _ last (the-enter-tree .ensures) (the-root-place .ensures .0)) ∙ entered-changed card _ (start .args .name .now) _ (withLeaf true) last (the-enter-tree .ensures) in
     let R = grow-ready card _ (start .args .name .now) _ _ N (start .args .out .now) _ _ (the-record-size .ensures) (the-new-refusal .ensures _) (the-if1 .left) _ _ _ changed in
     let few = few-trees-stand card _ (start .args .name .now) _ _ N (start .args .out .now) _ _ (the-record-size .ensures) (the-new-refusal .ensures _) (the-if1 .left) in
-    (search needs, search needs, R .0, omega (arith, few, last), search needs, search needs, R .1, R .2)
+    (search needs, search needs, search needs, search needs, R .1, R .2, (R .0, omega (arith, few, last)))
 
 same-length-3 : tie.Need-same-length-3
 same-length-3 c = search needs

@@ -33,9 +33,9 @@ returns c =
     let the-leaf-holder = c .before .before .before .before .leaf-holder in
     let the-its-root = c .before .before .before .before .before .before .its-root in
     let card = (cardOf (start .args .numbers .now) (start .args .names .now)) in
-    let within : start .args .i < length (card .trees) = rw trees-length (start .pre .2) in
-    let S = joined-standing card (start .args .i) (start .pre .4) within _ (the-leaf-holder .ensures .0 _ (the-its-root .ensures .0)) in
-    rw (join-standing card _ (start .args .i) (start .pre .4) within)
+    let within : start .args .i < length (card .trees) = rw trees-length (start .pre .3 .0) in
+    let S = joined-standing card (start .args .i) (start .pre .2) within _ (the-leaf-holder .ensures .0 _ (the-its-root .ensures .0)) in
+    rw (join-standing card _ (start .args .i) (start .pre .2) within)
     (standing-refused card [] _ _ _ S _ 0 _ (no-records _) (c .before .standing-refusal .ensures) (c .if1 .taken))
 
 next-id-requires : tie.Need-next-id-requires
@@ -53,10 +53,10 @@ settle-requires c κs =
     let the-if1 = c .before .before .before .before .before .before .before .before .before .if1 in
     let the-change-leaf = c .before .before .before .before .before .change-leaf in
     let card = (cardOf (start .args .numbers .now) (start .args .names .now)) in
-    let within : start .args .i < length (card .trees) = rw trees-length (start .pre .2) in
-    let S = joined-standing card (start .args .i) (start .pre .4) within _ (the-leaf-holder .ensures .0 _ (the-its-root .ensures .0)) in
+    let within : start .args .i < length (card .trees) = rw trees-length (start .pre .3 .0) in
+    let S = joined-standing card (start .args .i) (start .pre .2) within _ (the-leaf-holder .ensures .0 _ (the-its-root .ensures .0)) in
     let R = settle-ready card [] _ _ _ S (start .args .out .now) 0 _ (no-records _) (the-standing-refusal .ensures) (the-if1 .left) _ _ (the-change-leaf .ensures _ (the-its-root .ensures .0)) in
-    (search needs, search needs, R .0, search needs, search needs, search needs, R .1, R .2)
+    (search needs, search needs, search needs, search needs, R .1, R .2, (R .0, search needs))
 
 same-length-3 : tie.Need-same-length-3
 same-length-3 c = search needs
@@ -78,9 +78,9 @@ returns-2 c =
     let the-change-leaf = c .before .before .before .before .before .before .before .before .before .before .before .before .change-leaf in
     let the-settle = c .before .before .before .before .before .before .settle in
     let card = (cardOf (start .args .numbers .now) (start .args .names .now)) in
-    let within : start .args .i < length (card .trees) = rw trees-length (start .pre .2) in
-    let S = joined-standing card (start .args .i) (start .pre .4) within _ (the-leaf-holder .ensures .0 _ (the-its-root .ensures .0)) in
-    rw (join-standing card _ (start .args .i) (start .pre .4) within)
+    let within : start .args .i < length (card .trees) = rw trees-length (start .pre .3 .0) in
+    let S = joined-standing card (start .args .i) (start .pre .2) within _ (the-leaf-holder .ensures .0 _ (the-its-root .ensures .0)) in
+    rw (join-standing card _ (start .args .i) (start .pre .2) within)
     (standing-taken card [] _ _ _ S (start .args .out .now) 0 _ (no-records _) (the-standing-refusal .ensures) (the-if1 .left) _ _ _
     (standing-ends card [] _ _ _ S (start .args .out .now) _ _ _ _ _ _ (the-next-id .ensures _) (the-change-leaf .ensures _ (the-its-root .ensures .0)) (sym (leaf-full (treeAt (start .args .i) card))) (the-settle .ensures)))
 

@@ -44,10 +44,10 @@ returns c =
     let the-is-leaf = c .before .before .before .before .is-leaf in
     let the-if1 = c .before .before .before .if1 in
     let card = (cardOf (start .args .numbers .now) (start .args .names .now)) in
-    let within : start .args .i < length (card .trees) = rw trees-length (start .pre .2) in
-    let none = leaf-gone (treeAt (start .args .i) card) _ (branches-length _ _ _ (start .pre .2)) (the-any-branch .ensures _) in
-    let S = left-standing card (start .args .i) (start .pre .4) within _ (the-leaf-holder .ensures .0 _ (the-its-root .ensures .0)) in
-    leave-labels card _ (start .args .i) _ (start .pre .4) S (sym (the-is-leaf .ensures _) ∙ not-true _ (the-if1 .taken)) _ (sym (c .before .no-label-for .ensures _) ∙ c .if2 .taken)
+    let within : start .args .i < length (card .trees) = rw trees-length (start .pre .3 .0) in
+    let none = leaf-gone (treeAt (start .args .i) card) _ (branches-length _ _ _ (start .pre .3 .0)) (the-any-branch .ensures _) in
+    let S = left-standing card (start .args .i) (start .pre .2) within _ (the-leaf-holder .ensures .0 _ (the-its-root .ensures .0)) in
+    leave-labels card _ (start .args .i) _ (start .pre .2) S (sym (the-is-leaf .ensures _) ∙ not-true _ (the-if1 .taken)) _ (sym (c .before .no-label-for .ensures _) ∙ c .if2 .taken)
 
 same-length-3 : tie.Need-same-length-3
 same-length-3 c = search needs
@@ -64,10 +64,10 @@ returns-2 c =
     let the-is-leaf = c .before .before .before .before .is-leaf in
     let the-if1 = c .before .before .before .if1 in
     let card = (cardOf (start .args .numbers .now) (start .args .names .now)) in
-    let within : start .args .i < length (card .trees) = rw trees-length (start .pre .2) in
-    let none = leaf-gone (treeAt (start .args .i) card) _ (branches-length _ _ _ (start .pre .2)) (the-any-branch .ensures _) in
-    let S = left-standing card (start .args .i) (start .pre .4) within _ (the-leaf-holder .ensures .0 _ (the-its-root .ensures .0)) in
-    leave-no-leaf card _ (start .args .i) _ (start .pre .4) S (sym (the-is-leaf .ensures _) ∙ not-true _ (the-if1 .taken)) _ (sym (c .before .no-label-for .ensures _) ∙ c .if2 .left)
+    let within : start .args .i < length (card .trees) = rw trees-length (start .pre .3 .0) in
+    let none = leaf-gone (treeAt (start .args .i) card) _ (branches-length _ _ _ (start .pre .3 .0)) (the-any-branch .ensures _) in
+    let S = left-standing card (start .args .i) (start .pre .2) within _ (the-leaf-holder .ensures .0 _ (the-its-root .ensures .0)) in
+    leave-no-leaf card _ (start .args .i) _ (start .pre .2) S (sym (the-is-leaf .ensures _) ∙ not-true _ (the-if1 .taken)) _ (sym (c .before .no-label-for .ensures _) ∙ c .if2 .left)
 
 standing-refusal-requires : tie.Need-standing-refusal-requires
 standing-refusal-requires c κs = search needs
@@ -87,10 +87,10 @@ returns-3 c =
     let the-is-leaf = c .before .before .before .before .before .is-leaf in
     let the-if1 = c .before .before .before .before .if1 in
     let card = (cardOf (start .args .numbers .now) (start .args .names .now)) in
-    let within : start .args .i < length (card .trees) = rw trees-length (start .pre .2) in
-    let none = leaf-gone (treeAt (start .args .i) card) _ (branches-length _ _ _ (start .pre .2)) (the-any-branch .ensures _) in
-    let S = left-standing card (start .args .i) (start .pre .4) within _ (the-leaf-holder .ensures .0 _ (the-its-root .ensures .0)) in
-    rw (leave-leaf card _ (start .args .i) (start .pre .4) within (sym (the-is-leaf .ensures _) ∙ not-false _ (the-if1 .left)))
+    let within : start .args .i < length (card .trees) = rw trees-length (start .pre .3 .0) in
+    let none = leaf-gone (treeAt (start .args .i) card) _ (branches-length _ _ _ (start .pre .3 .0)) (the-any-branch .ensures _) in
+    let S = left-standing card (start .args .i) (start .pre .2) within _ (the-leaf-holder .ensures .0 _ (the-its-root .ensures .0)) in
+    rw (leave-leaf card _ (start .args .i) (start .pre .2) within (sym (the-is-leaf .ensures _) ∙ not-false _ (the-if1 .left)))
     (standing-refused card [] _ _ _ S _ 0 _ (no-records _) (c .before .standing-refusal .ensures) (c .if3 .taken))
 
 next-id-requires : tie.Need-next-id-requires
@@ -109,11 +109,11 @@ settle-requires c κs =
     let the-if3 = c .before .before .before .before .before .before .before .before .before .if3 in
     let the-change-leaf = c .before .before .before .before .before .change-leaf in
     let card = (cardOf (start .args .numbers .now) (start .args .names .now)) in
-    let within : start .args .i < length (card .trees) = rw trees-length (start .pre .2) in
-    let none = leaf-gone (treeAt (start .args .i) card) _ (branches-length _ _ _ (start .pre .2)) (the-any-branch .ensures _) in
-    let S = left-standing card (start .args .i) (start .pre .4) within _ (the-leaf-holder .ensures .0 _ (the-its-root .ensures .0)) in
+    let within : start .args .i < length (card .trees) = rw trees-length (start .pre .3 .0) in
+    let none = leaf-gone (treeAt (start .args .i) card) _ (branches-length _ _ _ (start .pre .3 .0)) (the-any-branch .ensures _) in
+    let S = left-standing card (start .args .i) (start .pre .2) within _ (the-leaf-holder .ensures .0 _ (the-its-root .ensures .0)) in
     let R = settle-ready card [] _ _ _ S (start .args .out .now) 0 _ (no-records _) (the-standing-refusal .ensures) (the-if3 .left) _ _ (the-change-leaf .ensures _ (the-its-root .ensures .0)) in
-    (search needs, search needs, R .0, search needs, search needs, search needs, R .1, R .2)
+    (search needs, search needs, search needs, search needs, R .1, R .2, (R .0, search needs))
 
 same-length-7 : tie.Need-same-length-7
 same-length-7 c = search needs
@@ -138,10 +138,10 @@ returns-4 c =
     let the-change-leaf = c .before .before .before .before .before .before .before .before .before .before .before .before .change-leaf in
     let the-settle = c .before .before .before .before .before .before .settle in
     let card = (cardOf (start .args .numbers .now) (start .args .names .now)) in
-    let within : start .args .i < length (card .trees) = rw trees-length (start .pre .2) in
-    let none = leaf-gone (treeAt (start .args .i) card) _ (branches-length _ _ _ (start .pre .2)) (the-any-branch .ensures _) in
-    let S = left-standing card (start .args .i) (start .pre .4) within _ (the-leaf-holder .ensures .0 _ (the-its-root .ensures .0)) in
-    rw (leave-leaf card _ (start .args .i) (start .pre .4) within (sym (the-is-leaf .ensures _) ∙ not-false _ (the-if1 .left)))
+    let within : start .args .i < length (card .trees) = rw trees-length (start .pre .3 .0) in
+    let none = leaf-gone (treeAt (start .args .i) card) _ (branches-length _ _ _ (start .pre .3 .0)) (the-any-branch .ensures _) in
+    let S = left-standing card (start .args .i) (start .pre .2) within _ (the-leaf-holder .ensures .0 _ (the-its-root .ensures .0)) in
+    rw (leave-leaf card _ (start .args .i) (start .pre .2) within (sym (the-is-leaf .ensures _) ∙ not-false _ (the-if1 .left)))
     (standing-taken card [] _ _ _ S (start .args .out .now) 0 _ (no-records _) (the-standing-refusal .ensures) (the-if3 .left) _ _ _
     (standing-ends card [] _ _ _ S (start .args .out .now) _ _ _ _ _ _ (the-next-id .ensures _) (the-change-leaf .ensures _ (the-its-root .ensures .0)) none (the-settle .ensures)))
 

@@ -12,7 +12,7 @@ returns : tie.Need-returns
 returns c =
     let s = c .before .before .before .before in
     let u = c .before .held-for .ensures .0 (s .args .names .now) in
-    (loss-bare _ _ _ _ u (s .pre .4) (c .if1 .taken) (held-label _ _ _ (s .pre .2) (sym u ∙ c .if1 .taken)), omega arith)
+    (loss-bare _ _ _ _ u (s .pre .2) (c .if1 .taken) (held-label _ _ _ (s .pre .3 .0) (sym u ∙ c .if1 .taken)), omega arith)
 
 returns-2 : tie.Need-returns-2
 returns-2 c =
@@ -36,7 +36,7 @@ returns-3 c =
     let s = c .before .before .before .before .before .before .before .before .before in
     let u = c .before .before .before .before .before .before .held-for .ensures .0 (s .args .names .now) in
     let some = c .before .before .before .before .before .if1 .left in (
-      loss-ends _ _ _ _ u _ (c .before .before .before .is-leaf .ensures (s .args .names .now)) _ (c .before .before .holder-then .ensures (s .args .names .now)) (c .before .before .before .before .if2 .left) some (c .before .if3 .taken) (label-held _ _ _ (s .pre .2) (λ z. some (u ∙ z))) _ (c .tree-name .ensures .0 (s .args .numbers .now) (s .pre .2)),
+      loss-ends _ _ _ _ u _ (c .before .before .before .is-leaf .ensures (s .args .names .now)) _ (c .before .before .holder-then .ensures (s .args .names .now)) (c .before .before .before .before .if2 .left) some (c .before .if3 .taken) (label-held _ _ _ (s .pre .3 .0) (λ z. some (u ∙ z))) _ (c .tree-name .ensures .0 (s .args .numbers .now) (s .pre .3 .0)),
       omega arith,
     )
 

@@ -25,7 +25,7 @@ shed-one-requires c κs =
     let s = c .before .before .before .before .before .before .before .before .before in
     let v = c .before .before .before .loop .inv in
     let h : c .before .before .before .loop .i < treeCount (s .args .numbers .now) = omega (arith, c .before .before .before .before .tree-count .ensures .0) in
-    (v .1 ∙ s .pre .0, s .pre .1, shedding-in _ _ _ _ _ _ _ _ _ h (v .3), omega arith, rw (v .2) (shedding-room _ _ _ _ _ _ _ _ _ h (v .3) _ (s .pre .2)))
+    (v .1 ∙ s .pre .0, s .pre .1, rw (v .2) (shedding-room _ _ _ _ _ _ _ _ _ h (v .3) _ (s .pre .2)), (shedding-in _ _ _ _ _ _ _ _ _ h (v .3), omega arith))
 
 add-i : tie.Need-add-i Inv-loop μ-loop
 add-i c = search needs

@@ -16,7 +16,7 @@ returns : tie.Need-returns
 returns c =
     let s = c .before .before .before .before .before .before in
     let u = c .before .held-for .ensures .0 (s .args .names .now) in
-    shed-bare _ _ _ u _ _ _ (held-label _ _ _ (s .pre .2) (sym u ∙ c .if1 .taken))
+    shed-bare _ _ _ u _ _ _ (held-label _ _ _ (s .pre .3 .0) (sym u ∙ c .if1 .taken))
 
 holder-requires : tie.Need-holder-requires
 holder-requires c κs = search needs
@@ -25,7 +25,7 @@ let-go-requires : tie.Need-let-go-requires
 let-go-requires c κs =
     let s = c .before .before .before .before .before .before .before .before .before .before .before in
     let goes = shed-goes _ (cardOf (s .args .numbers .now) (s .args .names .now)) _ (c .before .before .before .before .before .before .held-for .ensures .0 (s .args .names .now)) _ (c .before .before .before .holder .ensures (s .args .names .now)) (c .before .before .before .before .before .if1 .left) (c .before .before .if2 .taken) in
-    (s .pre .0, s .pre .1, s .pre .2, s .pre .3, rw (← goes) (s .pre .4))
+    (s .pre .0, s .pre .1, rw (← goes) (s .pre .2), s .pre .3)
 
 same-length-2 : tie.Need-same-length-2
 same-length-2 c = search needs

@@ -26,7 +26,7 @@ sweep-one-requires : tie.Need-sweep-one-requires Inv-loop μ-loop
 sweep-one-requires c κs =
     let s = c .before .before .before .before .before .before .before .before in
     let v = c .before .before .before .loop .inv in
-    (v .0 ∙ s .pre .0, v .1 ∙ s .pre .1, omega (arith, v .2 .0), omega (arith, v .2 .0, treeCount-le (c .before .before .before .loop .numbers)))
+    (v .0 ∙ s .pre .0, v .1 ∙ s .pre .1, (omega (arith, v .2 .0), omega (arith, v .2 .0, treeCount-le (c .before .before .before .loop .numbers))))
 
 loop-less : tie.Need-loop-less Inv-loop μ-loop
 loop-less c = omega arith

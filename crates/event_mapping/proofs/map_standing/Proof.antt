@@ -24,8 +24,8 @@ returns : tie.Need-returns
 returns c =
     let start = c .before .before .before .before .before .before in
     let card = (cardOf (start .args .numbers .now) (start .args .names .now)) in
-    let within : start .args .i < length (card .trees) = rw trees-length (start .pre .2) in
-    mapping-other card _ (start .args .i) (start .pre .6) within _ _ _ (sym (c .before .other-label .ensures _) ∙ c .if1 .taken)
+    let within : start .args .i < length (card .trees) = rw trees-length (start .pre .5 .0) in
+    mapping-other card _ (start .args .i) (start .pre .4) within _ _ _ (sym (c .before .other-label .ensures _) ∙ c .if1 .taken)
 
 its-root-requires : tie.Need-its-root-requires
 its-root-requires c κs = search needs
@@ -50,9 +50,9 @@ returns-2 c =
     let the-other-label = c .before .before .before .before .before .before .before .before .before .before .other-label in
     let the-if1 = c .before .before .before .before .before .before .before .before .before .if1 in
     let card = (cardOf (start .args .numbers .now) (start .args .names .now)) in
-    let within : start .args .i < length (card .trees) = rw trees-length (start .pre .2) in
-    let S = branch-stands card (start .args .i) (start .pre .6) within _ (start .args .n) (start .args .label) (the-branch-holder .ensures .0 _ (the-its-root .ensures .0)) in
-    rw (mapping-standing card _ (start .args .i) (start .pre .6) within _ _ (sym (the-other-label .ensures _) ∙ the-if1 .left))
+    let within : start .args .i < length (card .trees) = rw trees-length (start .pre .5 .0) in
+    let S = branch-stands card (start .args .i) (start .pre .4) within _ (start .args .n) (start .args .label) (the-branch-holder .ensures .0 _ (the-its-root .ensures .0)) in
+    rw (mapping-standing card _ (start .args .i) (start .pre .4) within _ _ (sym (the-other-label .ensures _) ∙ the-if1 .left))
     (standing-refused card [] _ _ _ S _ 0 _ (no-records _) (c .before .standing-refusal .ensures) (c .if2 .taken))
 
 next-id-requires : tie.Need-next-id-requires
@@ -70,10 +70,10 @@ settle-requires c κs =
     let the-if2 = c .before .before .before .before .before .before .before .before .before .if2 in
     let the-change-branch = c .before .before .before .before .before .change-branch in
     let card = (cardOf (start .args .numbers .now) (start .args .names .now)) in
-    let within : start .args .i < length (card .trees) = rw trees-length (start .pre .2) in
-    let S = branch-stands card (start .args .i) (start .pre .6) within _ (start .args .n) (start .args .label) (the-branch-holder .ensures .0 _ (the-its-root .ensures .0)) in
+    let within : start .args .i < length (card .trees) = rw trees-length (start .pre .5 .0) in
+    let S = branch-stands card (start .args .i) (start .pre .4) within _ (start .args .n) (start .args .label) (the-branch-holder .ensures .0 _ (the-its-root .ensures .0)) in
     let R = settle-ready card [] _ _ _ S (start .args .out .now) 0 _ (no-records _) (the-standing-refusal .ensures) (the-if2 .left) _ _ (the-change-branch .ensures _ (the-its-root .ensures .0)) in
-    (search needs, search needs, R .0, search needs, search needs, search needs, R .1, R .2)
+    (search needs, search needs, search needs, search needs, R .1, R .2, (R .0, search needs))
 
 same-length-4 : tie.Need-same-length-4
 same-length-4 c = search needs
@@ -97,10 +97,10 @@ returns-3 c =
     let the-change-branch = c .before .before .before .before .before .before .before .before .before .before .before .before .change-branch in
     let the-settle = c .before .before .before .before .before .before .settle in
     let card = (cardOf (start .args .numbers .now) (start .args .names .now)) in
-    let within : start .args .i < length (card .trees) = rw trees-length (start .pre .2) in
-    let S = branch-stands card (start .args .i) (start .pre .6) within _ (start .args .n) (start .args .label) (the-branch-holder .ensures .0 _ (the-its-root .ensures .0)) in
-    let filled = branch-left (treeAt (start .args .i) card) (start .args .n) (start .args .label) (rw (branches-length _ _ _ (start .pre .2)) (start .pre .4)) (λ z. omega (arith, start .pre .5)) in
-    rw (mapping-standing card _ (start .args .i) (start .pre .6) within _ _ (sym (the-other-label .ensures _) ∙ the-if1 .left))
+    let within : start .args .i < length (card .trees) = rw trees-length (start .pre .5 .0) in
+    let S = branch-stands card (start .args .i) (start .pre .4) within _ (start .args .n) (start .args .label) (the-branch-holder .ensures .0 _ (the-its-root .ensures .0)) in
+    let filled = branch-left (treeAt (start .args .i) card) (start .args .n) (start .args .label) (rw (branches-length _ _ _ (start .pre .5 .0)) (start .pre .2)) (λ z. omega (arith, start .pre .3)) in
+    rw (mapping-standing card _ (start .args .i) (start .pre .4) within _ _ (sym (the-other-label .ensures _) ∙ the-if1 .left))
     (standing-taken card [] _ _ _ S (start .args .out .now) 0 _ (no-records _) (the-standing-refusal .ensures) (the-if2 .left) _ _ _
     (standing-ends card [] _ _ _ S (start .args .out .now) _ _ _ _ _ _ (the-next-id .ensures _) (the-change-branch .ensures _ (the-its-root .ensures .0)) filled (the-settle .ensures)))
 

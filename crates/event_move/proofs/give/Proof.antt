@@ -27,14 +27,14 @@ add-end c = search needs
 send-requires : tie.Need-send-requires
 send-requires c κs =
     let s = c .before .before .before .before .before .before .before .before .before .before .before in
-    (omega (arith, ap length (c .before .before .tree-name .ensures .0 _ (s .pre .2)), s .pre .6), omega arith)
+    (omega (arith, ap length (c .before .before .tree-name .ensures .0 _ (s .pre .5 .0)), s .pre .4), omega arith)
 
 map-label-requires : tie.Need-map-label-requires
 map-label-requires c κs =
     let f = c .before .before .before .before .before .before .before .before .before .before .before in
     let s = f .before .before .before .before .before in
-    let p = free-place _ (s .args .names .now) _ (f .next-free .ensures .0 _) (s .pre .5) in
-    (s .pre .0, s .pre .1, p, s .pre .2, s .pre .3, s .pre .4, f .next-free .ensures .2 p)
+    let p = free-place _ (s .args .names .now) _ (f .next-free .ensures .0 _) (s .pre .3) in
+    (s .pre .0, s .pre .1, p, s .pre .2, f .next-free .ensures .2 p, s .pre .5)
 
 add-set-turn : tie.Need-add-set-turn
 add-set-turn c = search needs
@@ -61,7 +61,7 @@ returns c =
     let b = n .before .before in
     let f = b .before .before in
     let s = f .before .before .before .before .before in
-    rw (k .record-size .ensures) (gave (s .args .i) (s .args .u) _ _ (s .args .id) (s .args .at) _ _ _ _ (s .args .names .now) _ _ _ _ (b .base .ensures .0) (s .pre .5) (f .next-free .ensures .0 _) (n .tree-name .ensures .0 _ (s .pre .2)) (w .send .ensures .0) (w .send .ensures .1) (m .map-label .ensures) (t .set-turn .ensures _))
+    rw (k .record-size .ensures) (gave (s .args .i) (s .args .u) _ _ (s .args .id) (s .args .at) _ _ _ _ (s .args .names .now) _ _ _ _ (b .base .ensures .0) (s .pre .3) (f .next-free .ensures .0 _) (n .tree-name .ensures .0 _ (s .pre .5 .0)) (w .send .ensures .0) (w .send .ensures .1) (m .map-label .ensures) (t .set-turn .ensures _))
 
 pub give-spec : {M : Type 1} → statement M
 give-spec =

@@ -24,13 +24,13 @@ add-end c = search needs
 send-requires : tie.Need-send-requires
 send-requires c κs =
     let s = c .before .before .before .before .before .before .before .before .before .before in
-    (omega (arith, ap length (c .before .before .tree-name .ensures .0 _ (s .pre .2)), s .pre .5), omega arith)
+    (omega (arith, ap length (c .before .before .tree-name .ensures .0 _ (s .pre .4 .0)), s .pre .3), omega arith)
 
 end-label-requires : tie.Need-end-label-requires
 end-label-requires c κs =
     let l = c .before .before .before .before .before .before .before in
     let s = l .before .before .before .before .before .before .before in
-    (search needs, search needs, search needs, λ os z. s .pre .4 (sym (l .tree-label .ensures _) ∙ l .tree-label .ensures os ∙ z))
+    (search needs, λ os z. s .pre .2 (sym (l .tree-label .ensures _) ∙ l .tree-label .ensures os ∙ z), search needs)
 
 same-length : tie.Need-same-length
 same-length c = search needs
@@ -46,7 +46,7 @@ returns c =
     let l = n .before in
     let h = l .before .before in
     let s = h .before .before .before .before .before in
-    rw (k .record-size .ensures) (gave-up (s .args .i) (s .args .id) (s .args .at) _ _ _ _ _ (s .args .names .now) _ _ _ (s .pre .2) (s .pre .4) (h .held-for .ensures .0 _) (l .tree-label .ensures _) (n .tree-name .ensures .0 _ (s .pre .2)) (w .send .ensures .0) (w .send .ensures .1) (c .before .before .end-label .ensures _))
+    rw (k .record-size .ensures) (gave-up (s .args .i) (s .args .id) (s .args .at) _ _ _ _ _ (s .args .names .now) _ _ _ (s .pre .4 .0) (s .pre .2) (h .held-for .ensures .0 _) (l .tree-label .ensures _) (n .tree-name .ensures .0 _ (s .pre .4 .0)) (w .send .ensures .0) (w .send .ensures .1) (c .before .before .end-label .ensures _))
 
 pub give-up-spec : {M : Type 1} → statement M
 give-up-spec =

@@ -22,7 +22,7 @@ give-up-requires : tie.Need-give-up-requires
 give-up-requires c κs =
     let s = c .before .before .before .before .before .before .before .before in
     let ne : treeAt (s .args .i) (cardOf (s .args .numbers .now) (s .args .names .now)) .label ≡ 0 → ⊥ = λ z. c .before .before .if1 .left (c .before .before .before .tree-label .ensures _ ∙ z) in
-    (s .pre .0, s .pre .1, s .pre .2, s .pre .3, ne, omega (arith, s .pre .4, let-go-room (s .args .id) (s .args .i) (cardOf (s .args .numbers .now) (s .args .names .now)) ne))
+    (s .pre .0, s .pre .1, ne, omega (arith, s .pre .2, let-go-room (s .args .id) (s .args .i) (cardOf (s .args .numbers .now) (s .args .names .now)) ne), s .pre .3)
 
 same-length-2 : tie.Need-same-length-2
 same-length-2 c = search needs

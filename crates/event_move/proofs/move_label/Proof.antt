@@ -10,21 +10,12 @@ use Rattle.event_move.proofs.move_label.Tie as tie
 let-go-requires : tie.Need-let-go-requires
 let-go-requires c κs =
     let s = c .before .before .before .before .before .before in
-    (s .pre .0, s .pre .1, s .pre .2, s .pre .3, room-first (s .args .i) (s .args .u) (s .args .numbers .now) (s .args .numbers .now) (s .args .names .now) (s .args .id) (s .args .at) (s .args .out .now) (s .args .out .now) 0 0 (s .pre .2) (s .pre .7))
+    (s .pre .0, s .pre .1, room-first (s .args .i) (s .args .u) (s .args .numbers .now) (s .args .numbers .now) (s .args .names .now) (s .args .id) (s .args .at) (s .args .out .now) (s .args .out .now) 0 0 (s .pre .6 .0) (s .pre .5), s .pre .6)
 
 take-up-requires : tie.Need-take-up-requires
 take-up-requires c κs =
     let s = c .before .before .before .before .before .before .before .before .before .before .before .before .before .before in
-    let w = c .before .before .before .before .before .before .before .let-go .ensures in (
-      search needs,
-      search needs,
-      rw (let-go-many (s .args .i) (s .args .u) _ _ (s .args .names .now) _ _ _ _ _ _ (s .pre .2) (s .pre .7) (w .0)) (s .pre .2),
-      s .pre .3,
-      s .pre .4,
-      s .pre .5,
-      rw (w .1) (s .pre .6),
-      rw (c .before .before .before .before .out .given) (room-then (s .args .i) (s .args .u) _ _ (s .args .names .now) _ _ _ _ _ _ (s .pre .2) (s .pre .7) _ (w .0)),
-    )
+    let w = c .before .before .before .before .before .before .before .let-go .ensures in (search needs, search needs, s .pre .2, s .pre .3, rw (w .1) (s .pre .4), rw (c .before .before .before .before .out .given) (room-then (s .args .i) (s .args .u) _ _ (s .args .names .now) _ _ _ _ _ _ (s .pre .6 .0) (s .pre .5) _ (w .0)), (rw (let-go-many (s .args .i) (s .args .u) _ _ (s .args .names .now) _ _ _ _ _ _ (s .pre .6 .0) (s .pre .5) (w .0)) (s .pre .6 .0), s .pre .6 .1))
 
 same-length : tie.Need-same-length
 same-length c = search needs
@@ -42,7 +33,7 @@ returns c =
     let w = c .before .before .before .before .before .before .before .before .before .before .before .before .before .before .let-go .ensures in
     let v = c .before .before .before .before .before .before .take-up .ensures in (
       wrote-then (letGo (s .args .i) (cardOf (s .args .numbers .now) (s .args .names .now))) (takeUp (s .args .i) (s .args .u)) _ _ _ _ _ _ _ _ _ _ _
-          (room-first (s .args .i) (s .args .u) (s .args .numbers .now) (s .args .numbers .now) (s .args .names .now) (s .args .id) (s .args .at) (s .args .out .now) (s .args .out .now) 0 0 (s .pre .2) (s .pre .7))
+          (room-first (s .args .i) (s .args .u) (s .args .numbers .now) (s .args .numbers .now) (s .args .names .now) (s .args .id) (s .args .at) (s .args .out .now) (s .args .out .now) 0 0 (s .pre .6 .0) (s .pre .5))
           (w .0) (v .0),
       v .1 ∙ w .1,
     )

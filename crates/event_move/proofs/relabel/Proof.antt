@@ -26,7 +26,7 @@ move-label-requires c κs =
     let s = c .before .before .before .before .before .before .before .before .before in
     let card : Card = cardOf (s .args .numbers .now) (s .args .names .now) in
     let ne : heldFor card (treeAt (s .args .i) card) ≡ s .args .u → ⊥ = λ z. c .before .before .before .if1 .left (c .before .before .before .before .held-for .ensures .0 _ ∙ z) in
-    (s .pre .0, s .pre .1, s .pre .2, s .pre .3, s .pre .4, s .pre .5, omega (arith, s .pre .6, need-other _ _ _ ne), omega (arith, s .pre .7, resize-some _ _ _ ne))
+    (s .pre .0, s .pre .1, s .pre .2, s .pre .3, omega (arith, s .pre .4, need-other _ _ _ ne), omega (arith, s .pre .5, resize-some _ _ _ ne), s .pre .6)
 
 same-length-2 : tie.Need-same-length-2
 same-length-2 c = search needs

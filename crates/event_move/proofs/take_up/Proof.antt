@@ -17,7 +17,7 @@ give-requires c κs =
     let s = c .before .before .before .before .before .before .before in
     let ne = c .before .before .before .if1 .left in
     let card : Card = cardOf (s .args .numbers .now) (s .args .names .now) in
-    (s .pre .0, s .pre .1, s .pre .2, s .pre .3, omega (arith, s .pre .4, s .pre .5, ne), omega (arith, s .pre .6, need-one (s .args .u) ne), omega (arith, s .pre .7, take-up-room (s .args .i) (s .args .u) card (s .args .id) ne))
+    (s .pre .0, s .pre .1, omega (arith, s .pre .2, s .pre .3, ne), omega (arith, s .pre .4, need-one (s .args .u) ne), omega (arith, s .pre .5, take-up-room (s .args .i) (s .args .u) card (s .args .id) ne), s .pre .6)
 
 same-length : tie.Need-same-length
 same-length c = search needs

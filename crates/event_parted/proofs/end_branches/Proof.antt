@@ -26,7 +26,7 @@ end-branch-requires c κs =
     let s = c .before .before .before .before .before .before .before in
     let v = c .before .before .loop .inv in
     let many = sym (trees-length _ (s .args .names .now)) ∙ ending-many _ _ _ _ (v .2) ∙ trees-length (s .args .numbers .now) (s .args .names .now) in
-    (v .1 ∙ s .pre .0, s .pre .1, omega (arith, many, c .before .before .before .tree-count .ensures .0), omega arith, s .pre .2)
+    (v .1 ∙ s .pre .0, s .pre .1, s .pre .2, (omega (arith, many, c .before .before .before .tree-count .ensures .0), omega arith))
 
 add-i : tie.Need-add-i Inv-loop μ-loop
 add-i c = search needs

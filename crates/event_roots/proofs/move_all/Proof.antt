@@ -25,7 +25,7 @@ move-one-requires c κs =
     let s = c .before .before .before .before .before .before .before .before .before .before .before in
     let v = c .before .before .before .before .loop .inv in
     let h : c .before .before .before .before .loop .i < treeCount (s .args .numbers .now) = omega (arith, c .before .before .before .before .before .tree-count .ensures .0) in
-    (v .1 ∙ s .pre .0, v .2 ∙ s .pre .1, moving-in _ _ _ _ _ _ _ _ _ _ _ _ h (v .4), omega arith, s .pre .2, s .pre .3, moving-need _ _ _ _ _ _ _ _ _ _ _ _ h (v .4) (s .pre .4), rw (v .3) (moving-room _ _ _ _ _ _ _ _ _ _ _ _ h (v .4) _ (s .pre .5)))
+    (v .1 ∙ s .pre .0, v .2 ∙ s .pre .1, s .pre .2, s .pre .3, moving-need _ _ _ _ _ _ _ _ _ _ _ _ h (v .4) (s .pre .4), rw (v .3) (moving-room _ _ _ _ _ _ _ _ _ _ _ _ h (v .4) _ (s .pre .5)), (moving-in _ _ _ _ _ _ _ _ _ _ _ _ h (v .4), omega arith))
 
 add-i : tie.Need-add-i Inv-loop μ-loop
 add-i c = search needs

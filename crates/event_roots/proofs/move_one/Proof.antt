@@ -19,10 +19,10 @@ move-label-requires : tie.Need-move-label-requires
 move-label-requires c κs =
     let s = c .before .before .before .before .before .before .before .before .before .before .before .before in
     let card : Card = cardOf (s .args .numbers .now) (s .args .names .now) in
-    let e = sym (c .before .before .before .before .before .if1 .taken) ∙ c .before .before .before .before .before .before .is-of-root .ensures (s .args .numbers .now) (omega (arith, s .pre .2)) in
+    let e = sym (c .before .before .before .before .before .if1 .taken) ∙ c .before .before .before .before .before .before .is-of-root .ensures (s .args .numbers .now) (omega (arith, s .pre .6 .0)) in
     let h = c .before .before .before .holder .ensures (s .args .names .now) in
-    let range = holder-range (s .args .u) (treeAt (s .args .i) card) (s .pre .4) (s .pre .5) in
-    (s .pre .0, s .pre .1, s .pre .2, s .pre .3, rw h (range .0), (λ z. range .1 (sym h ∙ z)), rw h (omega (arith, s .pre .6, need-of _ _ (s .args .u) e)), rw h (omega (arith, s .pre .7, one-fills _ (s .args .u) _ (s .args .id) card (rw trees-length (s .pre .2)) e)))
+    let range = holder-range (s .args .u) (treeAt (s .args .i) card) (s .pre .2) (s .pre .3) in
+    (s .pre .0, s .pre .1, rw h (range .0), (λ z. range .1 (sym h ∙ z)), rw h (omega (arith, s .pre .4, need-of _ _ (s .args .u) e)), rw h (omega (arith, s .pre .5, one-fills _ (s .args .u) _ (s .args .id) card (rw trees-length (s .pre .6 .0)) e)), s .pre .6)
 
 same-length : tie.Need-same-length
 same-length c = search needs
@@ -37,7 +37,7 @@ returns : tie.Need-returns
 returns c =
     let s = c .before .before .before .before .before .before .before .before .before .before .before .before .before .before .before .before .before .before .before in
     let card : Card = cardOf (s .args .numbers .now) (s .args .names .now) in
-    let e = sym (c .before .before .before .before .before .before .before .before .before .before .before .before .if1 .taken) ∙ c .before .before .before .before .before .before .before .before .before .before .before .before .before .is-of-root .ensures (s .args .numbers .now) (omega (arith, s .pre .2)) in
+    let e = sym (c .before .before .before .before .before .before .before .before .before .before .before .before .if1 .taken) ∙ c .before .before .before .before .before .before .before .before .before .before .before .before .before .is-of-root .ensures (s .args .numbers .now) (omega (arith, s .pre .6 .0)) in
     let h = c .before .before .before .before .before .before .before .before .before .before .holder .ensures (s .args .names .now) in
     rw (one-of _ (s .args .u) (s .args .i) card e, need-of _ _ (s .args .u) e, ← h) (c .before .before .before .before .before .before .move-label .ensures)
 
@@ -47,7 +47,7 @@ same-length-4 c = search needs
 returns-2 : tie.Need-returns-2
 returns-2 c =
     let s = c .before .before .before .before .before .before .before in
-    one-nothing _ (s .args .u) (s .args .i) (s .args .id) (s .args .at) (cardOf (s .args .numbers .now) (s .args .names .now)) (s .args .out .now) (sym (c .if1 .left) ∙ c .before .is-of-root .ensures (s .args .numbers .now) (omega (arith, s .pre .2)))
+    one-nothing _ (s .args .u) (s .args .i) (s .args .id) (s .args .at) (cardOf (s .args .numbers .now) (s .args .names .now)) (s .args .out .now) (sym (c .if1 .left) ∙ c .before .is-of-root .ensures (s .args .numbers .now) (omega (arith, s .pre .6 .0)))
 
 pub move-one-spec : {M : Type 1} → statement M
 move-one-spec =

@@ -25,7 +25,7 @@ loop-holds : tie.Need-loop-holds Inv-loop μ-loop
 loop-holds c = (omega arith, omega arith, omega arith, sym (sum-none _ _), sym (sum-none _ _))
 
 take-one-requires : tie.Need-take-one-requires Inv-loop μ-loop
-take-one-requires c κs = (c .before .before .before .before .before .before .pre .0, c .before .before .before .before .before .before .pre .1, omega (arith, c .before .before .tree-count .ensures .0), omega arith)
+take-one-requires c κs = (c .before .before .before .before .before .before .pre .0, c .before .before .before .before .before .before .pre .1, (omega (arith, c .before .before .tree-count .ensures .0), omega arith))
 
 add-labels : tie.Need-add-labels Inv-loop μ-loop
 add-labels c = search needs

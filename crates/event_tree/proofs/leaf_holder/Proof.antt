@@ -19,7 +19,7 @@ returns c =
     let s = c .before .before .before in
     let up = c .before .upstream-at .ensures in
     let range = held-range _ _ _ (up .1) (up .2) (c .holder-then .ensures []) in
-    ((λ os e. let card = cardOf (s .args .numbers .now) os in leaf-held card (treeAt (s .args .i) card) (s .args .leaf) _ _ (branches-length _ os _ (s .pre .1)) (up .0 os _ e) (c .holder-then .ensures os)), range .0, range .1)
+    ((λ os e. let card = cardOf (s .args .numbers .now) os in leaf-held card (treeAt (s .args .i) card) (s .args .leaf) _ _ (branches-length _ os _ (s .pre .1 .0)) (up .0 os _ e) (c .holder-then .ensures os)), range .0, range .1)
 
 pub leaf-holder-spec : {M : Type 1} → statement M
 leaf-holder-spec = tie.close (tie.spec upstream-at-requires holder-then-requires returns)

@@ -14,7 +14,7 @@ relabel-requires : tie.Need-relabel-requires
 relabel-requires c κs = search needs
 
 remove-tree-requires : tie.Need-remove-tree-requires
-remove-tree-requires c κs = let same-count = count-is _ _ _ (c .before .before .before .before .before .before .before .before .before .relabel .ensures .leaves) ∙ relabel-stays _ _ _ (rw trees-length (c .before .before .before .before .before .before .before .before .before .before .before .before .before .before .before .before .pre .2)) .many ∙ trees-length _ _ in (search needs, search needs, omega (arith, same-count), search needs)
+remove-tree-requires c κs = let same-count = count-is _ _ _ (c .before .before .before .before .before .before .before .before .before .relabel .ensures .leaves) ∙ relabel-stays _ _ _ (rw trees-length (c .before .before .before .before .before .before .before .before .before .before .before .before .before .before .before .before .pre .6 .0)) .many ∙ trees-length _ _ in (search needs, search needs, (omega (arith, same-count), search needs))
 
 set-next-id-requires : tie.Need-set-next-id-requires
 set-next-id-requires c κs = search needs

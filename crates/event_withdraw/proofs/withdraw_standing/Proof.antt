@@ -51,11 +51,11 @@ returns c =
     let the-record-size = c .before .before .before .record-size in
     let the-less-branch = c .before .before .before .before .before .before .before .before .before .before .before .before .before .less-branch in
     let card = (cardOf (start .args .numbers .now) (start .args .names .now)) in
-    let within : start .args .i < length (card .trees) = rw trees-length (start .pre .2) in
-    let S = branch-stands card (start .args .i) (start .pre .5) within _ (start .args .n) _ (the-branch-holder .ensures .0 _ (the-its-root .ensures .0)) in
-    let its-name = the-tree-name .ensures .0 _ (start .pre .2) in
+    let within : start .args .i < length (card .trees) = rw trees-length (start .pre .4 .0) in
+    let S = branch-stands card (start .args .i) (start .pre .3) within _ (start .args .n) _ (the-branch-holder .ensures .0 _ (the-its-root .ensures .0)) in
+    let its-name = the-tree-name .ensures .0 _ (start .pre .4 .0) in
     let long = the-record-size .ensures ∙ ap (λ (l : List ℕ). recordSize l) its-name ∙ release-size card _ (start .args .i) _ (start .args .n) (start .args .label) S (start .args .out .now) in
-    let becomes = sym (withdraw-standing card _ (start .args .i) (start .pre .5) within (start .args .n) (start .args .label)) ∙ ap (become card (tell (start .args .n) release (treeAt (start .args .i) card .name) (start .args .label) ∷ [])) (sym (the-less-branch .ensures _)) in
+    let becomes = sym (withdraw-standing card _ (start .args .i) (start .pre .3) within (start .args .n) (start .args .label)) ∙ ap (become card (tell (start .args .n) release (treeAt (start .args .i) card .name) (start .args .label) ∷ [])) (sym (the-less-branch .ensures _)) in
     rw becomes (standing-refused card _ _ _ _ S _ _ _ long (c .before .standing-refusal .ensures) (c .if1 .taken))
 
 next-id-requires : tie.Need-next-id-requires
@@ -72,9 +72,9 @@ send-requires c κs =
     let the-standing-refusal = c .before .before .before .before .standing-refusal in
     let the-if1 = c .before .before .before .if1 in
     let card = (cardOf (start .args .numbers .now) (start .args .names .now)) in
-    let within : start .args .i < length (card .trees) = rw trees-length (start .pre .2) in
-    let S = branch-stands card (start .args .i) (start .pre .5) within _ (start .args .n) _ (the-branch-holder .ensures .0 _ (the-its-root .ensures .0)) in
-    let its-name = the-tree-name .ensures .0 _ (start .pre .2) in
+    let within : start .args .i < length (card .trees) = rw trees-length (start .pre .4 .0) in
+    let S = branch-stands card (start .args .i) (start .pre .3) within _ (start .args .n) _ (the-branch-holder .ensures .0 _ (the-its-root .ensures .0)) in
+    let its-name = the-tree-name .ensures .0 _ (start .pre .4 .0) in
     let long = the-record-size .ensures ∙ ap (λ (l : List ℕ). recordSize l) its-name ∙ release-size card _ (start .args .i) _ (start .args .n) (start .args .label) S (start .args .out .now) in
     let fits = first-fits card _ _ _ _ S (start .args .out .now) _ _ long (the-standing-refusal .ensures) (the-if1 .left) in
     (omega (arith, fits, the-record-size .ensures), omega (arith, the-tree-name .ensures .1))
@@ -82,7 +82,7 @@ send-requires c κs =
 change-branch-requires : tie.Need-change-branch-requires
 change-branch-requires c κs =
     let start = c .before .before .before .before .before .before .before .before .before .before .before .before .before .before .before .before .before .before .before .before .before .before .before .before .before in
-    (start .pre .0, start .pre .2, start .pre .3, start .pre .4)
+    (start .pre .0, start .pre .2, start .pre .4)
 
 settle-requires : tie.Need-settle-requires
 settle-requires c κs =
@@ -98,15 +98,15 @@ settle-requires c κs =
     let the-change-branch = c .before .before .before .before .before .change-branch in
     let the-send = c .before .before .before .before .before .before .before .before .before .send in
     let card = (cardOf (start .args .numbers .now) (start .args .names .now)) in
-    let within : start .args .i < length (card .trees) = rw trees-length (start .pre .2) in
-    let S = branch-stands card (start .args .i) (start .pre .5) within _ (start .args .n) _ (the-branch-holder .ensures .0 _ (the-its-root .ensures .0)) in
-    let its-name = the-tree-name .ensures .0 _ (start .pre .2) in
+    let within : start .args .i < length (card .trees) = rw trees-length (start .pre .4 .0) in
+    let S = branch-stands card (start .args .i) (start .pre .3) within _ (start .args .n) _ (the-branch-holder .ensures .0 _ (the-its-root .ensures .0)) in
+    let its-name = the-tree-name .ensures .0 _ (start .pre .4 .0) in
     let long = the-record-size .ensures ∙ ap (λ (l : List ℕ). recordSize l) its-name ∙ release-size card _ (start .args .i) _ (start .args .n) (start .args .label) S (start .args .out .now) in
-    let becomes = sym (withdraw-standing card _ (start .args .i) (start .pre .5) within (start .args .n) (start .args .label)) ∙ ap (become card (tell (start .args .n) release (treeAt (start .args .i) card .name) (start .args .label) ∷ [])) (sym (the-less-branch .ensures _)) in
+    let becomes = sym (withdraw-standing card _ (start .args .i) (start .pre .3) within (start .args .n) (start .args .label)) ∙ ap (become card (tell (start .args .n) release (treeAt (start .args .i) card .name) (start .args .label) ∷ [])) (sym (the-less-branch .ensures _)) in
     let R = settle-ready card _ _ _ _ S (start .args .out .now) _ _ long (the-standing-refusal .ensures) (the-if1 .left) _ _ (the-change-branch .ensures _ (the-its-root .ensures .0)) in
     let fits = first-fits card _ _ _ _ S (start .args .out .now) _ _ long (the-standing-refusal .ensures) (the-if1 .left) in
     let kept = sent-length (start .args .out .now) _ _ _ _ _ _ (omega (arith, fits, the-record-size .ensures)) (the-send .ensures .1) in
-    (search needs, search needs, R .0, search needs, search needs, search needs, R .1, rw kept (R .2))
+    (search needs, search needs, search needs, search needs, R .1, rw kept (R .2), (R .0, search needs))
 
 same-length-3 : tie.Need-same-length-3
 same-length-3 c = search needs
@@ -133,11 +133,11 @@ returns-2 c =
     let the-change-branch = c .before .before .before .before .before .before .before .before .before .before .before .before .change-branch in
     let the-settle = c .before .before .before .before .before .before .settle in
     let card = (cardOf (start .args .numbers .now) (start .args .names .now)) in
-    let within : start .args .i < length (card .trees) = rw trees-length (start .pre .2) in
-    let S = branch-stands card (start .args .i) (start .pre .5) within _ (start .args .n) _ (the-branch-holder .ensures .0 _ (the-its-root .ensures .0)) in
-    let its-name = the-tree-name .ensures .0 _ (start .pre .2) in
+    let within : start .args .i < length (card .trees) = rw trees-length (start .pre .4 .0) in
+    let S = branch-stands card (start .args .i) (start .pre .3) within _ (start .args .n) _ (the-branch-holder .ensures .0 _ (the-its-root .ensures .0)) in
+    let its-name = the-tree-name .ensures .0 _ (start .pre .4 .0) in
     let long = the-record-size .ensures ∙ ap (λ (l : List ℕ). recordSize l) its-name ∙ release-size card _ (start .args .i) _ (start .args .n) (start .args .label) S (start .args .out .now) in
-    let becomes = sym (withdraw-standing card _ (start .args .i) (start .pre .5) within (start .args .n) (start .args .label)) ∙ ap (become card (tell (start .args .n) release (treeAt (start .args .i) card .name) (start .args .label) ∷ [])) (sym (the-less-branch .ensures _)) in
+    let becomes = sym (withdraw-standing card _ (start .args .i) (start .pre .3) within (start .args .n) (start .args .label)) ∙ ap (become card (tell (start .args .n) release (treeAt (start .args .i) card .name) (start .args .label) ∷ [])) (sym (the-less-branch .ensures _)) in
     let sized = the-record-size .ensures ∙ ap (λ (l : List ℕ). recordSize l) its-name in
     let fits = rw sized at (first-fits card _ _ _ _ S (start .args .out .now) _ _ long (the-standing-refusal .ensures) (the-if1 .left)) in
     let sent-it = rw its-name at (the-send .ensures .1) in

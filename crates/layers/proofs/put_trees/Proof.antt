@@ -32,7 +32,7 @@ add-tree-requires c κs =
     let inv = c .before .before .loop .inv in
     let test = c .before .loop-test .taken in
     let few = trees-length (start .args .numbers .now) (start .args .names .now) in
-    (start .pre .0, start .pre .1, omega (arith, count .0, test), omega (arith, count .1, test), start .pre .2 _ (omega (arith, few, count .0, test)), omega (arith, inv .1, inv .2, count .1, test, start .pre .3))
+    (start .pre .0, start .pre .1, start .pre .2 _ (omega (arith, few, count .0, test)), omega (arith, inv .1, inv .2, count .1, test, start .pre .3), (omega (arith, count .0, test), omega (arith, count .1, test)))
 
 add-i : tie.Need-add-i Inv-loop μ-loop
 add-i c = search needs

@@ -11,7 +11,7 @@ root-place-requires c κs = search needs
 returns : tie.Need-returns
 returns c =
     let s = c .before .before .before .before in
-    (rw (← (c .before .tree-name .ensures .0 _ (s .pre .2))) (c .root-place .ensures .0), c .root-place .ensures .1)
+    (rw (← (c .before .tree-name .ensures .0 _ (s .pre .2 .0))) (c .root-place .ensures .0), c .root-place .ensures .1)
 
 pub its-root-spec : {M : Type 1} → statement M
 its-root-spec = tie.close (tie.spec tree-name-requires root-place-requires returns)

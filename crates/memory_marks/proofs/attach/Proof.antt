@@ -44,7 +44,7 @@ same-length c = search needs
 returns : tie.Need-returns
 returns c =
     let s = c .before in
-    λ os. attach (s .args .numbers .now) os (s .args .p) (s .args .i) (s .pre .0) (s .pre .1) (s .pre .2) (s .pre .3) (s .pre .4) (s .pre .5 os)
+    λ os. attach (s .args .numbers .now) os (s .args .p) (s .args .i) (s .pre .0) (s .pre .1) (s .pre .4 .0) (s .pre .4 .1) (s .pre .2) (s .pre .3 os)
 
 pub attach-spec : {M : Type 1} → statement M
 attach-spec =

@@ -59,7 +59,7 @@ returns c =
     let k = t .before .before .before .before in
     let u = k .before .before in
     let s = u .before .before .before .before in
-    map-label _ _ _ _ _ _ _ _ (s .pre .0) (s .pre .1) (s .pre .2) (s .pre .3) (s .pre .4) (s .pre .5) (s .pre .6) (t .set-taken .ensures .0) (t .set-taken .ensures .1) (u .used-octets .ensures .0) (u .used-octets .ensures .1) (k .copy-within .ensures)
+    map-label _ _ _ _ _ _ _ _ (s .pre .0) (s .pre .1) (s .pre .2) (s .pre .5 .0) (s .pre .5 .1) (s .pre .3) (s .pre .4) (t .set-taken .ensures .0) (t .set-taken .ensures .1) (u .used-octets .ensures .0) (u .used-octets .ensures .1) (k .copy-within .ensures)
 
 pub map-label-spec : {M : Type 1} → statement M
 map-label-spec =

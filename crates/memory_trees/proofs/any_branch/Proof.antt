@@ -19,7 +19,7 @@ returns : tie.Need-returns
 returns c = λ os.
     let s = c .before .before .before in
     let a = s .args in
-    let n16 = branches-length (a .numbers .now) os (a .i) (s .pre .1) in
+    let n16 = branches-length (a .numbers .now) os (a .i) (s .pre .1 .0) in
     let one = c .before .is-one .ensures .0 (c .if1 .taken) in
     sym (one-leads (treeAt (a .i) (cardOf (a .numbers .now) os) .branches) (a .n) (a .but) (a .x) (one .0) (omega (arith, n16, one .1)) (one .2))
 
@@ -30,7 +30,7 @@ returns-2 : tie.Need-returns-2
 returns-2 c = λ os.
     let s = c .before .before .before .before in
     let a = s .args in
-    let n16 = branches-length (a .numbers .now) os (a .i) (s .pre .1) in
+    let n16 = branches-length (a .numbers .now) os (a .i) (s .pre .1 .0) in
     let none = c .before .before .is-one .ensures .1 (c .before .if1 .left) in
     c .any-other .ensures os
     ∙ ap (any isBranch) (one-not (treeAt (a .i) (cardOf (a .numbers .now) os) .branches) (a .n) (a .but) (a .x) (⊎-elim (λ z. inl z) (⊎-elim (λ h. inr (inl (omega (arith, n16, h)))) (λ q. inr (inr q))) none))

@@ -33,7 +33,7 @@ returns c = λ os.
     let l = c .before .before .before .before .before in
     let s = l .before .before in
     let bs = treeAt (s .args .i) (cardOf (s .args .numbers .now) os) .branches in
-    let n16 = branches-length (s .args .numbers .now) os (s .args .i) (s .pre .1) in
+    let n16 = branches-length (s .args .numbers .now) os (s .args .i) (s .pre .1 .0) in
     let other = c .before .is-other .ensures .0 (c .if2 .taken) in
     sym (l .loop .inv .1 os ∙ other-hit bs (s .args .n) (s .args .but) (l .loop .k) _ (omega arith) (c .before .before .before .branch .ensures os) (c .before .before .if1 .taken) (other .0) (other .1))
 
@@ -50,7 +50,7 @@ loop-again c =
       omega arith,
       λ os.
           let bs = treeAt (s .args .i) (cardOf (s .args .numbers .now) os) .branches in
-          let n16 = branches-length (s .args .numbers .now) os (s .args .i) (s .pre .1) in
+          let n16 = branches-length (s .args .numbers .now) os (s .args .i) (s .pre .1 .0) in
           l .loop .inv .1 os
           ∙ ⊎-elim
           (λ w. other-not bs (s .args .n) (s .args .but) (l .loop .k) (omega arith) (w .1 .ensures .1 (w .2 .left)))
@@ -62,7 +62,7 @@ returns-2 : tie.Need-returns-2 Inv-loop μ-loop
 returns-2 c = λ os.
     let s = c .before .before .before in
     let bs = set (treeAt (s .args .i) (cardOf (s .args .numbers .now) os) .branches) (s .args .n) 0 in
-    let n16 = length-set (treeAt (s .args .i) (cardOf (s .args .numbers .now) os) .branches) (s .args .n) 0 ∙ branches-length (s .args .numbers .now) os (s .args .i) (s .pre .1) in
+    let n16 = length-set (treeAt (s .args .i) (cardOf (s .args .numbers .now) os) .branches) (s .args .n) 0 ∙ branches-length (s .args .numbers .now) os (s .args .i) (s .pre .1 .0) in
     sym (c .before .loop .inv .1 os ∙ others-none bs (s .args .but) (c .before .loop .k) (omega arith))
 
 pub any-other-spec : {M : Type 1} → statement M

@@ -19,7 +19,7 @@ shared-slice-read-result : tie.Need-shared-slice-read-result
 shared-slice-read-result c = search needs
 
 returns : tie.Need-returns
-returns c = λ os. let s = c .before in branch-at (s .args .numbers .now) os (s .args .i) (s .pre .1) (s .args .n) (s .pre .3)
+returns c = λ os. let s = c .before in branch-at (s .args .numbers .now) os (s .args .i) (s .pre .2 .0) (s .args .n) (s .pre .1)
 
 pub branch-spec : {M : Type 1} → statement M
 branch-spec =

@@ -43,7 +43,7 @@ loop-again c =
       omega arith,
       omega (arith, c .one .ensures .1),
       λ os.
-          let long = branches-length (s .args .numbers .now) os (s .args .i) (s .pre .1) in
+          let long = branches-length (s .args .numbers .now) os (s .args .i) (s .pre .1 .0) in
           count-step _ (l .loop .n) (l .loop .sum) _ _ _ (l .loop .inv .2 os) (omega arith) (c .before .branch .ensures os) (c .one .ensures .0),
     )
 
@@ -51,7 +51,7 @@ returns : tie.Need-returns Inv-loop μ-loop
 returns c =
     let s = c .before .before .before in
     let l = c .before .loop in (
-      λ os. let long = branches-length (s .args .numbers .now) os (s .args .i) (s .pre .1) in count-all _ (l .n) _ _ (l .inv .2 os) (omega arith),
+      λ os. let long = branches-length (s .args .numbers .now) os (s .args .i) (s .pre .1 .0) in count-all _ (l .n) _ _ (l .inv .2 os) (omega arith),
       omega arith,
     )
 

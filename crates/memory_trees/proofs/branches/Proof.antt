@@ -40,7 +40,7 @@ returns c =
     let a = branchColumn + s .args .i * rowWidth in
     λ os.
     sixteen (s .args .numbers .now) _ _ _ _ a (c .before .before .before .four-at .ensures) (c .before .before .four-at2 .ensures) (c .before .four-at3 .ensures) (c .four-at4 .ensures)
-    ∙ sym (branches-at (s .args .numbers .now) os (s .args .i) (s .pre .1))
+    ∙ sym (branches-at (s .args .numbers .now) os (s .args .i) (s .pre .1 .0))
 
 pub branches-spec : {M : Type 1} → statement M
 branches-spec =

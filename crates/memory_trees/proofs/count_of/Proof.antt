@@ -24,7 +24,7 @@ returns-2 c =
     let s = c .before .before in (
       λ os.
           let bs = treeAt (s .args .i) (cardOf (s .args .numbers .now) os) .branches in
-          let long = branches-length (s .args .numbers .now) os (s .args .i) (s .pre .1) in
+          let long = branches-length (s .args .numbers .now) os (s .args .i) (s .pre .1 .0) in
           one-none _ (getD-out bs (s .args .n) 0 (omega arith)),
       omega arith,
     )

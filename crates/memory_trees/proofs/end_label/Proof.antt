@@ -17,17 +17,17 @@ slice-read-k c = search needs
 add-k-2 : tie.Need-add-k-2
 add-k-2 c =
     let s = c .before in
-    omega (arith, own-inside (s .args .numbers .now) [] (s .args .i) (s .pre .0) (s .pre .1) (s .pre .2) (label-carried (s .args .numbers .now) [] (s .args .i) (s .pre .1) (s .pre .3 [])))
+    omega (arith, own-inside (s .args .numbers .now) [] (s .args .i) (s .pre .0) (s .pre .2 .0) (s .pre .2 .1) (label-carried (s .args .numbers .now) [] (s .args .i) (s .pre .2 .0) (s .pre .1 [])))
 
 mul-numbers : tie.Need-mul-numbers
 mul-numbers c =
     let s = c .before in
-    omega (arith, own-inside (s .args .numbers .now) [] (s .args .i) (s .pre .0) (s .pre .1) (s .pre .2) (label-carried (s .args .numbers .now) [] (s .args .i) (s .pre .1) (s .pre .3 [])))
+    omega (arith, own-inside (s .args .numbers .now) [] (s .args .i) (s .pre .0) (s .pre .2 .0) (s .pre .2 .1) (label-carried (s .args .numbers .now) [] (s .args .i) (s .pre .2 .0) (s .pre .1 [])))
 
 slice-read-numbers : tie.Need-slice-read-numbers
 slice-read-numbers c =
     let s = c .before .before in
-    omega (arith, own-inside (s .args .numbers .now) [] (s .args .i) (s .pre .0) (s .pre .1) (s .pre .2) (label-carried (s .args .numbers .now) [] (s .args .i) (s .pre .1) (s .pre .3 [])))
+    omega (arith, own-inside (s .args .numbers .now) [] (s .args .i) (s .pre .0) (s .pre .2 .0) (s .pre .2 .1) (label-carried (s .args .numbers .now) [] (s .args .i) (s .pre .2 .0) (s .pre .1 [])))
 
 add-numbers : tie.Need-add-numbers
 add-numbers c = search needs
@@ -35,12 +35,12 @@ add-numbers c = search needs
 mul-numbers-2 : tie.Need-mul-numbers-2
 mul-numbers-2 c =
     let s = c .before .before in
-    omega (arith, own-inside (s .args .numbers .now) [] (s .args .i) (s .pre .0) (s .pre .1) (s .pre .2) (label-carried (s .args .numbers .now) [] (s .args .i) (s .pre .1) (s .pre .3 [])))
+    omega (arith, own-inside (s .args .numbers .now) [] (s .args .i) (s .pre .0) (s .pre .2 .0) (s .pre .2 .1) (label-carried (s .args .numbers .now) [] (s .args .i) (s .pre .2 .0) (s .pre .1 [])))
 
 slice-write-numbers : tie.Need-slice-write-numbers
 slice-write-numbers c =
     let s = c .before .before in
-    omega (arith, own-inside (s .args .numbers .now) [] (s .args .i) (s .pre .0) (s .pre .1) (s .pre .2) (label-carried (s .args .numbers .now) [] (s .args .i) (s .pre .1) (s .pre .3 [])))
+    omega (arith, own-inside (s .args .numbers .now) [] (s .args .i) (s .pre .0) (s .pre .2 .0) (s .pre .2 .1) (label-carried (s .args .numbers .now) [] (s .args .i) (s .pre .2 .0) (s .pre .1 [])))
 
 same-length : tie.Need-same-length
 same-length c = search needs
@@ -48,7 +48,7 @@ same-length c = search needs
 returns : tie.Need-returns
 returns c =
     let s = c .before .before in
-    λ os. ends (s .args .numbers .now) os (s .args .i) (s .pre .0) (s .pre .1) (s .pre .2) (label-carried (s .args .numbers .now) os (s .args .i) (s .pre .1) (s .pre .3 os))
+    λ os. ends (s .args .numbers .now) os (s .args .i) (s .pre .0) (s .pre .2 .0) (s .pre .2 .1) (label-carried (s .args .numbers .now) os (s .args .i) (s .pre .2 .0) (s .pre .1 os))
 
 pub end-label-spec : {M : Type 1} → statement M
 end-label-spec =

@@ -29,12 +29,12 @@ returns : tie.Need-returns
 returns c =
     let k = c .before .before .before in
     let s = k .before .before in
-    ((λ os. held-some (s .args .numbers .now) os (s .args .i) (s .pre .1) _ (sym (k .own-counts .ensures) ∙ c .before .before .if1 .taken) (c .mapped-at .ensures .0 os)), c .mapped-at .ensures .1)
+    ((λ os. held-some (s .args .numbers .now) os (s .args .i) (s .pre .1 .0) _ (sym (k .own-counts .ensures) ∙ c .before .before .if1 .taken) (c .mapped-at .ensures .0 os)), c .mapped-at .ensures .1)
 
 returns-2 : tie.Need-returns-2
 returns-2 c =
     let s = c .before .before .before in
-    ((λ os. held-none (s .args .numbers .now) os (s .args .i) (s .pre .1) (sym (c .before .own-counts .ensures) ∙ c .if1 .left)), omega arith)
+    ((λ os. held-none (s .args .numbers .now) os (s .args .i) (s .pre .1 .0) (sym (c .before .own-counts .ensures) ∙ c .if1 .left)), omega arith)
 
 pub held-for-spec : {M : Type 1} → statement M
 held-for-spec =

@@ -16,7 +16,7 @@ shared-slice-read-result : tie.Need-shared-slice-read-result
 shared-slice-read-result c = search needs
 
 returns : tie.Need-returns
-returns c = λ os. let s = c .before in leaf-at (s .args .numbers .now) os (s .args .i) (s .pre .1)
+returns c = λ os. let s = c .before in leaf-at (s .args .numbers .now) os (s .args .i) (s .pre .1 .0)
 
 pub is-leaf-spec : {M : Type 1} → statement M
 is-leaf-spec =

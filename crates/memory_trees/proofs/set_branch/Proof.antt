@@ -22,7 +22,7 @@ same-length : tie.Need-same-length
 same-length c = search needs
 
 returns : tie.Need-returns
-returns c = λ os. set-branch (c .args .numbers .now) os (c .args .i) (c .pre .0) (c .pre .1) (c .pre .2) (c .args .n) (c .args .label) (c .pre .3)
+returns c = λ os. set-branch (c .args .numbers .now) os (c .args .i) (c .pre .0) (c .pre .2 .0) (c .pre .2 .1) (c .args .n) (c .args .label) (c .pre .1)
 
 pub set-branch-spec : {M : Type 1} → statement M
 set-branch-spec =

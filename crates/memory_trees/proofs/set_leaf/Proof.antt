@@ -26,7 +26,7 @@ returns : tie.Need-returns
 returns c = λ os.
     let s = c .before in
     let e : not (eqb (c .if1 .numbers) 0) ≡ s .args .leaf = ⊎-elim (λ w. ap (λ v. not (eqb v 0)) (w .1) ∙ sym (w .0 .taken)) (λ w. ap (λ v. not (eqb v 0)) (w .1) ∙ sym (w .0 .left)) (c .if1 .came) in
-    set-leaf (s .args .numbers .now) os (s .args .i) (s .pre .0) (s .pre .1) (s .pre .2) (c .if1 .numbers) (s .args .leaf) e
+    set-leaf (s .args .numbers .now) os (s .args .i) (s .pre .0) (s .pre .1 .0) (s .pre .1 .1) (c .if1 .numbers) (s .args .leaf) e
 
 pub set-leaf-spec : {M : Type 1} → statement M
 set-leaf-spec =

@@ -32,12 +32,12 @@ returns : tie.Need-returns
 returns c =
     let k = c .before .before .before in
     let s = k .before .before in
-    λ os. label-some (s .args .numbers .now) os (s .args .i) (s .pre .1) _ (c .before .base .ensures .0) (sym (k .own-counts .ensures) ∙ c .before .before .if1 .taken)
+    λ os. label-some (s .args .numbers .now) os (s .args .i) (s .pre .1 .0) _ (c .before .base .ensures .0) (sym (k .own-counts .ensures) ∙ c .before .before .if1 .taken)
 
 returns-2 : tie.Need-returns-2
 returns-2 c =
     let s = c .before .before .before in
-    λ os. label-none (s .args .numbers .now) os (s .args .i) (s .pre .1) (sym (c .before .own-counts .ensures) ∙ c .if1 .left)
+    λ os. label-none (s .args .numbers .now) os (s .args .i) (s .pre .1 .0) (sym (c .before .own-counts .ensures) ∙ c .if1 .left)
 
 pub tree-label-spec : {M : Type 1} → statement M
 tree-label-spec =

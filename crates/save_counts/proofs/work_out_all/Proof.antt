@@ -28,7 +28,7 @@ count-tree-requires c κs =
     let v = c .before .before .loop .inv in
     let many = sym (trees-length _ (s .args .names .now)) ∙ working-many _ _ _ (v .2) ∙ trees-length (s .args .numbers .now) (s .args .names .now) in
     let n = c .before .before .before .tree-count .ensures in
-    (v .1 ∙ s .pre .0, s .pre .1, omega (arith, many, n .0), omega (arith, treeCount-le (s .args .numbers .now), n .0))
+    (v .1 ∙ s .pre .0, s .pre .1, (omega (arith, many, n .0), omega (arith, treeCount-le (s .args .numbers .now), n .0)))
 
 add-i : tie.Need-add-i Inv-loop μ-loop
 add-i c = search needs

@@ -55,7 +55,7 @@ attach-requires c κs =
     let m = k .before .before .before .before in
     let s = m .before .before .before .before .before in
     let n = c .before .before .before .before .before .tree-count .ensures in
-    (s .pre .0, s .pre .4, omega (arith, n .0, c .before .before .before .before .if2 .left), omega (arith, n, c .before .before .before .before .if2 .left), m .mapped-at .ensures .3 (k .before .before .before .if1 .left), none-has (s .args .numbers .now) (s .args .names .now) (s .args .p) (s .pre .6))
+    (s .pre .0, s .pre .4, m .mapped-at .ensures .3 (k .before .before .before .if1 .left), none-has (s .args .numbers .now) (s .args .names .now) (s .args .p) (s .pre .6), (omega (arith, n .0, c .before .before .before .before .if2 .left), omega (arith, n, c .before .before .before .before .if2 .left)))
 
 same-length-4 : tie.Need-same-length-4
 same-length-4 c = search needs

@@ -24,7 +24,7 @@ abbrev μ-loop : tie.MeasureT-loop
 μ-loop numbers i out₀ k₀ out k = 16 - k
 
 loop-holds : tie.Need-loop-holds Inv-loop μ-loop
-loop-holds c = let s = c .before .before in (omega arith, refl, λ os. rows-none (fours-lot (treeAt (s .args .i) (cardOf (s .args .numbers .now) os) .branches) (s .args .out .now) (branches-length _ os _ (s .pre .1)) (s .pre .3)))
+loop-holds c = let s = c .before .before in (omega arith, refl, λ os. rows-none (fours-lot (treeAt (s .args .i) (cardOf (s .args .numbers .now) os) .branches) (s .args .out .now) (branches-length _ os _ (s .pre .2 .0)) (s .pre .1)))
 
 mul-a : tie.Need-mul-a Inv-loop μ-loop
 mul-a c = search needs
@@ -60,7 +60,7 @@ loop-again c =
     let s = l .before .before .before .before in
     let v = l .before .loop .inv in
     let next : (os : List ℕ) → Rows (fourRow (treeAt (s .args .i) (cardOf (s .args .numbers .now) os) .branches)) neighbourCount 0 (s .args .out .now) (l .before .loop .k + 1) ((l .before .loop .k + 1) * 4) (mid (l .before .loop .k * 4) (l .before .loop .k * 4 + 4 - l .before .loop .k * 4) (l .before .loop .out) (p .put-four .last .0)) =
-    λ os. fours-next (treeAt (s .args .i) (cardOf (s .args .numbers .now) os) .branches) (s .args .out .now) (branches-length _ os _ (s .pre .1)) (s .pre .3) _ _ _ (l .loop-test .taken) (v .2 os) (p .put-four .ensures ∙ ap four (p .before .branch .ensures os)) in
+    λ os. fours-next (treeAt (s .args .i) (cardOf (s .args .numbers .now) os) .branches) (s .args .out .now) (branches-length _ os _ (s .pre .2 .0)) (s .pre .1) _ _ _ (l .loop-test .taken) (v .2 os) (p .put-four .ensures ∙ ap four (p .before .branch .ensures os)) in
     (omega arith, next [] .1, next)
 
 same-length : tie.Need-same-length Inv-loop μ-loop
@@ -69,7 +69,7 @@ same-length c = c .before .loop .inv .1
 returns : tie.Need-returns Inv-loop μ-loop
 returns c =
     let s = c .before .before .before .before in
-    λ os. fours-done (treeAt (s .args .i) (cardOf (s .args .numbers .now) os) .branches) (s .args .out .now) (branches-length _ os _ (s .pre .1)) (s .pre .3) _ _ (c .loop-test .left) (c .before .loop .inv .2 os)
+    λ os. fours-done (treeAt (s .args .i) (cardOf (s .args .numbers .now) os) .branches) (s .args .out .now) (branches-length _ os _ (s .pre .2 .0)) (s .pre .1) _ _ (c .loop-test .left) (c .before .loop .inv .2 os)
 
 pub put-fours-spec : {M : Type 1} → statement M
 put-fours-spec =

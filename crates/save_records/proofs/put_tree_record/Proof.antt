@@ -37,7 +37,7 @@ part-put-tree-name-start c = search needs
 
 -- src/lib.rt:158:19
 part-put-tree-name-end : tie.Need-part-put-tree-name-end
-part-put-tree-name-end c = omega (arith, (c .name-size .ensures .0 ∙ ap (nameSize _) (c .before .tree-name .ensures .0 (c .before .before .before .before .before .args .numbers .now) (c .before .before .before .before .before .pre .2))), c .before .before .before .before .before .pre .4)
+part-put-tree-name-end c = omega (arith, (c .name-size .ensures .0 ∙ ap (nameSize _) (c .before .tree-name .ensures .0 (c .before .before .before .before .before .args .numbers .now) (c .before .before .before .before .before .pre .3 .0))), c .before .before .before .before .before .pre .2)
 
 -- src/lib.rt:158:5
 put-tree-name-requires : tie.Need-put-tree-name-requires
@@ -45,11 +45,11 @@ put-tree-name-requires c κs = search needs
 
 -- src/lib.rt:159:31
 sub-put-tree-rest : tie.Need-sub-put-tree-rest
-sub-put-tree-rest c = omega (arith, (c .before .before .before .before .name-size .ensures .0 ∙ ap (nameSize _) (c .before .before .before .before .before .tree-name .ensures .0 (c .before .before .before .before .before .before .before .before .before .args .numbers .now) (c .before .before .before .before .before .before .before .before .before .pre .2))), c .before .before .before .before .before .before .before .before .before .pre .4)
+sub-put-tree-rest c = omega (arith, (c .before .before .before .before .name-size .ensures .0 ∙ ap (nameSize _) (c .before .before .before .before .before .tree-name .ensures .0 (c .before .before .before .before .before .before .before .before .before .args .numbers .now) (c .before .before .before .before .before .before .before .before .before .pre .3 .0))), c .before .before .before .before .before .before .before .before .before .pre .2)
 
 -- src/lib.rt:159:31
 part-put-tree-rest-start : tie.Need-part-put-tree-rest-start
-part-put-tree-rest-start c = omega (arith, (c .before .before .before .before .name-size .ensures .0 ∙ ap (nameSize _) (c .before .before .before .before .before .tree-name .ensures .0 (c .before .before .before .before .before .before .before .before .before .args .numbers .now) (c .before .before .before .before .before .before .before .before .before .pre .2))), c .before .before .before .before .before .before .before .before .before .pre .4)
+part-put-tree-rest-start c = omega (arith, (c .before .before .before .before .name-size .ensures .0 ∙ ap (nameSize _) (c .before .before .before .before .before .tree-name .ensures .0 (c .before .before .before .before .before .before .before .before .before .args .numbers .now) (c .before .before .before .before .before .before .before .before .before .pre .3 .0))), c .before .before .before .before .before .before .before .before .before .pre .2)
 
 -- src/lib.rt:159:31
 part-put-tree-rest-end : tie.Need-part-put-tree-rest-end
@@ -57,7 +57,7 @@ part-put-tree-rest-end c = search needs
 
 -- src/lib.rt:159:5
 put-tree-rest-requires : tie.Need-put-tree-rest-requires
-put-tree-rest-requires c κs = (search needs, search needs, search needs, omega (arith, (c .before .before .before .before .before .name-size .ensures .0 ∙ ap (nameSize _) (c .before .before .before .before .before .before .tree-name .ensures .0 (c .before .before .before .before .before .before .before .before .before .before .args .numbers .now) (c .before .before .before .before .before .before .before .before .before .before .pre .2))), c .before .before .before .before .before .before .before .before .before .before .pre .4))
+put-tree-rest-requires c κs = (search needs, omega (arith, (c .before .before .before .before .before .name-size .ensures .0 ∙ ap (nameSize _) (c .before .before .before .before .before .before .tree-name .ensures .0 (c .before .before .before .before .before .before .before .before .before .before .args .numbers .now) (c .before .before .before .before .before .before .before .before .before .before .pre .3 .0))), c .before .before .before .before .before .before .before .before .before .before .pre .2), search needs)
 
 -- src/lib.rt:150:1
 same-length : tie.Need-same-length
@@ -69,7 +69,7 @@ returns c =
     let s = c .before .before .before .before .before .before .before .before .before .before .before .before .before in
     let ns = s .args .numbers .now in
     let os = s .args .names .now in
-    tree-put _ (treeAt (s .args .i) (cardOf ns os)) _ _ _ (s .args .out .now) _ _ (s .pre .4) (branches-length ns os (s .args .i) (s .pre .2)) (c .before .before .before .before .before .before .before .before .before .tree-name .ensures .0 ns (s .pre .2)) (c .before .before .before .before .before .before .before .before .name-size .ensures .0) refl (c .before .before .before .before .before .before .put-tree-name .ensures) (c .before .before .put-tree-rest .ensures os)
+    tree-put _ (treeAt (s .args .i) (cardOf ns os)) _ _ _ (s .args .out .now) _ _ (s .pre .2) (branches-length ns os (s .args .i) (s .pre .3 .0)) (c .before .before .before .before .before .before .before .before .before .tree-name .ensures .0 ns (s .pre .3 .0)) (c .before .before .before .before .before .before .before .before .name-size .ensures .0) refl (c .before .before .before .before .before .before .put-tree-name .ensures) (c .before .before .put-tree-rest .ensures os)
 
 pub put-tree-record-spec : {M : Type 1} → statement M
 put-tree-record-spec =

@@ -17,7 +17,7 @@ abbrev μ-loop : tie.MeasureT-loop
 loop-holds : tie.Need-loop-holds Inv-loop μ-loop
 loop-holds c =
     let s = c .before .before in
-    (omega arith, refl, (λ os. branched-none (s .args .numbers .now) os (s .args .octets .now) (s .args .at) (s .args .i) (s .pre .1)))
+    (omega arith, refl, (λ os. branched-none (s .args .numbers .now) os (s .args .octets .now) (s .args .at) (s .args .i) (s .pre .2 .0)))
 
 mul-four-at : tie.Need-mul-four-at Inv-loop μ-loop
 mul-four-at c = search needs
@@ -32,7 +32,7 @@ set-branch-requires : tie.Need-set-branch-requires Inv-loop μ-loop
 set-branch-requires c κs =
     let s = c .before .before .before .before .before .before in
     let v = c .before .before .before .loop .inv in
-    (v .1 ∙ s .pre .0, omega (arith, branched-in (s .args .numbers .now) (s .args .octets .now) (s .args .octets .now) (s .args .at) (s .args .i) (s .pre .1) (c .before .before .before .loop .n) _ (v .2 (s .args .octets .now))), s .pre .2, omega arith)
+    (v .1 ∙ s .pre .0, omega arith, (omega (arith, branched-in (s .args .numbers .now) (s .args .octets .now) (s .args .octets .now) (s .args .at) (s .args .i) (s .pre .2 .0) (c .before .before .before .loop .n) _ (v .2 (s .args .octets .now))), s .pre .2 .1))
 
 add-n : tie.Need-add-n Inv-loop μ-loop
 add-n c = search needs
@@ -45,7 +45,7 @@ loop-again c =
     let at-loop = c .before .before .before .before .before .before in
     let s = at-loop .before .before .before in
     let v = at-loop .loop .inv in
-    (omega arith, c .before .numbers .given ∙ v .1, (λ os. branched-more (s .args .numbers .now) os (s .args .octets .now) (s .args .at) (s .args .i) (s .pre .1) _ _ _ _ (c .before .before .before .before .before .loop-test .taken) (v .2 os) (c .before .before .before .before .four-at .ensures .0) (c .before .before .set-branch .ensures os)))
+    (omega arith, c .before .numbers .given ∙ v .1, (λ os. branched-more (s .args .numbers .now) os (s .args .octets .now) (s .args .at) (s .args .i) (s .pre .2 .0) _ _ _ _ (c .before .before .before .before .before .loop-test .taken) (v .2 os) (c .before .before .before .before .four-at .ensures .0) (c .before .before .set-branch .ensures os)))
 
 same-length : tie.Need-same-length Inv-loop μ-loop
 same-length c = c .before .loop .inv .1
@@ -53,7 +53,7 @@ same-length c = c .before .loop .inv .1
 returns : tie.Need-returns Inv-loop μ-loop
 returns c =
     let s = c .before .before .before .before in
-    λ os. branched-all (s .args .numbers .now) os (s .args .octets .now) (s .args .at) (s .args .i) (s .pre .1) _ _ (c .loop-test .left) (c .before .loop .inv .2 os)
+    λ os. branched-all (s .args .numbers .now) os (s .args .octets .now) (s .args .at) (s .args .i) (s .pre .2 .0) _ _ (c .loop-test .left) (c .before .loop .inv .2 os)
 
 pub read-branches-spec : {M : Type 1} → statement M
 read-branches-spec =

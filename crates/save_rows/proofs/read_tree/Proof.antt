@@ -32,7 +32,7 @@ set-leaf-requires : tie.Need-set-leaf-requires
 set-leaf-requires c κs =
     let s = c .before .before .before .before .before .before .before .before .before .before .before .before .before .before in
     let n = c .before .before .before .before .before .before .before .before .before .tree-count .ensures .0 in
-    (c .before .before .before .before .before .numbers .given ∙ s .pre .0, omega (arith, entered (s .args .numbers .now) (s .args .names .now) _ _ _ (c .before .before .before .before .before .before .enter-name .ensures)), omega (arith, s .pre .2))
+    (c .before .before .before .before .before .numbers .given ∙ s .pre .0, (omega (arith, entered (s .args .numbers .now) (s .args .names .now) _ _ _ (c .before .before .before .before .before .before .enter-name .ensures)), omega (arith, s .pre .2)))
 
 add-read-branches : tie.Need-add-read-branches
 add-read-branches c = search needs
@@ -44,7 +44,7 @@ read-branches-requires : tie.Need-read-branches-requires
 read-branches-requires c κs =
     let s = c .before .before .before .before .before .before .before .before .before .before .before .before .before .before .before .before .before .before in
     let n = c .before .before .before .before .before .before .before .before .before .before .before .before .before .tree-count .ensures .0 in
-    (c .before .before .numbers2 .given ∙ c .before .before .before .before .before .before .before .before .before .numbers .given ∙ s .pre .0, omega (arith, entered (s .args .numbers .now) (s .args .names .now) _ _ _ (c .before .before .before .before .before .before .before .before .before .before .enter-name .ensures), changed _ _ (s .args .names .now) _ _ (c .before .before .before .set-leaf .ensures (s .args .names .now))), omega (arith, s .pre .2), omega (arith, s .pre .3, s .pre .5))
+    (c .before .before .numbers2 .given ∙ c .before .before .before .before .before .before .before .before .before .numbers .given ∙ s .pre .0, omega (arith, s .pre .3, s .pre .5), (omega (arith, entered (s .args .numbers .now) (s .args .names .now) _ _ _ (c .before .before .before .before .before .before .before .before .before .before .enter-name .ensures), changed _ _ (s .args .names .now) _ _ (c .before .before .before .set-leaf .ensures (s .args .names .now))), omega (arith, s .pre .2)))
 
 same-length : tie.Need-same-length
 same-length c = search needs

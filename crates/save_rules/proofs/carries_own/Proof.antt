@@ -30,7 +30,7 @@ returns-3 c =
     let some = within .before .before in
     let start = some .before .before .before .before in
     c .is-mapped-for .ensures .0
-    ∙ sym (own-for _ _ _ (some .before .tree-label .ensures _) _ (c .before .tree-name .ensures .0 _ (start .pre .2)) (some .if1 .left) ∙ for-at _ _ _ _ _ (within .before .place-in-block .ensures) (within .if2 .left))
+    ∙ sym (own-for _ _ _ (some .before .tree-label .ensures _) _ (c .before .tree-name .ensures .0 _ (start .pre .2 .0)) (some .if1 .left) ∙ for-at _ _ _ _ _ (within .before .place-in-block .ensures) (within .if2 .left))
 
 pub carries-own-spec : {M : Type 1} → statement M
 carries-own-spec =

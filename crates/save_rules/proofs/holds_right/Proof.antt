@@ -18,7 +18,7 @@ holder-requires c κs = search needs
 returns : tie.Need-returns
 returns c =
     let s = c .before .before .before .before .before .before in
-    holds _ _ _ _ _ _ (c .before .before .before .tree-name .ensures .0 _ (s .pre .2)) (c .before .before .upstream-of .ensures .0) (c .before .held-for .ensures .0 _) (c .holder .ensures _)
+    holds _ _ _ _ _ _ (c .before .before .before .tree-name .ensures .0 _ (s .pre .2 .0)) (c .before .before .upstream-of .ensures .0) (c .before .held-for .ensures .0 _) (c .holder .ensures _)
 
 pub holds-right-spec : {M : Type 1} → statement M
 holds-right-spec =

@@ -31,7 +31,7 @@ returns : tie.Need-returns Inv-loop μ-loop
 returns c = λ os.
     let l = c .before .before .before in
     let s = l .before .before .before in
-    sym (l .before .loop .inv .1 os ∙ all-miss _ _ _ (branch-there _ os _ _ (s .pre .1) (l .loop-test .taken)) _ _ (c .before .is-branch-label .ensures ∙ ap isBranchLabel (c .before .before .branch .ensures os)) (c .if1 .taken))
+    sym (l .before .loop .inv .1 os ∙ all-miss _ _ _ (branch-there _ os _ _ (s .pre .1 .0) (l .loop-test .taken)) _ _ (c .before .is-branch-label .ensures ∙ ap isBranchLabel (c .before .before .branch .ensures os)) (c .if1 .taken))
 
 add-k : tie.Need-add-k Inv-loop μ-loop
 add-k c = search needs
@@ -43,10 +43,10 @@ loop-again : tie.Need-loop-again Inv-loop μ-loop
 loop-again c =
     let l = c .before .before .before in
     let s = l .before .before .before in
-    (omega arith, (λ os. l .before .loop .inv .1 os ∙ all-hit _ _ _ (branch-there _ os _ _ (s .pre .1) (l .loop-test .taken)) _ _ (c .before .is-branch-label .ensures ∙ ap isBranchLabel (c .before .before .branch .ensures os)) (c .if1 .left)))
+    (omega arith, (λ os. l .before .loop .inv .1 os ∙ all-hit _ _ _ (branch-there _ os _ _ (s .pre .1 .0) (l .loop-test .taken)) _ _ (c .before .is-branch-label .ensures ∙ ap isBranchLabel (c .before .before .branch .ensures os)) (c .if1 .left)))
 
 returns-2 : tie.Need-returns-2 Inv-loop μ-loop
-returns-2 c = λ os. sym (c .before .loop .inv .1 os ∙ all-none _ _ (branches-end _ os _ _ (c .before .before .before .pre .1) (c .loop-test .left)) _)
+returns-2 c = λ os. sym (c .before .loop .inv .1 os ∙ all-none _ _ (branches-end _ os _ _ (c .before .before .before .pre .1 .0) (c .loop-test .left)) _)
 
 pub branches-good-spec : {M : Type 1} → statement M
 branches-good-spec =

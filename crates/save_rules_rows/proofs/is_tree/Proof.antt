@@ -15,7 +15,7 @@ is-name-requires c κs = search needs
 returns : tie.Need-returns
 returns c =
     let s = c .before .before .before .before .before in
-    sym (tree-parts _ (branches-length _ _ _ (s .pre .2)) ∙ and-not _ _ _ (c .before .is-name .ensures ∙ ap isName (c .before .before .tree-name .ensures .0 _ (s .pre .2))) (c .if1 .taken))
+    sym (tree-parts _ (branches-length _ _ _ (s .pre .2 .0)) ∙ and-not _ _ _ (c .before .is-name .ensures ∙ ap isName (c .before .before .tree-name .ensures .0 _ (s .pre .2 .0))) (c .if1 .taken))
 
 branches-good-requires : tie.Need-branches-good-requires
 branches-good-requires c κs = search needs
@@ -24,8 +24,8 @@ returns-2 : tie.Need-returns-2
 returns-2 c =
     let k = c .before .before in
     let s = k .before .before .before .before .before in
-    let named = k .before .is-name .ensures ∙ ap isName (k .before .before .tree-name .ensures .0 _ (s .pre .2)) in
-    sym (tree-parts _ (branches-length _ _ _ (s .pre .2)) ∙ and-then _ _ _ _ named (k .if1 .left) (and-not _ _ _ (c .before .branches-good .ensures _) (c .if2 .taken)))
+    let named = k .before .is-name .ensures ∙ ap isName (k .before .before .tree-name .ensures .0 _ (s .pre .2 .0)) in
+    sym (tree-parts _ (branches-length _ _ _ (s .pre .2 .0)) ∙ and-then _ _ _ _ named (k .if1 .left) (and-not _ _ _ (c .before .branches-good .ensures _) (c .if2 .taken)))
 
 leads-somewhere-requires : tie.Need-leads-somewhere-requires
 leads-somewhere-requires c κs = search needs
@@ -34,8 +34,8 @@ returns-3 : tie.Need-returns-3
 returns-3 c =
     let k = c .before .before .before in
     let s = k .before .before .before .before .before in
-    let named = k .before .is-name .ensures ∙ ap isName (k .before .before .tree-name .ensures .0 _ (s .pre .2)) in
-    sym (tree-parts _ (branches-length _ _ _ (s .pre .2)) ∙ and-then _ _ _ _ named (k .if1 .left) (and-then _ _ _ _ (c .before .before .branches-good .ensures _) (c .before .if2 .left) (sym (c .leads-somewhere .ensures _))))
+    let named = k .before .is-name .ensures ∙ ap isName (k .before .before .tree-name .ensures .0 _ (s .pre .2 .0)) in
+    sym (tree-parts _ (branches-length _ _ _ (s .pre .2 .0)) ∙ and-then _ _ _ _ named (k .if1 .left) (and-then _ _ _ _ (c .before .before .branches-good .ensures _) (c .before .if2 .left) (sym (c .leads-somewhere .ensures _))))
 
 pub is-tree-spec : {M : Type 1} → statement M
 is-tree-spec =

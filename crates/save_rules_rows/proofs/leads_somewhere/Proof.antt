@@ -17,7 +17,7 @@ any-branch-requires c κs = search needs
 returns-2 : tie.Need-returns-2
 returns-2 c = λ os.
     let s = c .before .before .before .before in
-    branch-leads _ _ _ (branches-length _ os _ (s .pre .1)) (c .before .before .is-leaf .ensures os) (c .before .if1 .left) (c .any-branch .ensures os)
+    branch-leads _ _ _ (branches-length _ os _ (s .pre .1 .0)) (c .before .before .is-leaf .ensures os) (c .before .if1 .left) (c .any-branch .ensures os)
 
 pub leads-somewhere-spec : {M : Type 1} → statement M
 leads-somewhere-spec = tie.close (tie.spec is-leaf-requires returns any-branch-requires returns-2)

@@ -14,7 +14,7 @@ returns : tie.Need-returns
 unfolding isShortTree
 returns c =
     let s = c .before .before .before .before in
-    c .is-short .ensures ∙ ap (isShort _) (c .before .tree-name .ensures .0 (s .args .numbers .now) (s .pre .2))
+    c .is-short .ensures ∙ ap (isShort _) (c .before .tree-name .ensures .0 (s .args .numbers .now) (s .pre .2 .0))
 
 pub is-short-tree-spec : {M : Type 1} → statement M
 is-short-tree-spec = tie.close (tie.spec tree-name-requires is-short-requires returns)

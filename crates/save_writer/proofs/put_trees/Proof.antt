@@ -60,7 +60,7 @@ put-tree-record-requires c κs =
     let lot = trees-lot (formOf (a .second)) (a .numbers .now) (a .names .now) (a .from) (a .out .now) (s .pre .2) in
     let lt : l .i < treeCount (a .numbers .now) = omega (arith, c .before .before .before .before .tree-count .ensures .0) in
     let k = tree-size (formOf (a .second)) (a .numbers .now) (a .names .now) (l .i) lt in
-    (search needs, search needs, lt, omega arith, omega (arith, c .before .tree-size .ensures .0 (a .numbers .now) lt))
+    (search needs, search needs, omega (arith, c .before .tree-size .ensures .0 (a .numbers .now) lt), (lt, omega arith))
 
 add-i : tie.Need-add-i Inv-loop μ-loop
 add-i c = search needs
