@@ -9,8 +9,8 @@ use lib.Dec.{eqb, leb}
 use borrow.Author.Tests.{eq-eqb, ne-eqb, eqb-true, le-leb, lt-leb, le-ltb, lt-ltb}
 use Rattle.meaning.specs.Octets.{_when_else_}
 use Rattle.meaning.specs.Lists.{positive, by-test}
-use Rattle.meaning.specs.Wire.{elementRefusal}
-use Rattle.meaning.specs.Card.{Card, fresh, withNext, neighbourCount}
+use Rattle.meaning.specs.Wire.{elementRefusal, leastLabel}
+use Rattle.meaning.specs.Card.{Card, fresh, withNext, neighbourCount, mostBase, noRoute}
 use Rattle.meaning.specs.Events.{unless, refuse, accept, finish, noNeighbour, onOctets, onJoin, onLeave, notRoute, notRoot, onRoute, part, onLost, receive, join, leave, route, lost, outcome, event, baseOutside, start}
 use Rattle.meaning.specs.Calls.{Does}
 use Rattle.event_join.specs.Order.{joinOf}
@@ -25,27 +25,27 @@ use Rattle.card_messages.proofs.Messages.{unless-refused, unless-none}
 module _ (base : ℕ) where
   outside-low : base < neighbourCount → baseOutside base ≡ true
   unfolding baseOutside
-  outside-low h = rw (lt-leb 16 base h) refl
+  outside-low h = rw (lt-leb leastLabel base h) refl
 
-  outside-high : 1048320 < base → baseOutside base ≡ true
+  outside-high : mostBase < base → baseOutside base ≡ true
   unfolding baseOutside
-  outside-high h = rw (lt-leb base 1048320 h) (ap not (and-false (leb 16 base)))
+  outside-high h = rw (lt-leb base mostBase h) (ap not (and-false (leb leastLabel base)))
 
-  inside : 16 ≤ base → base ≤ 1048320 → baseOutside base ≡ false
+  inside : leastLabel ≤ base → base ≤ mostBase → baseOutside base ≡ false
   unfolding baseOutside
-  inside h k = rw (le-leb 16 base h, le-leb base 1048320 k) refl
+  inside h k = rw (le-leb leastLabel base h, le-leb base mostBase k) refl
 
-  starts-refused : baseOutside base ≡ true → (17 ≡ start base .answer) × (fresh 16 ≡ start base .card)
+  starts-refused : baseOutside base ≡ true → (17 ≡ start base .answer) × (fresh leastLabel ≡ start base .card)
   unfolding start
   starts-refused e = rw e (unfold refuse in (refl, refl))
 
-  pub starts-low : base < neighbourCount → (17 ≡ start base .answer) × (fresh 16 ≡ start base .card)
+  pub starts-low : base < neighbourCount → (17 ≡ start base .answer) × (fresh leastLabel ≡ start base .card)
   starts-low h = starts-refused (outside-low h)
 
-  pub starts-high : 1048320 < base → (17 ≡ start base .answer) × (fresh 16 ≡ start base .card)
+  pub starts-high : mostBase < base → (17 ≡ start base .answer) × (fresh leastLabel ≡ start base .card)
   starts-high h = starts-refused (outside-high h)
 
-  pub starts : 16 ≤ base → base ≤ 1048320 → (0 ≡ start base .answer) × (fresh base ≡ start base .card)
+  pub starts : leastLabel ≤ base → base ≤ mostBase → (0 ≡ start base .answer) × (fresh base ≡ start base .card)
   unfolding start
   starts h k = rw (inside h k) (unfold accept fresh withNext in (refl, refl))
 
@@ -99,17 +99,17 @@ root-fits r e =
     (λ l. let z : true ≡ false = rw (k, l) at e in let z′ : _≡_ {A = ℕ} 0 1 = cc in absurd (omega arith)))
 
 module _ (c : Card) (r : List ℕ) (via : ℕ) where
-  pub route-far : 17 < via → (t : List ℕ) → Does (event (length t) c (route r via)) 1 0 t t c
+  pub route-far : noRoute < via → (t : List ℕ) → Does (event (length t) c (route r via)) 1 0 t t c
   unfolding event outcome onRoute notRoute
-  route-far h t = rw (lt-ltb 17 via h) (unfold _when_else_ unless in does-refused c 1 t)
+  route-far h t = rw (lt-ltb noRoute via h) (unfold _when_else_ unless in does-refused c 1 t)
 
-  pub route-odd : via ≤ 17 → notRoot r ≡ true → (t : List ℕ) → Does (event (length t) c (route r via)) 6 0 t t c
+  pub route-odd : via ≤ noRoute → notRoot r ≡ true → (t : List ℕ) → Does (event (length t) c (route r via)) 6 0 t t c
   unfolding event outcome onRoute notRoute
-  route-odd h e t = rw (le-ltb 17 via h, e) (unfold _when_else_ unless in does-refused c 6 t)
+  route-odd h e t = rw (le-ltb noRoute via h, e) (unfold _when_else_ unless in does-refused c 6 t)
 
-  pub route-is : via ≤ 17 → notRoot r ≡ false → (room : ℕ) → finish room c (routeOrder c r via) ≡ event room c (route r via)
+  pub route-is : via ≤ noRoute → notRoot r ≡ false → (room : ℕ) → finish room c (routeOrder c r via) ≡ event room c (route r via)
   unfolding event outcome onRoute notRoute routeOrder
-  route-is h e room = rw (le-ltb 17 via h, e) (unfold _when_else_ unless in refl)
+  route-is h e room = rw (le-ltb noRoute via h, e) (unfold _when_else_ unless in refl)
 
 -- ---- a loss
 

@@ -8,6 +8,9 @@ ghost use denote.Ref.{ptr};
 ghost use Rattle.meaning.specs.Events.{start, event, receive, join, leave, route, lost, notRoot};
 ghost use Rattle.meaning.specs.Calls.{Does, Hands};
 ghost use Rattle.memory.specs.Memory.{cardOf};
+use meaning::LEAST_LABEL;
+use meaning::MOST_BASE;
+use memory::NO_ROUTE;
 // The lengths of the card's two arrays, and in specs/Table the card that they denote, are handed on: whoever is above needs no more of the memory.
 pub use memory::NUMBER_COUNT;
 pub use memory::OCTET_COUNT;
@@ -18,15 +21,16 @@ pub use memory::OCTET_COUNT;
 pub fn start(numbers: &mut [u64; NUMBER_COUNT], base: u32) -> u32
     ensures { λ r. ⌜ (r ≡ start base .answer) × ((os : List ℕ) → cardOf (now (numbers .exit)) os ≡ start base .card) ⌝ }
 {
-    if base < 16 {
-        memory_rows::start_fresh(numbers, 16);
+    let first = base as u64;
+    if first < LEAST_LABEL {
+        memory_rows::start_fresh(numbers, LEAST_LABEL);
         return 17;
     }
-    if 1048320 < base {
-        memory_rows::start_fresh(numbers, 16);
+    if MOST_BASE < first {
+        memory_rows::start_fresh(numbers, LEAST_LABEL);
         return 17;
     }
-    memory_rows::start_fresh(numbers, base as u64);
+    memory_rows::start_fresh(numbers, first);
     0
 }
 
@@ -154,7 +158,8 @@ pub fn route_core(
     ensures { λ r. ⌜ Does (event (length (now (out .entry))) (cardOf (now (numbers .entry)) (now (names .entry))) (route (now (root .entry)) via))
         (now (answer .exit)) r (now (out .entry)) (now (out .exit)) (cardOf (now (numbers .exit)) (now (names .exit))) ⌝ }
 {
-    if 17 < via {
+    let to = via as u64;
+    if NO_ROUTE < to {
         *answer = 1;
         return 0;
     }
@@ -162,7 +167,7 @@ pub fn route_core(
         *answer = 6;
         return 0;
     }
-    event_route::change_route(numbers, names, root, via as u64, out, answer)
+    event_route::change_route(numbers, names, root, to, out, answer)
 }
 
 pub fn route<'a>(

@@ -10,7 +10,7 @@ use borrow.Author.Tests.{eq-eqb, ne-eqb, leb-true, leb-false, ltb-true, ltb-fals
 use Rattle.meaning.specs.Octets.{place}
 use Rattle.meaning.specs.Lists.{by-test, getD-out, set-replicate}
 use Rattle.meaning.specs.Wire.{rootIn, elementRefusal}
-use Rattle.meaning.specs.Card.{Card, Tree, Use, free, mapped, awaiting, Feed, noRoute, bare, treePlace, treeAt, isBranch, notHeld, mappedTo, useOf, routeOf, Branch, nothing, branchesFrom, feedOf, carries, carrier, feedOfUse, lookupLabel, lookupName, labelCount, neighbourCount}
+use Rattle.meaning.specs.Card.{Card, Tree, Use, free, mapped, awaiting, Feed, noRoute, bare, treePlace, treeAt, isBranch, notHeld, mappedTo, useOf, routeOf, Branch, nothing, branchesFrom, feedOf, carries, carrier, feedOfUse, lookupLabel, lookupName, labelCount, neighbourCount, nobody}
 use Rattle.meaning_laws.specs.Standing.{standing-at, not-standing}
 use Rattle.octets.specs.Part.{tab}
 use Rattle.octets.proofs.Tab.{tab-length}
@@ -54,7 +54,7 @@ none-in l c ns os p e =
     (λ x.
     by-test (ltb (markUse (markAt ns p)) 16)
     (λ y.
-    let q : markUse (markAt ns p) ≡ 17 = sym (ap mappedTo (label-mapped ns p os x (ltb-true _ _ y)) ∙ unfold mappedTo in refl) ∙ e in
+    let q : markUse (markAt ns p) ≡ nobody = sym (ap mappedTo (label-mapped ns p os x (ltb-true _ _ y)) ∙ unfold mappedTo in refl) ∙ e in
     absurd (omega (arith, ltb-true (markUse (markAt ns p)) 16 y)))
     (λ y. rw (label-awaiting ns p os x (ltb-false _ _ y)) (unfold feedOfUse in refl)))
 

@@ -9,6 +9,7 @@ ghost use Rattle.meaning.specs.Calls.{feedIn};
 use meaning::LABEL_COUNT;
 use meaning::NEIGHBOUR_COUNT;
 use memory::NEIGHBOURS;
+use memory::NOBODY;
 use memory::NUMBER_COUNT;
 use memory::OCTET_COUNT;
 
@@ -41,7 +42,7 @@ fn find_label(numbers: &[u64], label: u64, branches: &mut [u64; NEIGHBOUR_COUNT]
         return no_feed(branches);
     }
     let sender = memory_labels::mapped_at(numbers, p);
-    if sender == 17 {
+    if sender == NOBODY {
         return no_feed(branches);
     }
     let i = memory_trees::carrier_at(numbers, p);

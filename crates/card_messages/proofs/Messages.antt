@@ -5,7 +5,7 @@ use mathlib.Core.Path.{_≡_, refl, sym, ap, _∙_, subst}
 use mathlib.Core.List.{List}
 use lib.ListN.{length}
 use borrow.Author.Tests.{eq-eqb, ne-eqb}
-use Rattle.meaning.specs.Wire.{Message, mapping, withdraw, release, messageIn, messageRefusal, nameLimit}
+use Rattle.meaning.specs.Wire.{Message, mapping, withdraw, release, messageIn, messageRefusal, nameLimit, leastLabel}
 use Rattle.meaning_laws.specs.RoundTrip.{heard, name-fits}
 use Rattle.meaning.specs.Card.{Card}
 use Rattle.meaning.specs.Events.{Outcome, refused, unless, finish, onMapping, onWithdraw, onRelease, onMessage}
@@ -52,7 +52,7 @@ module _ (c : Card) (n : ℕ) (s : List ℕ) where
   read-says m e q = sym (unless-none (messageRefusal s) _ e ∙ ap (onMessage c n) q)
 
 -- the name and the label of a message that is read
-pub read-fits : (s : List ℕ) (kind label : ℕ) (a : List ℕ) → messageRefusal s ≡ 0 → messageIn s ≡ record { kind = kind; name = a; label = label } → (16 ≤ label) × (length a ≤ nameLimit)
+pub read-fits : (s : List ℕ) (kind label : ℕ) (a : List ℕ) → messageRefusal s ≡ 0 → messageIn s ≡ record { kind = kind; name = a; label = label } → (leastLabel ≤ label) × (length a ≤ nameLimit)
 read-fits s kind label a e q =
     let g = heard 0 s (omega arith) e in
     let l : messageIn s .label ≡ label = ap (λ (m : Message). m .label) q in

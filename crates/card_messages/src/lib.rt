@@ -2,7 +2,7 @@
 ghost use mathlib.Core.Path.{_≡_};
 ghost use Prim.Native.Nat.{_≤_, _<_};
 ghost use lib.ListN.{length};
-ghost use Rattle.meaning.specs.Wire.{nameLimit};
+ghost use Rattle.meaning.specs.Wire.{nameLimit, leastLabel};
 ghost use Rattle.meaning.specs.Events.{finish, onMessage};
 ghost use Rattle.meaning.specs.Calls.{Does};
 ghost use Rattle.memory.specs.Sizes.{Numbers, Names};
@@ -21,7 +21,7 @@ fn on_message(
     out: &mut [u8],
     answer: &mut u32,
 ) -> usize
-    requires { ⌜ Numbers (now numbers) × Names (now names) × (n < neighbourCount) × (16 ≤ label) × (length (now name) ≤ nameLimit) ⌝ }
+    requires { ⌜ Numbers (now numbers) × Names (now names) × (n < neighbourCount) × (leastLabel ≤ label) × (length (now name) ≤ nameLimit) ⌝ }
     ensures { λ r. ⌜ (let c = cardOf (now (numbers .entry)) (now (names .entry)) in Does (finish (length (now (out .entry))) c (onMessage c n (record { kind = kind; name = now (name .entry); label = label })))
         (now (answer .exit)) r (now (out .entry)) (now (out .exit)) (cardOf (now (numbers .exit)) (now (names .exit)))) ⌝ }
 {

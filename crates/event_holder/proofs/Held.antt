@@ -8,7 +8,7 @@ use lib.ListN.{length, set}
 use lib.Seq.{set-out}
 use Rattle.meaning.specs.Octets.{any}
 use Rattle.meaning.specs.Lists.{by-test, picked}
-use Rattle.meaning.specs.Card.{Tree, nobody, isBranch, notHeld, leadsOn, withBranch, withLeaf, neighbourCount}
+use Rattle.meaning.specs.Card.{Tree, nobody, isBranch, notHeld, leadsOn, withBranch, withLeaf, neighbourCount, thisNode}
 use Rattle.meaning.specs.Events.{holder}
 
 module _ (u n x : ℕ) (t : Tree) (leaf : Bool) where
@@ -34,6 +34,6 @@ unfolding withLeaf
 with-own t = refl
 
 -- where u is a neighbour or none, so is who holds the label
-pub holder-range : (u : ℕ) (t : Tree) → u ≤ 17 → (u ≡ 16 → ⊥) → (holder u t ≤ 17) × (holder u t ≡ 16 → ⊥)
+pub holder-range : (u : ℕ) (t : Tree) → u ≤ nobody → (u ≡ thisNode → ⊥) → (holder u t ≤ nobody) × (holder u t ≡ thisNode → ⊥)
 unfolding holder
-holder-range u t low not-here = picked (λ (x : ℕ). (x ≤ 17) × (x ≡ 16 → ⊥)) (leadsOn u t) (λ _. (low, not-here)) (λ _. (omega arith, (λ e. omega arith)))
+holder-range u t low not-here = picked (λ (x : ℕ). (x ≤ nobody) × (x ≡ thisNode → ⊥)) (leadsOn u t) (λ _. (low, not-here)) (λ _. (omega arith, (λ e. omega arith)))

@@ -5,36 +5,36 @@ use mathlib.Core.Path.{_≡_, refl}
 use mathlib.Core.Bool.{false}
 use borrow.Author.Tests.{eq-eqb, ne-eqb, lt-ltb, le-ltb}
 use Rattle.meaning.specs.Wire.{recordSize}
-use Rattle.meaning.specs.Card.{Tree, Card, heldFor, freeLabels, neighbourCount}
+use Rattle.meaning.specs.Card.{Tree, Card, heldFor, freeLabels, neighbourCount, nobody, thisNode}
 use Rattle.meaning.specs.Events.{needMove, need, labelsShort, upstream}
 use Rattle.event_holder.specs.Move.{moveSize, relabelSize}
 
 -- ---- u is a neighbour, or none
 
-pub need-none : (u : ℕ) → u ≡ 17 → needMove u ≡ 0
+pub need-none : (u : ℕ) → u ≡ nobody → needMove u ≡ 0
 unfolding needMove
-need-none u e = rw (eq-eqb u 17 e) refl
+need-none u e = rw (eq-eqb u nobody e) refl
 
-pub need-one : (u : ℕ) → (u ≡ 17 → ⊥) → needMove u ≡ 1
+pub need-one : (u : ℕ) → (u ≡ nobody → ⊥) → needMove u ≡ 1
 unfolding needMove
-need-one u ne = rw (ne-eqb u 17 ne) refl
+need-one u ne = rw (ne-eqb u nobody ne) refl
 
 -- ---- sizes
 
 module _ (t : Tree) (u size : ℕ) (e : size ≡ recordSize (t .name)) where
-  pub size-none : t .label ≡ 0 → u ≡ 17 → 0 ≡ moveSize t u
+  pub size-none : t .label ≡ 0 → u ≡ nobody → 0 ≡ moveSize t u
   unfolding moveSize
   size-none l k = rw (eq-eqb (t .label) 0 l, need-none u k) (omega arith)
 
-  pub size-taken : t .label ≡ 0 → (u ≡ 17 → ⊥) → size ≡ moveSize t u
+  pub size-taken : t .label ≡ 0 → (u ≡ nobody → ⊥) → size ≡ moveSize t u
   unfolding moveSize
   size-taken l k = rw (eq-eqb (t .label) 0 l, need-one u k) (omega arith)
 
-  pub size-given : (t .label ≡ 0 → ⊥) → u ≡ 17 → size ≡ moveSize t u
+  pub size-given : (t .label ≡ 0 → ⊥) → u ≡ nobody → size ≡ moveSize t u
   unfolding moveSize
   size-given l k = rw (ne-eqb (t .label) 0 l, need-none u k) (omega arith)
 
-  pub size-both : (t .label ≡ 0 → ⊥) → (u ≡ 17 → ⊥) → 2 * size ≡ moveSize t u
+  pub size-both : (t .label ≡ 0 → ⊥) → (u ≡ nobody → ⊥) → 2 * size ≡ moveSize t u
   unfolding moveSize
   size-both l k = rw (ne-eqb (t .label) 0 l, need-one u k) (omega arith)
 
@@ -64,12 +64,12 @@ short-none c n e = rw (le-ltb (freeLabels c) n (omega arith)) refl
 -- ---- upstream
 
 abbrev pub Upstream : ℕ → ℕ → Type 0
-Upstream r via = (r ≡ upstream via) × (r ≤ 17) × (r ≡ 16 → ⊥)
+Upstream r via = (r ≡ upstream via) × (r ≤ nobody) × (r ≡ thisNode → ⊥)
 
 pub upstream-some : (via : ℕ) → via < neighbourCount → Upstream via via
 unfolding upstream
 upstream-some via h = (rw (lt-ltb via neighbourCount h) refl, omega arith, λ e. omega arith)
 
-pub upstream-none : (via : ℕ) → neighbourCount ≤ via → Upstream 17 via
+pub upstream-none : (via : ℕ) → neighbourCount ≤ via → Upstream nobody via
 unfolding upstream
 upstream-none via h = (rw (le-ltb via neighbourCount h) refl, omega arith, λ e. omega arith)

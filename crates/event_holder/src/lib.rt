@@ -3,7 +3,7 @@ ghost use mathlib.Core.Path.{_≡_};
 ghost use mathlib.Core.List.{List};
 ghost use Prim.Native.Nat.{ℕ, _+_, _*_, _≤_, _<_};
 ghost use Rattle.meaning.specs.Wire.{rootIn, recordLimit};
-ghost use Rattle.meaning.specs.Card.{withBranch, withLeaf, treeAt, routeOf, routePlace, thisNode};
+ghost use Rattle.meaning.specs.Card.{withBranch, withLeaf, treeAt, routeOf, routePlace, thisNode, nobody};
 ghost use Rattle.meaning.specs.Events.{need, labelsShort, upstream, holder};
 ghost use Rattle.memory.specs.Sizes.{Numbers, Names};
 ghost use Rattle.memory.specs.Memory.{cardOf, StandsAt};
@@ -11,6 +11,7 @@ ghost use Rattle.event_holder.specs.Move.{moveSize, relabelSize};
 use meaning::RECORD_BESIDE;
 use memory::NEIGHBOURS;
 use memory::NO_NEIGHBOUR;
+use memory::NOBODY;
 
 // How many octets the records of a move have.
 pub fn move_size(numbers: &[u64], names: &[u8], i: usize, u: u64) -> usize
@@ -19,12 +20,12 @@ pub fn move_size(numbers: &[u64], names: &[u8], i: usize, u: u64) -> usize
 {
     let size = RECORD_BESIDE + memory_trees::tree_name(names, i).len();
     if memory_trees::tree_label(numbers, i) == 0 {
-        if u == 17 {
+        if u == NOBODY {
             return 0;
         }
         return size;
     }
-    if u == 17 {
+    if u == NOBODY {
         return size;
     }
     2 * size
@@ -48,7 +49,7 @@ pub fn no_label_for(numbers: &[u64], i: usize, u: u64) -> bool
     if memory_trees::held_for(numbers, i) == u {
         return false;
     }
-    if u == 17 {
+    if u == NOBODY {
         return false;
     }
     memory_labels::labels_short(numbers, 1)
@@ -56,15 +57,15 @@ pub fn no_label_for(numbers: &[u64], i: usize, u: u64) -> bool
 
 // The neighbour that a route leads to; 17 for none.
 pub fn upstream_via(via: u64) -> u64
-    ensures { λ r. ⌜ (r ≡ upstream via) × (r ≤ 17) × (r ≡ thisNode → ⊥) ⌝ }
+    ensures { λ r. ⌜ (r ≡ upstream via) × (r ≤ nobody) × (r ≡ thisNode → ⊥) ⌝ }
 {
-    if via < NEIGHBOURS { via } else { 17 }
+    if via < NEIGHBOURS { via } else { NOBODY }
 }
 
 // The upstream of the trees whose root's place is k; 17 for none.
 pub fn upstream_at(numbers: &[u64], k: usize) -> u64
     requires { ⌜ Numbers (now numbers) ⌝ }
-    ensures { λ r. ⌜ ((os root : List ℕ) → (let c = cardOf (now (numbers .entry)) os in k ≡ routePlace root c → r ≡ upstream (routeOf root c))) × (r ≤ 17) × (r ≡ thisNode → ⊥) ⌝ }
+    ensures { λ r. ⌜ ((os root : List ℕ) → (let c = cardOf (now (numbers .entry)) os in k ≡ routePlace root c → r ≡ upstream (routeOf root c))) × (r ≤ nobody) × (r ≡ thisNode → ⊥) ⌝ }
 {
     upstream_via(memory_routes::route_at(numbers, k))
 }
@@ -72,7 +73,7 @@ pub fn upstream_at(numbers: &[u64], k: usize) -> u64
 // The neighbour that a tree of this name, if it is not empty, holds a label for; 17 for none.
 pub fn upstream_of(numbers: &[u64], names: &[u8], name: &[u8]) -> u64
     requires { ⌜ Numbers (now numbers) × Names (now names) ⌝ }
-    ensures { λ r. ⌜ (r ≡ upstream (routeOf (rootIn (now (name .entry))) (cardOf (now (numbers .entry)) (now (names .entry))))) × (r ≤ 17) × (r ≡ thisNode → ⊥) ⌝ }
+    ensures { λ r. ⌜ (r ≡ upstream (routeOf (rootIn (now (name .entry))) (cardOf (now (numbers .entry)) (now (names .entry))))) × (r ≤ nobody) × (r ≡ thisNode → ⊥) ⌝ }
 {
     upstream_via(memory_routes::route_of(numbers, names, wire_name::root_of(name)))
 }
@@ -89,7 +90,7 @@ pub fn holder_then(numbers: &[u64], i: usize, n: usize, x: u64, leaf: bool, u: u
     if memory_trees::any_branch(numbers, i, n, x, u as usize) {
         return u;
     }
-    17
+    NOBODY
 }
 
 // The same of the tree as it is.

@@ -11,7 +11,7 @@ use lib.Dec.{eqb, ltb}
 use borrow.Author.Tests.{ltb-true, ltb-false, le-ltb}
 use Rattle.meaning.specs.Lists.{by-test, picked}
 use Rattle.meaning.specs.Wire.{records, idsAfter, nameLimit, recordLimit}
-use Rattle.meaning.specs.Card.{Tree, Card, withNext, withBranch, treeAt, leadsOn, heldFor}
+use Rattle.meaning.specs.Card.{Tree, Card, withNext, withBranch, treeAt, leadsOn, heldFor, nobody}
 use Rattle.meaning.specs.Events.{Moved, still, followedBy, letGo, holder, finish, parted, shed, shedFrom, sweptBelow, part}
 use Rattle.meaning_laws.specs.Losses.{lossSize, parted-size, loss-size}
 use Rattle.meaning.specs.Calls.{Does}
@@ -48,10 +48,10 @@ module _ (i : ℕ) (c : Card) (u : ℕ) (eu : u ≡ heldFor c (treeAt i c)) wher
       (λ e. rw (shed-on i c e) (wrote-nothing c id at s))
       (λ e. rw (shed-off i c e ∙ let-go-none i c l) (wrote-nothing c id at s))
 
-  pub shed-stays : (id at : ℕ) (s : List ℕ) (r : ℕ) → r ≡ holder u (treeAt i c) → (r ≡ 17 → ⊥) → Wrote (shed i c) id at s s c at id
+  pub shed-stays : (id at : ℕ) (s : List ℕ) (r : ℕ) → r ≡ holder u (treeAt i c) → (r ≡ nobody → ⊥) → Wrote (shed i c) id at s s c at id
   shed-stays id at s r er ne = rw (shed-on i c (rw (← eu) (leads-some u (treeAt i c) (λ z. ne (er ∙ z))))) (wrote-nothing c id at s)
 
-  pub shed-goes : (r : ℕ) → r ≡ holder u (treeAt i c) → (u ≡ 17 → ⊥) → r ≡ 17 → shed i c ≡ letGo i c
+  pub shed-goes : (r : ℕ) → r ≡ holder u (treeAt i c) → (u ≡ nobody → ⊥) → r ≡ nobody → shed i c ≡ letGo i c
   shed-goes r er some z = shed-off i c (rw (← eu) (leads-none u (treeAt i c) some (sym er ∙ z)))
 
 shed-many : (i : ℕ) (c : Card) → i < length (c .trees) → length (shed i c .card .trees) ≡ length (c .trees)

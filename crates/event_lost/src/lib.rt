@@ -18,6 +18,7 @@ ghost use Rattle.event_lost.specs.Lost.{lostTo, lossAll};
 use event_move::Written;
 use meaning::RECORD_BESIDE;
 use meaning::RECORD_LIMIT;
+use memory::NOBODY;
 
 // ---- how much it writes
 
@@ -27,14 +28,14 @@ fn loss_of(numbers: &[u64], names: &[u8], i: usize, n: usize) -> usize
     ensures { λ r. ⌜ (let c = cardOf (now (numbers .entry)) (now (names .entry)) in (r ≡ lossSize n c (treeAt i c)) × (r ≤ recordLimit)) ⌝ }
 {
     let u = memory_trees::held_for(numbers, i);
-    if u == 17 {
+    if u == NOBODY {
         return 0;
     }
     if u == n as u64 {
         return 0;
     }
     let leaf = memory_trees::is_leaf(numbers, i);
-    if event_holder::holder_then(numbers, i, n, 0, leaf, u) == 17 {
+    if event_holder::holder_then(numbers, i, n, 0, leaf, u) == NOBODY {
         return RECORD_BESIDE + memory_trees::tree_name(names, i).len();
     }
     0
@@ -81,10 +82,10 @@ fn shed_one(
     ensures { λ r. ⌜ Wrote (shed i (cardOf (now (numbers .entry)) (now (names .entry)))) id at (now (out .entry)) (now (out .exit)) (cardOf (now (numbers .exit)) (now (names .entry))) (r .at) (r .id) ⌝ }
 {
     let u = memory_trees::held_for(numbers, i);
-    if u == 17 {
+    if u == NOBODY {
         return Written { at, id };
     }
-    if event_holder::holder(numbers, i, u) == 17 {
+    if event_holder::holder(numbers, i, u) == NOBODY {
         return event_move::let_go(numbers, names, i, out, at, id);
     }
     Written { at, id }

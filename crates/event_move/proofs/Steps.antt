@@ -6,7 +6,7 @@ use mathlib.Core.List.{List}
 use lib.ListN.{getD, length}
 use borrow.Author.Tests.{eq-eqb, ne-eqb, le-leb}
 use Rattle.meaning.specs.Wire.{recordOf, nextId, records, idsAfter, recordSize}
-use Rattle.meaning.specs.Card.{Card, Use, free, mapped, withTrees, withLabels, withLast, treeAt, useOf, heldFor, freeLabels, nextFree, labelCount}
+use Rattle.meaning.specs.Card.{Card, Use, free, mapped, withTrees, withLabels, withLast, treeAt, useOf, heldFor, freeLabels, nextFree, labelCount, nobody}
 use Rattle.meaning_laws.specs.NextFree.{nextPlace, next-free}
 use Rattle.meaning.specs.Events.{still, tell, setUse, setLabel, ended, giveUp, give, letGo, takeUp, moveLabel, relabel, needMove}
 use Rattle.octets.specs.Part.{mid}
@@ -103,18 +103,18 @@ gave i u p b id at next ns ms ns' os os' name s s' eb some ep en ei es e₁ e₂
 -- ---- u is a neighbour, or none
 
 module _ (i u : ℕ) (c : Card) where
-  pub take-up-none : u ≡ 17 → takeUp i u c ≡ still c
+  pub take-up-none : u ≡ nobody → takeUp i u c ≡ still c
   unfolding takeUp
-  take-up-none e = rw (eq-eqb u 17 e) refl
+  take-up-none e = rw (eq-eqb u nobody e) refl
 
-  pub take-up-some : (u ≡ 17 → ⊥) → takeUp i u c ≡ give i u c
+  pub take-up-some : (u ≡ nobody → ⊥) → takeUp i u c ≡ give i u c
   unfolding takeUp
-  take-up-some ne = rw (ne-eqb u 17 ne) refl
+  take-up-some ne = rw (ne-eqb u nobody ne) refl
 
-  pub take-up-room : (id : ℕ) → (u ≡ 17 → ⊥) → length (records id (takeUp i u c .sent)) ≡ recordSize (treeAt i c .name)
+  pub take-up-room : (id : ℕ) → (u ≡ nobody → ⊥) → length (records id (takeUp i u c .sent)) ≡ recordSize (treeAt i c .name)
   take-up-room id ne = take-up-size id i c u ∙ rw (need-one u ne) (omega arith)
 
-  pub take-nothing : (id at : ℕ) (s : List ℕ) → u ≡ 17 → Wrote (takeUp i u c) id at s s c at id × (freeLabels c + needMove u ≡ freeLabels c)
+  pub take-nothing : (id at : ℕ) (s : List ℕ) → u ≡ nobody → Wrote (takeUp i u c) id at s s c at id × (freeLabels c + needMove u ≡ freeLabels c)
   take-nothing id at s e = (rw (take-up-none e) (wrote-nothing c id at s), rw (need-none u e) (omega arith))
 
   pub relabel-none : heldFor c (treeAt i c) ≡ u → relabel i u c ≡ still c

@@ -3,11 +3,12 @@ ghost use mathlib.Core.Path.{_≡_};
 ghost use Prim.Native.Nat.{_+_, _≤_, _<_};
 ghost use lib.ListN.{length};
 ghost use Rattle.meaning.specs.Wire.{records, recordSize};
-ghost use Rattle.meaning.specs.Card.{treeAt, freeLabels, neighbourCount, thisNode};
+ghost use Rattle.meaning.specs.Card.{treeAt, freeLabels, neighbourCount, thisNode, nobody};
 ghost use Rattle.meaning.specs.Events.{giveUp, give, letGo, takeUp, moveLabel, relabel, needMove, need};
 ghost use Rattle.memory.specs.Sizes.{Numbers, Names};
 ghost use Rattle.memory.specs.Memory.{cardOf, StandsAt};
 ghost use Rattle.event_holder.specs.Move.{Wrote, moveSize, relabelSize};
+use memory::NOBODY;
 
 // Where the next record goes, and its identifier.
 pub struct Written {
@@ -91,13 +92,13 @@ pub fn take_up(
     at: usize,
     id: u32,
 ) -> Written
-    requires { ⌜ (let c = cardOf (now numbers) (now names) in Numbers (now numbers) × Names (now names) × (u ≤ 17) × (u ≡ thisNode → ⊥)
+    requires { ⌜ (let c = cardOf (now numbers) (now names) in Numbers (now numbers) × Names (now names) × (u ≤ nobody) × (u ≡ thisNode → ⊥)
         × (needMove u ≤ freeLabels c)
         × (at + length (records id (takeUp i u c .sent)) ≤ length (now out)) × StandsAt (now numbers) i) ⌝ }
     ensures { λ r. ⌜ (let c = cardOf (now (numbers .entry)) (now (names .entry)) in Wrote (takeUp i u c) id at (now (out .entry)) (now (out .exit)) (cardOf (now (numbers .exit)) (now (names .exit))) (r .at) (r .id)
         × (freeLabels (cardOf (now (numbers .exit)) (now (names .exit))) + needMove u ≡ freeLabels c)) ⌝ }
 {
-    if u == 17 {
+    if u == NOBODY {
         return Written { at, id };
     }
     give(numbers, names, i, u, out, at, id)
@@ -113,7 +114,7 @@ pub fn move_label(
     at: usize,
     id: u32,
 ) -> Written
-    requires { ⌜ (let c = cardOf (now numbers) (now names) in Numbers (now numbers) × Names (now names) × (u ≤ 17) × (u ≡ thisNode → ⊥)
+    requires { ⌜ (let c = cardOf (now numbers) (now names) in Numbers (now numbers) × Names (now names) × (u ≤ nobody) × (u ≡ thisNode → ⊥)
         × (needMove u ≤ freeLabels c)
         × (at + moveSize (treeAt i c) u ≤ length (now out)) × StandsAt (now numbers) i) ⌝ }
     ensures { λ r. ⌜ (let c = cardOf (now (numbers .entry)) (now (names .entry)) in Wrote (moveLabel i u c) id at (now (out .entry)) (now (out .exit)) (cardOf (now (numbers .exit)) (now (names .exit))) (r .at) (r .id)
@@ -136,7 +137,7 @@ pub fn relabel(
     at: usize,
     id: u32,
 ) -> Written
-    requires { ⌜ (let c = cardOf (now numbers) (now names) in Numbers (now numbers) × Names (now names) × (u ≤ 17) × (u ≡ thisNode → ⊥)
+    requires { ⌜ (let c = cardOf (now numbers) (now names) in Numbers (now numbers) × Names (now names) × (u ≤ nobody) × (u ≡ thisNode → ⊥)
         × (need c (treeAt i c) u ≤ freeLabels c)
         × (at + relabelSize c (treeAt i c) u ≤ length (now out)) × StandsAt (now numbers) i) ⌝ }
     ensures { λ r. ⌜ Wrote (relabel i u (cardOf (now (numbers .entry)) (now (names .entry)))) id at (now (out .entry)) (now (out .exit)) (cardOf (now (numbers .exit)) (now (names .exit))) (r .at) (r .id) ⌝ }

@@ -7,13 +7,14 @@ ghost use lib.Dec.{ltb};
 ghost use mathlib.Core.Bool.{true};
 ghost use Rattle.meaning.specs.Octets.{_when_else_};
 ghost use Rattle.meaning.specs.Wire.{records, recordLimit};
-ghost use Rattle.meaning.specs.Card.{Card, treeAt, freeLabels, sentLimit, treeLimit, thisNode};
+ghost use Rattle.meaning.specs.Card.{Card, treeAt, freeLabels, sentLimit, treeLimit, thisNode, nobody};
 ghost use Rattle.meaning.specs.Events.{labelsShort, needOne, needAll, moveOne, moveAll};
 ghost use Rattle.memory.specs.Sizes.{Numbers, Names};
 ghost use Rattle.memory.specs.Memory.{cardOf, StandsAt};
 ghost use Rattle.event_holder.specs.Move.{Wrote, sizeOne, sizeAll};
 use event_move::Written;
 use meaning::RECORD_LIMIT;
+use memory::NOBODY;
 
 // What a move takes: how many free labels, and how many octets its records have.
 pub struct Takes {
@@ -30,7 +31,7 @@ fn take_one(numbers: &[u64], names: &[u8], i: usize, root: &[u8], u: u64) -> Tak
     if memory_counts::is_of_root(names, i, root) {
         let h = event_holder::holder(numbers, i, u);
         let octets = event_holder::move_size(numbers, names, i, h);
-        if h == 17 {
+        if h == NOBODY {
             return Takes { labels: 0, octets };
         }
         return Takes { labels: 1, octets };
@@ -107,7 +108,7 @@ fn move_one(
     at: usize,
     id: u32,
 ) -> Written
-    requires { ⌜ (let c = cardOf (now numbers) (now names) in Numbers (now numbers) × Names (now names) × (u ≤ 17) × (u ≡ thisNode → ⊥)
+    requires { ⌜ (let c = cardOf (now numbers) (now names) in Numbers (now numbers) × Names (now names) × (u ≤ nobody) × (u ≡ thisNode → ⊥)
         × (needOne (now root) u (treeAt i c) ≤ freeLabels c)
         × (at + length (records id (moveOne (now root) u i c .sent)) ≤ length (now out)) × StandsAt (now numbers) i) ⌝ }
     ensures { λ r. ⌜ (let c = cardOf (now (numbers .entry)) (now (names .entry)) in Wrote (moveOne (now (root .entry)) u i c) id at (now (out .entry)) (now (out .exit)) (cardOf (now (numbers .exit)) (now (names .exit))) (r .at) (r .id)
@@ -130,7 +131,7 @@ pub fn move_all(
     out: &mut [u8],
     id: u32,
 ) -> Written
-    requires { ⌜ (let c = cardOf (now numbers) (now names) in Numbers (now numbers) × Names (now names) × (u ≤ 17) × (u ≡ thisNode → ⊥)
+    requires { ⌜ (let c = cardOf (now numbers) (now names) in Numbers (now numbers) × Names (now names) × (u ≤ nobody) × (u ≡ thisNode → ⊥)
         × (needAll (now root) u c ≤ freeLabels c)
         × (sizeAll (now root) u c ≤ length (now out))) ⌝ }
     ensures { λ r. ⌜ Wrote (moveAll (now (root .entry)) u (cardOf (now (numbers .entry)) (now (names .entry)))) id 0 (now (out .entry)) (now (out .exit)) (cardOf (now (numbers .exit)) (now (names .exit))) (r .at) (r .id) ⌝ }

@@ -70,13 +70,13 @@ unfolding routeOf
 no-entry r c e = ap (λ (x : Route). x .via) (getD-out (c .routes) (routePlace r c) (noEntry r) (omega arith))
 
 module _ (c : Card) (x : Route) where
-  pub gone-is : (i : ℕ) → i ≡ routePlace (x .root) c → x .via ≡ 17 → withRoutes (cut (c .routes) i) c ≡ withRoutes (routesTo c x) c
+  pub gone-is : (i : ℕ) → i ≡ routePlace (x .root) c → x .via ≡ noRoute → withRoutes (cut (c .routes) i) c ≡ withRoutes (routesTo c x) c
   unfolding routesTo
-  gone-is i e z = rw (eq-eqb (x .via) 17 z, e) refl
+  gone-is i e z = rw (eq-eqb (x .via) noRoute z, e) refl
 
-  pub put-is : (x .via ≡ 17 → ⊥) → withRoutes (put (c .routes) (routePlace (x .root) c) x) c ≡ withRoutes (routesTo c x) c
+  pub put-is : (x .via ≡ noRoute → ⊥) → withRoutes (put (c .routes) (routePlace (x .root) c) x) c ≡ withRoutes (routesTo c x) c
   unfolding routesTo
-  put-is z = rw (ne-eqb (x .via) 17 z) refl
+  put-is z = rw (ne-eqb (x .via) noRoute z) refl
 
 -- ---- the counts
 
@@ -167,7 +167,7 @@ module _ (c : Card) (r : List ℕ) (via : ℕ) (ne : routeOf r c ≡ via → ⊥
       (λ z. (x, y, ltb-false _ _ z))))
 
   -- what `re_route` asks
-  pub order-ready : k ≡ 0 → (routePlace r c ≡ length (c .routes) → (via ≡ 17 → ⊥) × (length (c .routes) < routeLimit)) × (needAll r (upstream via) c ≤ freeLabels c) × (sizeAll r (upstream via) c ≤ length s)
+  pub order-ready : k ≡ 0 → (routePlace r c ≡ length (c .routes) → (via ≡ noRoute → ⊥) × (length (c .routes) < routeLimit)) × (needAll r (upstream via) c ≤ freeLabels c) × (sizeAll r (upstream via) c ≤ length s)
   order-ready q =
       let p = passes q in
       ((λ e. let none = no-entry r c e in ((λ z. ne (none ∙ sym z)), few none (p .0))), walk-enough (p .1), p .2)
@@ -204,7 +204,7 @@ moved-ends c d e r via u standing lone id s s' end next ei eu es el w q =
 
 -- a root's entry that goes is there
 pub stands-below : (ns os : List ℕ) (r : List ℕ) (i via : ℕ) → i ≡ routePlace r (cardOf ns os) → i ≤ routeCount ns
-    → (routePlace r (cardOf ns os) ≡ length (cardOf ns os .routes) → (via ≡ 17 → ⊥) × (length (cardOf ns os .routes) < routeLimit)) → via ≡ 17 → i < routeCount ns
+    → (routePlace r (cardOf ns os) ≡ length (cardOf ns os .routes) → (via ≡ noRoute → ⊥) × (length (cardOf ns os .routes) < routeLimit)) → via ≡ noRoute → i < routeCount ns
 stands-below ns os r i via e h p z =
     by-test (ltb i (routeCount ns))
     (λ t. ltb-true _ _ t)
@@ -212,12 +212,12 @@ stands-below ns os r i via e h p z =
 
 -- a root's entry that comes has a place
 pub room-for-it : (ns os : List ℕ) (r : List ℕ) (i via : ℕ) → i ≡ routePlace r (cardOf ns os) → i ≤ routeCount ns
-    → (routePlace r (cardOf ns os) ≡ length (cardOf ns os .routes) → (via ≡ 17 → ⊥) × (length (cardOf ns os .routes) < routeLimit)) → routeCount ns ≤ routePlace r (cardOf ns os) → routeCount ns < routeLimit
+    → (routePlace r (cardOf ns os) ≡ length (cardOf ns os .routes) → (via ≡ noRoute → ⊥) × (length (cardOf ns os .routes) < routeLimit)) → routeCount ns ≤ routePlace r (cardOf ns os) → routeCount ns < routeLimit
 room-for-it ns os r i via e h p k = rw (routes-length ns os) at (p (omega (arith, routes-length ns os)) .1)
 
 -- the entry's place is that of before the move
-pub moved-room : (c d : Card) (r : List ℕ) (u via : ℕ) → d ≡ moveAll r u c .card → (routePlace r c ≡ length (c .routes) → (via ≡ 17 → ⊥) × (length (c .routes) < routeLimit))
-    → routePlace r d ≡ length (d .routes) → (via ≡ 17 → ⊥) × (length (d .routes) < routeLimit)
+pub moved-room : (c d : Card) (r : List ℕ) (u via : ℕ) → d ≡ moveAll r u c .card → (routePlace r c ≡ length (c .routes) → (via ≡ noRoute → ⊥) × (length (c .routes) < routeLimit))
+    → routePlace r d ≡ length (d .routes) → (via ≡ noRoute → ⊥) × (length (d .routes) < routeLimit)
 moved-room c d r u via e p q =
     let same : d .routes ≡ c .routes = ap (λ (x : Card). x .routes) e ∙ all-routes r u c in
     let long : length (d .routes) ≡ length (c .routes) = ap (λ (l : List Route). length l) same in

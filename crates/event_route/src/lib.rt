@@ -7,7 +7,7 @@ ghost use mathlib.Core.Bool.{_&&_};
 ghost use lib.Dec.{eqb, leb, ltb};
 ghost use Rattle.meaning.specs.Octets.{_when_else_};
 ghost use Rattle.meaning.specs.Wire.{rootLimit};
-ghost use Rattle.meaning.specs.Card.{noRoute, routeOf, routePlace, freeLabels, withRoutes, routeLimit, neighbourCount, thisNode};
+ghost use Rattle.meaning.specs.Card.{noRoute, routeOf, routePlace, freeLabels, withRoutes, routeLimit, neighbourCount, thisNode, nobody};
 ghost use Rattle.meaning.specs.Events.{finish, entryOf, routesFull, needAll, upstream};
 ghost use Rattle.meaning.specs.Calls.{Does};
 ghost use Rattle.memory.specs.Sizes.{Numbers, Names};
@@ -17,6 +17,7 @@ ghost use Rattle.event_tree.specs.End.{Ended};
 ghost use Rattle.event_route.specs.Order.{labelsFew, routesTo, movedTo, routeOrder};
 use meaning::ROUTE_LIMIT;
 use memory::NEIGHBOURS;
+use memory::NO_ROUTE;
 use memory_counts::Counts;
 
 // 15, for a root whose route was `old` and is to be another.
@@ -24,7 +25,7 @@ fn routes_full(numbers: &[u64], old: u64) -> bool
     requires { ⌜ Numbers (now numbers) ⌝ }
     ensures { λ r. ⌜ ((os : List ℕ) → r ≡ (eqb old noRoute && leb routeLimit (length (cardOf (now (numbers .entry)) os .routes)))) ⌝ }
 {
-    if old == 17 {
+    if old == NO_ROUTE {
         return ROUTE_LIMIT <= memory::route_count(numbers);
     }
     false
@@ -96,12 +97,12 @@ fn set_route(
     lone: u64,
 )
     requires { ⌜ (let c = cardOf (now numbers) (now names) in Numbers (now numbers) × Names (now names) × (length (now root) ≤ rootLimit)
-        × (routePlace (now root) c ≡ length (c .routes) → (via ≡ 17 → ⊥) × (length (c .routes) < routeLimit))
-        × (via ≤ 17) × (standing < 256) × (lone < 256) × (i ≡ routePlace (now root) c) × (i ≤ length (c .routes))) ⌝ }
+        × (routePlace (now root) c ≡ length (c .routes) → (via ≡ noRoute → ⊥) × (length (c .routes) < routeLimit))
+        × (via ≤ noRoute) × (standing < 256) × (lone < 256) × (i ≡ routePlace (now root) c) × (i ≤ length (c .routes))) ⌝ }
     ensures { λ _. ⌜ (let c = cardOf (now (numbers .entry)) (now (names .entry)) in (cardOf (now (numbers .exit)) (now (names .exit)))
         ≡ withRoutes (routesTo c (record { root = now (root .entry); via = via; standing = standing; lone = lone })) c) ⌝ }
 {
-    if via == 17 {
+    if via == NO_ROUTE {
         memory_routes::remove_route(numbers, names, i);
         return;
     }
@@ -119,10 +120,10 @@ fn re_route(
     lone: u64,
     out: &mut [u8],
 ) -> usize
-    requires { ⌜ (let c = cardOf (now numbers) (now names) in Numbers (now numbers) × Names (now names) × (length (now root) ≤ rootLimit) × (u ≡ upstream via) × (u ≤ 17) × (u ≡ thisNode → ⊥)
-        × (routePlace (now root) c ≡ length (c .routes) → (via ≡ 17 → ⊥) × (length (c .routes) < routeLimit))
+    requires { ⌜ (let c = cardOf (now numbers) (now names) in Numbers (now numbers) × Names (now names) × (length (now root) ≤ rootLimit) × (u ≡ upstream via) × (u ≤ nobody) × (u ≡ thisNode → ⊥)
+        × (routePlace (now root) c ≡ length (c .routes) → (via ≡ noRoute → ⊥) × (length (c .routes) < routeLimit))
         × (needAll (now root) u c ≤ freeLabels c) × (sizeAll (now root) u c ≤ length (now out))
-        × (via ≤ 17) × (standing ≡ entryOf (now root) c .standing) × (lone ≡ entryOf (now root) c .lone) × (standing < 256) × (lone < 256) × (i ≡ routePlace (now root) c) × (i ≤ length (c .routes))) ⌝ }
+        × (via ≤ noRoute) × (standing ≡ entryOf (now root) c .standing) × (lone ≡ entryOf (now root) c .lone) × (standing < 256) × (lone < 256) × (i ≡ routePlace (now root) c) × (i ≤ length (c .routes))) ⌝ }
     ensures { λ r. ⌜ (let c = cardOf (now (numbers .entry)) (now (names .entry)) in Ended (movedTo c (now (root .entry)) via) (c .next) 0 (now (out .entry)) (now (out .exit)) (cardOf (now (numbers .exit)) (now (names .exit))) r) ⌝ }
 {
     let w = event_roots::move_all(numbers, names, root, u, out, memory::next_id(numbers));
@@ -141,7 +142,7 @@ pub fn change_route(
     out: &mut [u8],
     answer: &mut u32,
 ) -> usize
-    requires { ⌜ Numbers (now numbers) × Names (now names) × (length (now root) ≤ rootLimit) × (via ≤ 17) ⌝ }
+    requires { ⌜ Numbers (now numbers) × Names (now names) × (length (now root) ≤ rootLimit) × (via ≤ noRoute) ⌝ }
     ensures { λ r. ⌜ (let c = cardOf (now (numbers .entry)) (now (names .entry)) in Does (finish (length (now (out .entry))) c (routeOrder c (now (root .entry)) via))
         (now (answer .exit)) r (now (out .entry)) (now (out .exit)) (cardOf (now (numbers .exit)) (now (names .exit)))) ⌝ }
 {

@@ -186,15 +186,15 @@ module _ (c : Card) (u size room n : ℕ) (e : n ≡ length (c .trees)) where
   pub many-trees : treeLimit ≤ n → 11 ≡ newNumber
   many-trees h = sym (when-1 11 12 16 _ (ltb (freeLabels c) (needMove u)) (ltb room (needMove u * size)) (le-leb treeLimit (length (c .trees)) (rw (← e) h)))
 
-  pub none-needed : n < treeLimit → u ≡ 17 → 0 ≡ newNumber
+  pub none-needed : n < treeLimit → u ≡ nobody → 0 ≡ newNumber
   none-needed h z =
-      let q : needMove u ≡ 0 = unfold needMove in rw (eq-eqb u 17 z) refl in
+      let q : needMove u ≡ 0 = unfold needMove in rw (eq-eqb u nobody z) refl in
       sym (when-0 11 12 16 _ _ _ (lt-leb treeLimit (length (c .trees)) (rw (← e) h)) (le-ltb (freeLabels c) (needMove u) (omega arith)) (le-ltb room (needMove u * size) (rw q (omega arith))))
 
-  module _ (h : n < treeLimit) (z : u ≡ 17 → ⊥) where
+  module _ (h : n < treeLimit) (z : u ≡ nobody → ⊥) where
     one-needed : needMove u ≡ 1
     unfolding needMove
-    one-needed = rw (ne-eqb u 17 z) refl
+    one-needed = rw (ne-eqb u nobody z) refl
 
     few-trees : leb treeLimit (length (c .trees)) ≡ false
     few-trees = lt-leb treeLimit (length (c .trees)) (rw (← e) h)

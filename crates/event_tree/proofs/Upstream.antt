@@ -11,7 +11,7 @@ use borrow.Author.Tests.{lt-ltb}
 use Rattle.meaning.specs.Octets.{any}
 use Rattle.meaning.specs.Lists.{picked, set-replicate}
 use Rattle.meaning.specs.Wire.{rootIn}
-use Rattle.meaning.specs.Card.{Tree, Card, noRoute, withBranch, withLeaf, bare, isBranch, notHeld, leadsOn, routeOf, neighbourCount}
+use Rattle.meaning.specs.Card.{Tree, Card, noRoute, withBranch, withLeaf, bare, isBranch, notHeld, leadsOn, routeOf, neighbourCount, nobody, thisNode}
 use Rattle.meaning.specs.Events.{upstream, holder, holderOf}
 use Rattle.event_holder.proofs.Held.{holder-range, with-none}
 
@@ -43,7 +43,7 @@ module _ (c : Card) (a : List ℕ) (n l u : ℕ) (near : n < neighbourCount) (so
 
 -- what the code finds for a tree t, whose upstream is u
 
-pub held-range : (t : Tree) (u r : ℕ) → u ≤ 17 → (u ≡ 16 → ⊥) → r ≡ holder u t → (r ≤ 17) × (r ≡ 16 → ⊥)
+pub held-range : (t : Tree) (u r : ℕ) → u ≤ nobody → (u ≡ thisNode → ⊥) → r ≡ holder u t → (r ≤ nobody) × (r ≡ thisNode → ⊥)
 held-range t u r low here e = let range = holder-range u t low here in (rw e (range .0), (λ z. range .1 (sym e ∙ z)))
 
 pub branch-held : (c : Card) (t : Tree) (n x : ℕ) (leaf : Bool) (u r : ℕ) → leaf ≡ t .leaf → u ≡ upstream (routeOf (rootIn (t .name)) c) → r ≡ holder u (withLeaf leaf (withBranch n x t)) → r ≡ holderOf c (withBranch n x t)

@@ -6,7 +6,7 @@ ghost use lib.ListN.{length};
 ghost use lib.Dec.{leb, ltb};
 ghost use Rattle.meaning.specs.Octets.{_when_else_};
 ghost use Rattle.meaning.specs.Wire.{rootIn, records, recordLimit};
-ghost use Rattle.meaning.specs.Card.{treeAt, routePlace, withBranch, withLeaf, bare, freeLabels, treeLimit, neighbourCount, thisNode};
+ghost use Rattle.meaning.specs.Card.{treeAt, routePlace, withBranch, withLeaf, bare, freeLabels, treeLimit, neighbourCount, thisNode, nobody};
 ghost use Rattle.meaning.specs.Events.{relabel, takeUp, needMove, need, labelsShort, holderOf};
 ghost use Rattle.memory.specs.Sizes.{Numbers, Names};
 ghost use Rattle.memory.specs.Memory.{cardOf, StandsAt};
@@ -14,13 +14,14 @@ ghost use Rattle.event_holder.specs.Move.{relabelSize};
 ghost use Rattle.event_tree.specs.End.{Ended, thenCut};
 use meaning::TREE_LIMIT;
 use memory::NO_NEIGHBOUR;
+use memory::NOBODY;
 
 // ---- for whom it is to hold a label
 
 // The neighbour that the tree at place i, whose root's place is k, holds a label for, once neighbour n's branch is x; 17 for none.
 pub fn branch_holder(numbers: &[u64], i: usize, k: usize, n: usize, x: u64) -> u64
     requires { ⌜ Numbers (now numbers) × StandsAt (now numbers) i ⌝ }
-    ensures { λ r. ⌜ ((os : List ℕ) → (let c = cardOf (now (numbers .entry)) os in k ≡ routePlace (rootIn (treeAt i c .name)) c → r ≡ holderOf c (withBranch n x (treeAt i c)))) × (r ≤ 17) × (r ≡ thisNode → ⊥) ⌝ }
+    ensures { λ r. ⌜ ((os : List ℕ) → (let c = cardOf (now (numbers .entry)) os in k ≡ routePlace (rootIn (treeAt i c .name)) c → r ≡ holderOf c (withBranch n x (treeAt i c)))) × (r ≤ nobody) × (r ≡ thisNode → ⊥) ⌝ }
 {
     let u = event_holder::upstream_at(numbers, k);
     event_holder::holder_then(numbers, i, n, x, memory_trees::is_leaf(numbers, i), u)
@@ -29,7 +30,7 @@ pub fn branch_holder(numbers: &[u64], i: usize, k: usize, n: usize, x: u64) -> u
 // The same, once its leaf mark is `leaf`.
 pub fn leaf_holder(numbers: &[u64], i: usize, k: usize, leaf: bool) -> u64
     requires { ⌜ Numbers (now numbers) × StandsAt (now numbers) i ⌝ }
-    ensures { λ r. ⌜ ((os : List ℕ) → (let c = cardOf (now (numbers .entry)) os in k ≡ routePlace (rootIn (treeAt i c .name)) c → r ≡ holderOf c (withLeaf leaf (treeAt i c)))) × (r ≤ 17) × (r ≡ thisNode → ⊥) ⌝ }
+    ensures { λ r. ⌜ ((os : List ℕ) → (let c = cardOf (now (numbers .entry)) os in k ≡ routePlace (rootIn (treeAt i c .name)) c → r ≡ holderOf c (withLeaf leaf (treeAt i c)))) × (r ≤ nobody) × (r ≡ thisNode → ⊥) ⌝ }
 {
     let u = event_holder::upstream_at(numbers, k);
     event_holder::holder_then(numbers, i, NO_NEIGHBOUR, 0, leaf, u)
@@ -38,11 +39,11 @@ pub fn leaf_holder(numbers: &[u64], i: usize, k: usize, leaf: bool) -> u64
 // The neighbour that a new tree, whose root's place is k, holds a label for, where its only branch is that of neighbour n; 17 for none.
 pub fn new_holder(numbers: &[u64], k: usize, n: usize) -> u64
     requires { ⌜ Numbers (now numbers) × (n < neighbourCount) ⌝ }
-    ensures { λ r. ⌜ ((os a : List ℕ) (l : ℕ) → (let c = cardOf (now (numbers .entry)) os in k ≡ routePlace (rootIn a) c → 0 < l → r ≡ holderOf c (withBranch n l (bare a)))) × (r ≤ 17) × (r ≡ thisNode → ⊥) ⌝ }
+    ensures { λ r. ⌜ ((os a : List ℕ) (l : ℕ) → (let c = cardOf (now (numbers .entry)) os in k ≡ routePlace (rootIn a) c → 0 < l → r ≡ holderOf c (withBranch n l (bare a)))) × (r ≤ nobody) × (r ≡ thisNode → ⊥) ⌝ }
 {
     let u = event_holder::upstream_at(numbers, k);
     if u == n as u64 {
-        return 17;
+        return NOBODY;
     }
     u
 }
@@ -80,7 +81,7 @@ pub fn new_refusal(numbers: &[u64], u: u64, size: usize, room: usize) -> u32
     if TREE_LIMIT <= memory::tree_count(numbers) {
         return 11;
     }
-    if u == 17 {
+    if u == NOBODY {
         return 0;
     }
     if memory_labels::labels_short(numbers, 1) {
@@ -102,7 +103,7 @@ pub fn settle(
     at: usize,
     id: u32,
 ) -> usize
-    requires { ⌜ (let c = cardOf (now numbers) (now names) in Numbers (now numbers) × Names (now names) × (u ≤ 17) × (u ≡ thisNode → ⊥)
+    requires { ⌜ (let c = cardOf (now numbers) (now names) in Numbers (now numbers) × Names (now names) × (u ≤ nobody) × (u ≡ thisNode → ⊥)
         × (need c (treeAt i c) u ≤ freeLabels c)
         × (at + relabelSize c (treeAt i c) u ≤ length (now out)) × StandsAt (now numbers) i) ⌝ }
     ensures { λ r. ⌜ Ended (thenCut empty i (relabel i u (cardOf (now (numbers .entry)) (now (names .entry))))) id at (now (out .entry)) (now (out .exit)) (cardOf (now (numbers .exit)) (now (names .exit))) r ⌝ }
@@ -128,7 +129,7 @@ pub fn grow(
     out: &mut [u8],
     id: u32,
 ) -> usize
-    requires { ⌜ (let c = cardOf (now numbers) (now names) in Numbers (now numbers) × Names (now names) × (u ≤ 17) × (u ≡ thisNode → ⊥)
+    requires { ⌜ (let c = cardOf (now numbers) (now names) in Numbers (now numbers) × Names (now names) × (u ≤ nobody) × (u ≡ thisNode → ⊥)
         × (needMove u ≤ freeLabels c)
         × (length (records id (takeUp i u c .sent)) ≤ length (now out)) × StandsAt (now numbers) i) ⌝ }
     ensures { λ r. ⌜ Ended (takeUp i u (cardOf (now (numbers .entry)) (now (names .entry)))) id 0 (now (out .entry)) (now (out .exit)) (cardOf (now (numbers .exit)) (now (names .exit))) r ⌝ }

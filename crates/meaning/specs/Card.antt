@@ -7,7 +7,7 @@ use mathlib.Core.List.{List, [], _∷_}
 use lib.ListN.{getD, length, set, replicate}
 use lib.Dec.{eqb, leb, ltb}
 use Rattle.meaning.specs.Octets.{pick, place, placeFrom, count, any, same}
-use Rattle.meaning.specs.Wire.{rootIn, elementRefusal, recordLimit}
+use Rattle.meaning.specs.Wire.{rootIn, elementRefusal, recordLimit, mostLabel}
 
 -- ---- sizes
 
@@ -22,6 +22,10 @@ labelCount = 256
 
 abbrev pub neighbourCount : ℕ
 neighbourCount = 16
+
+-- the highest base: its block ends with the highest label
+abbrev pub mostBase : ℕ
+mostBase = mostLabel + 1 - labelCount
 
 -- the most octets that one call sends: two messages for each tree
 abbrev pub sentLimit : ℕ

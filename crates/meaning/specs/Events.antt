@@ -6,8 +6,8 @@ use mathlib.Core.List.{List, [], _∷_, _++_}
 use lib.ListN.{getD, length, set}
 use lib.Dec.{eqb, leb, ltb}
 use Rattle.meaning.specs.Octets.{pick, place, same, put, cut, _when_else_}
-use Rattle.meaning.specs.Wire.{rootIn, elementRefusal, Message, messageIn, messageRefusal, mapping, withdraw, release, Sent, records, idsAfter}
-use Rattle.meaning.specs.Card.{noRoute, nobody, noEntry, Route, Tree, Use, free, mapped, awaiting, Card, fresh, withNext, withRoutes, withTrees, withLabels, withCounts, withBranch, withLeaf, withLabel, isFor, routePlace, routeOf, treePlace, treeOf, treeAt, stands, isEmpty, isLone, leadsOn, isAwaiting, useOf, heldFor, freeLabels, treeLimit, routeLimit, withLast, nextFree, neighbourCount}
+use Rattle.meaning.specs.Wire.{rootIn, elementRefusal, Message, messageIn, messageRefusal, mapping, withdraw, release, Sent, records, idsAfter, leastLabel}
+use Rattle.meaning.specs.Card.{noRoute, nobody, noEntry, Route, Tree, Use, free, mapped, awaiting, Card, fresh, withNext, withRoutes, withTrees, withLabels, withCounts, withBranch, withLeaf, withLabel, isFor, routePlace, routeOf, treePlace, treeOf, treeAt, stands, isEmpty, isLone, leadsOn, isAwaiting, useOf, heldFor, freeLabels, treeLimit, routeLimit, withLast, nextFree, neighbourCount, mostBase}
 
 -- ---- what an event hands back
 
@@ -432,8 +432,8 @@ event room c e = finish room c (outcome c e)
 
 -- 17: base outside its range
 unfoldable pub baseOutside : ℕ → Bool
-baseOutside base = not (leb 16 base && leb base 1048320)
+baseOutside base = not (leb leastLabel base && leb base mostBase)
 
 -- the start: a refused one hands back a fresh card of base 16
 unfoldable pub start : ℕ → Out
-start base = pick (baseOutside base) (refuse 17 (fresh 16)) (accept [] 1 (fresh base))
+start base = pick (baseOutside base) (refuse 17 (fresh leastLabel)) (accept [] 1 (fresh base))

@@ -179,9 +179,16 @@ isKind k = eqb k mapping || eqb k withdraw || eqb k release
 unfoldable pub isOrdered : List ℕ → Bool
 isOrdered s = eqb (fecOf s .typeField) 0x0100 && eqb (labelOf s .typeField) 0x0200
 
+-- the labels that a message may carry: 0 to 15 have a meaning of their own (RFC 3032), and a label has 20 bits
+abbrev pub leastLabel : ℕ
+leastLabel = 16
+
+abbrev pub mostLabel : ℕ
+mostLabel = 1048575
+
 -- what 8 asks of the Label TLV's value
 unfoldable pub isLabel : List ℕ → Bool
-isLabel v = eqb (length v) 4 && leb 16 (fourAt v 0) && leb (fourAt v 0) 1048575
+isLabel v = eqb (length v) 4 && leb leastLabel (fourAt v 0) && leb (fourAt v 0) mostLabel
 
 -- the first of 2 to 7, 18, 8 and 9 that applies, or 0
 unfoldable pub messageRefusal : List ℕ → ℕ

@@ -18,6 +18,13 @@ pub const LABEL_COUNT: usize = 256;
 
 pub const NEIGHBOUR_COUNT: usize = 16;
 
+// the labels that a message may carry, and the highest base of a block
+pub const LEAST_LABEL: u64 = 16;
+
+pub const MOST_LABEL: u64 = 1048575;
+
+pub const MOST_BASE: u64 = MOST_LABEL + 1 - LABEL_COUNT as u64;
+
 pub const SENT_LIMIT: usize = TREE_LIMIT * 2 * RECORD_LIMIT;
 // of a save
 pub const SAVED_OPAQUE: usize = 32;

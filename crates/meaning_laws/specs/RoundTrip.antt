@@ -12,7 +12,7 @@ use lib.Seq.{drop-cons, drop-drop, take-append-seam, drop-append-seam}
 use lib.Dec.{eqb, leb}
 use borrow.Author.Tests.{eqb-true, ltb-true, leb-true, eq-eqb, ne-eqb, le-leb, not-false}
 use Rattle.meaning.specs.Octets.{any, two, four, twoAt, fourAt, _when_else_}
-use Rattle.meaning.specs.Wire.{addressLength, familyIn, rootLength, opaqueLength, rootIn, opaqueIn, isElement, opaqueLimit, isOpaque, isFilled, elementRefusal, element, framed, after, tlvs, tlv, Message, isKind, isSized, isLabel, isOrdered, isOverrun, messageIn, octetsOf, messageRefusal, fecOf, labelOf, bodyOf, found, Sent, recordOf, records, nextId, recordsF, nameLimit}
+use Rattle.meaning.specs.Wire.{addressLength, familyIn, rootLength, opaqueLength, rootIn, opaqueIn, isElement, opaqueLimit, isOpaque, isFilled, elementRefusal, element, framed, after, tlvs, tlv, Message, isKind, isSized, isLabel, isOrdered, isOverrun, messageIn, octetsOf, messageRefusal, fecOf, labelOf, bodyOf, found, Sent, recordOf, records, nextId, recordsF, nameLimit, leastLabel, mostLabel}
 use Rattle.meaning_laws.specs.WireLaws.{tlvs-end, tlvs-step, element-0}
 use Rattle.meaning.specs.Lists.{by-test, no-when}
 use Rattle.meaning.specs.Card.{neighbourCount}
@@ -148,10 +148,10 @@ pub record Sayable (m : Message) : Type 0 where
   pub kind : isKind (m .kind) ≡ true
   pub kind-fits : m .kind < 65536
   pub name : elementRefusal (m .name) ≡ 0
-  pub low : 16 ≤ m .label
-  pub high : m .label ≤ 1048575
+  pub low : leastLabel ≤ m .label
+  pub high : m .label ≤ mostLabel
 
-four-back : (l : ℕ) → l ≤ 1048575 → fourAt (four l) 0 ≡ l
+four-back : (l : ℕ) → l ≤ mostLabel → fourAt (four l) 0 ≡ l
 unfolding fourAt twoAt four
 four-back l h = omega arith
 
@@ -195,7 +195,7 @@ module _ (id : ℕ) (m : Message) (g : Sayable m) where
 
   label-back : isLabel (four (m .label)) ≡ true
   unfolding isLabel
-  label-back = rw (four-back (m .label) (g .high), le-leb 16 (m .label) (g .low), le-leb (m .label) 1048575 (g .high)) (unfold four in refl)
+  label-back = rw (four-back (m .label) (g .high), le-leb leastLabel (m .label) (g .low), le-leb (m .label) mostLabel (g .high)) (unfold four in refl)
 
   -- every reader takes what we write
   pub message-taken : messageRefusal (octetsOf id m) ≡ 0
@@ -258,14 +258,14 @@ records-back (suc f) id (m ∷ ms) h p =
 pub record Heard (n : ℕ) (a : List ℕ) (l : ℕ) : Type 0 where
   pub near : n < neighbourCount
   pub name : elementRefusal a ≡ 0
-  pub low : 16 ≤ l
-  pub high : l ≤ 1048575
+  pub low : leastLabel ≤ l
+  pub high : l ≤ mostLabel
 
-label-ok : (v : List ℕ) → isLabel v ≡ true → (16 ≤ fourAt v 0) × (fourAt v 0 ≤ 1048575)
+label-ok : (v : List ℕ) → isLabel v ≡ true → (leastLabel ≤ fourAt v 0) × (fourAt v 0 ≤ mostLabel)
 unfolding isLabel
 label-ok v e =
-    let a = both (eqb (length v) 4 && leb 16 (fourAt v 0)) (leb (fourAt v 0) 1048575) e in
-    let b = both (eqb (length v) 4) (leb 16 (fourAt v 0)) (a .0) in
+    let a = both (eqb (length v) 4 && leb leastLabel (fourAt v 0)) (leb (fourAt v 0) mostLabel) e in
+    let b = both (eqb (length v) 4) (leb leastLabel (fourAt v 0)) (a .0) in
     (leb-true _ _ (b .1), leb-true _ _ (a .1))
 
 pub heard : (n : ℕ) (s : List ℕ) → n < neighbourCount → messageRefusal s ≡ 0 → Heard n (messageIn s .name) (messageIn s .label)

@@ -12,7 +12,7 @@ use lib.Dec.{eqb, leb}
 use borrow.Author.Tests.{eqb-true, leb-true, le-leb}
 use Rattle.meaning.specs.Octets.{pick, two, four, fourAt, twoAt, all}
 use Rattle.meaning.specs.Lists.{by-test, positive}
-use Rattle.meaning.specs.Wire.{addressLength, familyIn, rootLength, rootIn, opaqueIn, elementRefusal, element, rootLimit, nameLimit}
+use Rattle.meaning.specs.Wire.{addressLength, familyIn, rootLength, rootIn, opaqueIn, elementRefusal, element, rootLimit, nameLimit, leastLabel, mostLabel}
 use Rattle.meaning.specs.Card.{Route, Tree, mapped, awaiting, withLabel, neighbourCount}
 use Rattle.meaning_laws.specs.Counts.{plain}
 use Rattle.meaning_laws.specs.WireLaws.{element-family}
@@ -153,7 +153,7 @@ unfolding isBranchLabel
 branch-fits l e =
     by-test (eqb l 0)
     (λ k. let z = eqb-true l 0 k in omega arith)
-    (λ k. let e′ : (leb 16 l && leb l 1048575) ≡ true = rw k at e in omega (arith, leb-true l 1048575 (both (leb 16 l) (leb l 1048575) e′ .1)))
+    (λ k. let e′ : (leb leastLabel l && leb l mostLabel) ≡ true = rw k at e in omega (arith, leb-true l mostLabel (both (leb leastLabel l) (leb l mostLabel) e′ .1)))
 
 pub fours-length : (bs : List ℕ) → length (foursOf bs) ≡ 4 * length bs
 unfolding foursOf four

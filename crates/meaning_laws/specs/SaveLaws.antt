@@ -13,7 +13,7 @@ use lib.Dec.{eqb, leb, ltb}
 use borrow.Author.Tests.{eqb-true, eqb-false, eq-eqb, ne-eqb, le-leb, leb-true, ltb-true, ltb-false, lt-ltb, le-ltb}
 use Rattle.meaning.specs.Octets.{pick, place, count, all, same, two, four, twoAt, fourAt}
 use Rattle.meaning.specs.Lists.{by-test, getD-same, getD-out, place-finds, place-count, place-only, count-some, same-eq, same-refl}
-use Rattle.meaning.specs.Card.{Tree, Use, free, mapped, awaiting, Card, treeLimit, routeLimit, labelCount, named, bare, treePlace, treeOf, treeAt, useOf, isFree, freeLabels, withLast, heldFor, routeOf, routePlace, neighbourCount}
+use Rattle.meaning.specs.Card.{Tree, Use, free, mapped, awaiting, Card, treeLimit, routeLimit, labelCount, named, bare, treePlace, treeOf, treeAt, useOf, isFree, freeLabels, withLast, heldFor, routeOf, routePlace, neighbourCount, mostBase}
 use Rattle.meaning.specs.Events.{refuse, roomShort, holderOf}
 use Rattle.meaning_laws.specs.RoundTrip.{both, two-back}
 use Rattle.meaning_laws.specs.NoticeLaws.{four-back}
@@ -24,6 +24,7 @@ use Rattle.meaning_laws.specs.SaveFields.{all-cons}
 use native.Mathlib.Nat.{le-of-suc-le-suc, not-suc-le-zero}
 use Rattle.meaning_laws.specs.Counts.{plains}
 use Rattle.meaning_laws.specs.SaveCounts.{plains-worked, worked-same}
+use Rattle.meaning.specs.Wire.{leastLabel}
 
 -- ---- a tree's label is that which is mapped for it
 
@@ -134,7 +135,7 @@ last-block c right some =
     (leb-true _ _ (q .0), ltb-true _ _ (q .1))
 
 -- and so of 32 bits
-last-small : (c : Card) → c .base ≤ 1048320 → lastRight c ≡ true → c .last < 4294967296
+last-small : (c : Card) → c .base ≤ mostBase → lastRight c ≡ true → c .last < 4294967296
 last-small c low right = by-test (eqb (c .last) 0) (λ e. omega (arith, eqb-true (c .last) 0 e)) (λ e. omega (arith, last-block c right (eqb-false _ _ e) .1))
 
 last-back : (f : Form) (c : Card) → ruled f c ≡ true → lastIn f (saved f c) (c .base) (c .labels) ≡ carriedBy f c .last
@@ -326,8 +327,8 @@ taken-is-save f o h = let p = both (ruled f (tableIn f o)) (same (saved f (table
 
 -- What the head of a save says: a reader that first tests this refuses no save, and afterwards all that it counts is small.
 pub record Head (o : List ℕ) : Type 0 where
-  pub low : 16 ≤ fourAt o 3
-  pub high : fourAt o 3 ≤ 1048320
+  pub low : leastLabel ≤ fourAt o 3
+  pub high : fourAt o 3 ≤ mostBase
   pub routes : getD o 11 0 ≤ routeLimit
   pub trees : getD o 12 0 ≤ treeLimit
   pub labels : twoAt o 13 ≤ labelCount

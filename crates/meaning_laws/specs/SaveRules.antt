@@ -11,11 +11,12 @@ use lib.Dec.{eqb, leb, ltb}
 use borrow.Author.Tests.{eqb-true, leb-true, ltb-true, eq-eqb, le-leb, lt-ltb, not-true, not-false}
 use Rattle.meaning.specs.Octets.{count, any, same, all}
 use Rattle.meaning.specs.Lists.{by-test, picked, same-eq, same-refl, any-count, count-any}
-use Rattle.meaning.specs.Card.{Route, Tree, Use, free, Card, treeLimit, routeLimit, labelCount, isFor, named, bare, treeAt, heldFor}
+use Rattle.meaning.specs.Card.{Route, Tree, Use, free, Card, treeLimit, routeLimit, labelCount, isFor, named, bare, treeAt, heldFor, mostBase}
 use Rattle.meaning.specs.Events.{baseOutside, holderOf}
 use Rattle.meaning_laws.specs.RoundTrip.{both}
 use Rattle.meaning_save.specs.Save.{onceEach, isRoute, sameRoot, isTree, sameName, isUse, isCarried, allCarried, carriesOwn, holdsRight, countsRight, keepsRows, keepsRules}
 use Rattle.meaning_laws.specs.SaveFields.{all-cons}
+use Rattle.meaning.specs.Wire.{leastLabel}
 
 -- ---- every element
 
@@ -75,8 +76,8 @@ module _ {A : Type 0} (key : A → List ℕ) where
 -- ---- the rules
 
 pub record Rules (c : Card) : Type 0 where
-  pub low : 16 ≤ c .base
-  pub high : c .base ≤ 1048320
+  pub low : leastLabel ≤ c .base
+  pub high : c .base ≤ mostBase
   pub next : c .next < 4294967296
   pub few-routes : length (c .routes) ≤ routeLimit
   pub few-trees : length (c .trees) ≤ treeLimit
@@ -140,7 +141,7 @@ module _ (c : Card) where
       let b = both _ (leb (length (c .trees)) treeLimit) (d .0) in
       let a = both _ (leb (length (c .routes)) routeLimit) (b .0) in
       let y = both _ (ltb (c .next) 4294967296) (a .0) in
-      let x = both (leb 16 (c .base)) (leb (c .base) 1048320) (not-false _ (not-true _ (y .0))) in
+      let x = both (leb leastLabel (c .base)) (leb (c .base) mostBase) (not-false _ (not-true _ (y .0))) in
       record {
         low = leb-true _ _ (x .0);
         high = leb-true _ _ (x .1);
@@ -163,8 +164,8 @@ module _ (c : Card) where
   unfolding keepsRules keepsRows baseOutside
   rules-kept R =
       rw (
-        le-leb 16 (c .base) (R .low),
-        le-leb (c .base) 1048320 (R .high),
+        le-leb leastLabel (c .base) (R .low),
+        le-leb (c .base) mostBase (R .high),
         lt-ltb (c .next) 4294967296 (R .next),
         le-leb (length (c .routes)) routeLimit (R .few-routes),
         le-leb (length (c .trees)) treeLimit (R .few-trees),

@@ -10,8 +10,8 @@ use mathlib.Core.List.{List, [], _∷_, _++_}
 use lib.ListN.{take, drop, getD, length, set, replicate}
 use lib.Dec.{eqb, leb, ltb}
 use Rattle.meaning.specs.Octets.{pick, place, count, any, same, two, four, twoAt, fourAt, _when_else_, all}
-use Rattle.meaning.specs.Wire.{rootIn, opaqueIn, elementRefusal, element, rootLimit, nameLimit}
-use Rattle.meaning.specs.Card.{Route, Tree, Use, free, mapped, awaiting, Card, withLabel, treeLimit, routeLimit, labelCount, isFor, named, isEmpty, isFree, heldFor, useOf, treeOf, freeLabels, neighbourCount, withLast}
+use Rattle.meaning.specs.Wire.{rootIn, opaqueIn, elementRefusal, element, rootLimit, nameLimit, leastLabel, mostLabel}
+use Rattle.meaning.specs.Card.{Route, Tree, Use, free, mapped, awaiting, Card, withLabel, treeLimit, routeLimit, labelCount, isFor, named, isEmpty, isFree, heldFor, useOf, treeOf, freeLabels, neighbourCount, thisNode, withLast}
 use Rattle.meaning.specs.Events.{Out, roomShort, refuse, baseOutside, notRoot, workedOut, holderOf}
 
 -- ---- the two forms, and where they differ: the kinds of three records, a name, and the last label given
@@ -288,14 +288,14 @@ onceEach like [] = true
 onceEach like (x ∷ xs) = let rest = onceEach like xs in pick (any (like x) xs) false rest
 
 unfoldable pub isRoute : Route → Bool
-isRoute r = not (notRoot (r .root)) && leb (r .via) 16
+isRoute r = not (notRoot (r .root)) && leb (r .via) thisNode
 
 unfoldable pub sameRoot : Route → Route → Bool
 sameRoot r s = isFor (r .root) s
 
 -- a branch label: none, or as 8 passes it
 unfoldable pub isBranchLabel : ℕ → Bool
-isBranchLabel l = eqb l 0 || (leb 16 l && leb l 1048575)
+isBranchLabel l = eqb l 0 || (leb leastLabel l && leb l mostLabel)
 
 unfoldable pub isTree : Tree → Bool
 isTree t = isName (t .name) && eqb (length (t .branches)) neighbourCount && all isBranchLabel (t .branches) && not (isEmpty t)

@@ -10,8 +10,9 @@ use lib.Dec.{leb, ltb}
 use borrow.Author.Tests.{le-leb, lt-leb, lt-ltb, ltb-true, ltb-false, leb-false}
 use Rattle.meaning.specs.Octets.{pick}
 use Rattle.meaning.specs.Lists.{by-test}
-use Rattle.meaning.specs.Card.{withNext, treeLimit, routeLimit, labelCount, turn, withLast, neighbourCount}
+use Rattle.meaning.specs.Card.{withNext, treeLimit, routeLimit, labelCount, turn, withLast, neighbourCount, mostBase}
 use Rattle.meaning.specs.Events.{baseOutside}
+use Rattle.meaning.specs.Wire.{leastLabel}
 use Rattle.octets.specs.Part.{tab}
 use Rattle.memory.specs.Sizes.{routeColumn, ownColumn, rowColumn, rowNumbers, markColumn, labelNumbers, treeOctets, labelOctets, rootOctets, labelNames, rootNames, Numbers, turnPlace}
 use Rattle.memory.specs.Memory.{upTo, textAt, baseIn, nextIn, routeCount, treeCount, routeIn, labelIn, treeIn, cardOf, labelBefore, turnIn, lastIn}
@@ -21,15 +22,15 @@ use Rattle.memory.proofs.Memory.{text-part, text-le, base-same, next-sa
 
 pub base-under : (ns : List ℕ) → getD ns 0 0 < neighbourCount → 16 ≡ baseIn ns
 unfolding baseIn baseOutside
-base-under ns h = rw (lt-leb 16 (getD ns 0 0) h) refl
+base-under ns h = rw (lt-leb leastLabel (getD ns 0 0) h) refl
 
-pub base-above : (ns : List ℕ) → 16 ≤ getD ns 0 0 → 1048320 < getD ns 0 0 → 16 ≡ baseIn ns
+pub base-above : (ns : List ℕ) → leastLabel ≤ getD ns 0 0 → mostBase < getD ns 0 0 → 16 ≡ baseIn ns
 unfolding baseIn baseOutside
-base-above ns h k = rw (le-leb 16 (getD ns 0 0) h, lt-leb (getD ns 0 0) 1048320 k) refl
+base-above ns h k = rw (le-leb leastLabel (getD ns 0 0) h, lt-leb (getD ns 0 0) mostBase k) refl
 
-pub base-in : (ns : List ℕ) → 16 ≤ getD ns 0 0 → getD ns 0 0 ≤ 1048320 → getD ns 0 0 ≡ baseIn ns
+pub base-in : (ns : List ℕ) → leastLabel ≤ getD ns 0 0 → getD ns 0 0 ≤ mostBase → getD ns 0 0 ≡ baseIn ns
 unfolding baseIn baseOutside
-base-in ns h k = rw (le-leb 16 (getD ns 0 0) h, le-leb (getD ns 0 0) 1048320 k) refl
+base-in ns h k = rw (le-leb leastLabel (getD ns 0 0) h, le-leb (getD ns 0 0) mostBase k) refl
 
 -- ---- a text, as a part that is handed out
 

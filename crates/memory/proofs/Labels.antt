@@ -10,7 +10,7 @@ use lib.Count.{ones, ones-le}
 use borrow.Author.Tests.{ltb-true, ltb-false, le-leb, lt-leb, eq-eqb, ne-eqb}
 use Rattle.meaning.specs.Octets.{count, same}
 use Rattle.meaning.specs.Lists.{by-test, getD-out}
-use Rattle.meaning.specs.Card.{Tree, Use, withTrees, free, withLabels, isFree, isAwaiting, mappedTo, useOf, freeLabels, mapped, awaiting, treeLimit, labelCount, neighbourCount}
+use Rattle.meaning.specs.Card.{Tree, Use, withTrees, free, withLabels, isFree, isAwaiting, mappedTo, useOf, freeLabels, mapped, awaiting, treeLimit, labelCount, neighbourCount, nobody}
 use Rattle.meaning.specs.Events.{setUse}
 use Rattle.octets.specs.Part.{tab}
 use Rattle.octets.proofs.Tab.{tab-length, tab-get, tab-ext, tab-set, count-none}
@@ -33,9 +33,9 @@ use-in ns os label p e h =
 -- the neighbour to which the label at a place is mapped
 module _ (ns : List ℕ) (p : ℕ) where
   abbrev pub MapsTo : ℕ → Type 0
-  MapsTo r = ((os : List ℕ) → r ≡ mappedTo (labelIn ns os p)) × (r ≤ 17) × (r ≡ 17 → isMappedAt ns p ≡ false) × ((r ≡ 17 → ⊥) → isMappedAt ns p ≡ true)
+  MapsTo r = ((os : List ℕ) → r ≡ mappedTo (labelIn ns os p)) × (r ≤ nobody) × (r ≡ nobody → isMappedAt ns p ≡ false) × ((r ≡ nobody → ⊥) → isMappedAt ns p ≡ true)
 
-  pub maps-free : isFreeAt ns p ≡ true → MapsTo 17
+  pub maps-free : isFreeAt ns p ≡ true → MapsTo nobody
   unfolding mappedTo
   maps-free e = ((λ os. rw (label-free ns p os e) refl), omega arith, (λ _. unmapped-free ns p e), (λ ne. absurd (ne refl)))
 
@@ -43,7 +43,7 @@ module _ (ns : List ℕ) (p : ℕ) where
   unfolding mappedTo
   maps-some e h = ((λ os. rw (label-mapped ns p os e h) refl), omega arith, (λ q. absurd (omega arith)), (λ _. mapped-at ns p e h))
 
-  pub maps-other : isFreeAt ns p ≡ false → neighbourCount ≤ markUse (markAt ns p) → MapsTo 17
+  pub maps-other : isFreeAt ns p ≡ false → neighbourCount ≤ markUse (markAt ns p) → MapsTo nobody
   unfolding mappedTo
   maps-other e h = ((λ os. rw (label-awaiting ns p os e h) refl), omega arith, (λ _. unmapped-above ns p h), (λ ne. absurd (ne refl)))
 
@@ -90,7 +90,7 @@ module _ (ns os : List ℕ) (label p : ℕ) (r : InBlock ns label p) where
   pub use-at : p < labelCount → useOf label (cardOf ns os) ≡ labelIn ns os p
   use-at h = use-in ns os label p (r .inside h) h
 
-  pub maps-out : labelCount ≤ p → 17 ≡ mappedTo (useOf label (cardOf ns os))
+  pub maps-out : labelCount ≤ p → nobody ≡ mappedTo (useOf label (cardOf ns os))
   unfolding mappedTo
   maps-out h = rw (r .outside h os) refl
 

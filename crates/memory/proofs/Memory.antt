@@ -7,10 +7,10 @@ use lib.ListN.{length, take, drop, getD, set, length-drop}
 use lib.Seq.{getD-set-other, getD-take, getD-drop, length-take-le}
 use lib.Dec.{leb, ltb}
 use borrow.Author.Tests.{le-ltb, ltb-true, ltb-false, leb-true, not-false}
-use Rattle.meaning.specs.Wire.{rootLimit, nameLimit}
+use Rattle.meaning.specs.Wire.{rootLimit, nameLimit, leastLabel}
 use Rattle.meaning.specs.Lists.{by-test}
 use Rattle.meaning_laws.specs.RoundTrip.{both}
-use Rattle.meaning.specs.Card.{Route, Tree, Use, labelCount, withLabel, withRoutes, withTrees, withLabels, bare, treeAt, treeLimit, routeLimit}
+use Rattle.meaning.specs.Card.{Route, Tree, Use, labelCount, withLabel, withRoutes, withTrees, withLabels, bare, treeAt, treeLimit, routeLimit, mostBase}
 use Rattle.meaning.specs.Events.{baseOutside}
 use Rattle.octets.specs.Part.{tab}
 use Rattle.octets.proofs.Tab.{tab-length, tab-get, tab-ext, tab-is}
@@ -39,12 +39,12 @@ pub treeCount-le : (ns : List ℕ) → treeCount ns ≤ treeLimit
 unfolding treeCount
 treeCount-le ns = upTo-le treeLimit _
 
-pub base-range : (ns : List ℕ) → (16 ≤ baseIn ns) × (baseIn ns ≤ 1048320)
+pub base-range : (ns : List ℕ) → (leastLabel ≤ baseIn ns) × (baseIn ns ≤ mostBase)
 unfolding baseIn
 base-range ns =
     by-test (baseOutside (getD ns 0 0))
     (λ e. rw e (omega arith, omega arith))
-    (λ e. let b = both (leb 16 (getD ns 0 0)) (leb (getD ns 0 0) 1048320) (not-false _ (unfold baseOutside in e)) in rw e (leb-true _ _ (b .0), leb-true _ _ (b .1)))
+    (λ e. let b = both (leb leastLabel (getD ns 0 0)) (leb (getD ns 0 0) mostBase) (not-false _ (unfold baseOutside in e)) in rw e (leb-true _ _ (b .0), leb-true _ _ (b .1)))
 
 -- ---- texts
 

@@ -10,7 +10,7 @@ use lib.Dec.{eqb}
 use borrow.Author.Tests.{eq-eqb, ne-eqb}
 use Rattle.meaning.specs.Octets.{place, same}
 use Rattle.meaning.specs.Lists.{by-test}
-use Rattle.meaning.specs.Card.{Tree, withTrees, withBranch, withLeaf, withLabel, treeAt, named, treePlace, withLabels, mappedTo, useOf, heldFor, carries, treeLimit, labelCount, neighbourCount}
+use Rattle.meaning.specs.Card.{Tree, withTrees, withBranch, withLeaf, withLabel, treeAt, named, treePlace, withLabels, mappedTo, useOf, heldFor, carries, treeLimit, labelCount, neighbourCount, nobody}
 use Rattle.meaning.specs.Events.{setLabel, setUse, ended}
 use Rattle.octets.specs.Part.{tab}
 use Rattle.octets.proofs.Tab.{tab-length, tab-get, tab-ext, tab-set, place-start, place-past, place-hit, place-none}
@@ -122,7 +122,7 @@ module _ (ns os : List ℕ) (i : ℕ) (h : i < treeCount ns) where
       let own : treeAt i (cardOf ns os) .label ≡ baseIn ns + ownPlace ns i = sym (label-some ns os i h (baseIn ns) refl c) in
       e ∙ ap mappedTo (sym (use-in ns os (treeAt i (cardOf ns os) .label) (ownPlace ns i) own (carried-out ns i (ownPlace ns i) c .0)))
 
-  pub held-none : carriesAt ns i (ownPlace ns i) ≡ false → 17 ≡ heldFor (cardOf ns os) (treeAt i (cardOf ns os))
+  pub held-none : carriesAt ns i (ownPlace ns i) ≡ false → nobody ≡ heldFor (cardOf ns os) (treeAt i (cardOf ns os))
   unfolding heldFor
   held-none c = rw (← label-none ns os i h c) (maps-out ns os 0 labelCount (block-under ns 0 (baseIn ns) refl labelCount (omega (arith, base-range ns)) (omega arith)) (omega arith))
 

@@ -6,11 +6,14 @@ ghost use mathlib.Core.List.{List, _∷_};
 ghost use Prim.Native.Nat.{ℕ, _+_, _-_, _≤_, _<_};
 ghost use lib.ListN.{length, replicate};
 ghost use Rattle.meaning.specs.Octets.{same};
-ghost use Rattle.meaning.specs.Card.{turn, withNext, withLast, labelCount, routeLimit, treeLimit};
+ghost use Rattle.meaning.specs.Card.{turn, withNext, withLast, labelCount, routeLimit, treeLimit, mostBase};
 ghost use Rattle.memory.specs.Sizes.{Numbers, Names, nameSpace};
 ghost use Rattle.memory.specs.Parts.{Written, Closed};
 ghost use Rattle.memory.specs.Memory.{cardOf, baseIn, labelBefore, treeCount, routeCount, textAt, treeName};
+ghost use Rattle.meaning.specs.Wire.{leastLabel};
 use meaning::LABEL_COUNT;
+use meaning::LEAST_LABEL;
+use meaning::MOST_BASE;
 use meaning::NAME_LIMIT;
 use meaning::NEIGHBOUR_COUNT;
 use meaning::ROOT_LIMIT;
@@ -59,6 +62,10 @@ pub const ROUTES: u64 = ROUTE_LIMIT as u64;
 pub const LABELS: u64 = LABEL_COUNT as u64;
 
 pub const NEIGHBOURS: u64 = NEIGHBOUR_COUNT as u64;
+// a route that leads nowhere, and in the place of a neighbour's number: nobody
+pub const NO_ROUTE: u64 = NEIGHBOURS + 1;
+
+pub const NOBODY: u64 = NO_ROUTE;
 // a place in a row that is no neighbour's
 pub const NO_NEIGHBOUR: usize = NEIGHBOUR_COUNT;
 // in the own column: no label; in a mark: a place where no tree stands
@@ -68,14 +75,14 @@ pub const NOWHERE: u64 = 256 * TREE_LIMIT as u64;
 
 pub fn base(numbers: &[u64]) -> u64
     requires { ⌜ Numbers (now numbers) ⌝ }
-    ensures { λ r. ⌜ (r ≡ baseIn (now (numbers .entry))) × (16 ≤ r) × (r ≤ 1048320) ⌝ }
+    ensures { λ r. ⌜ (r ≡ baseIn (now (numbers .entry))) × (leastLabel ≤ r) × (r ≤ mostBase) ⌝ }
 {
     let b = numbers[0];
-    if b < 16 {
-        return 16;
+    if b < LEAST_LABEL {
+        return LEAST_LABEL;
     }
-    if 1048320 < b {
-        return 16;
+    if MOST_BASE < b {
+        return LEAST_LABEL;
     }
     b
 }

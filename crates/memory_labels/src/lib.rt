@@ -3,7 +3,7 @@ ghost use mathlib.Core.Path.{_≡_};
 ghost use mathlib.Core.Bool.{true, false};
 ghost use mathlib.Core.List.{List};
 ghost use Prim.Native.Nat.{ℕ, _+_, _*_, _-_, _≤_, _<_};
-ghost use Rattle.meaning.specs.Card.{isFree, isAwaiting, mappedTo, useOf, freeLabels, free, awaiting, labelCount, neighbourCount};
+ghost use Rattle.meaning.specs.Card.{isFree, isAwaiting, mappedTo, useOf, freeLabels, free, awaiting, labelCount, neighbourCount, nobody};
 ghost use Rattle.meaning.specs.Events.{setUse, labelsShort};
 ghost use Rattle.meaning_laws.specs.NextFree.{nextPlace};
 ghost use Rattle.memory.specs.Sizes.{Numbers, Names, wordCount};
@@ -15,6 +15,7 @@ use memory::LABEL_NAMES;
 use memory::MARK_COLUMN;
 use memory::NAME_SPACE;
 use memory::NEIGHBOURS;
+use memory::NOBODY;
 use memory::SECOND_WORD;
 use memory::THIRD_WORD;
 use memory::WORD_COLUMN;
@@ -48,14 +49,14 @@ pub fn set_taken(numbers: &mut [u64], p: usize)
 // The neighbour to which the label at place p of the block is mapped; 17 for none.
 pub fn mapped_at(numbers: &[u64], p: usize) -> u64
     requires { ⌜ Numbers (now numbers) × (p < labelCount) ⌝ }
-    ensures { λ r. ⌜ ((os : List ℕ) → r ≡ mappedTo (labelIn (now (numbers .entry)) os p)) × (r ≤ 17)
-        × (r ≡ 17 → isMappedAt (now (numbers .entry)) p ≡ false) × ((r ≡ 17 → ⊥) → isMappedAt (now (numbers .entry)) p ≡ true) ⌝ }
+    ensures { λ r. ⌜ ((os : List ℕ) → r ≡ mappedTo (labelIn (now (numbers .entry)) os p)) × (r ≤ nobody)
+        × (r ≡ nobody → isMappedAt (now (numbers .entry)) p ≡ false) × ((r ≡ nobody → ⊥) → isMappedAt (now (numbers .entry)) p ≡ true) ⌝ }
 {
     if is_free(numbers, p) {
-        return 17;
+        return NOBODY;
     }
     let u = numbers[MARK_COLUMN + p] % 256;
-    if u < NEIGHBOURS { u } else { 17 }
+    if u < NEIGHBOURS { u } else { NOBODY }
 }
 
 // The neighbour from which the label at place p of the block awaits release, where the label is neither free nor mapped.

@@ -10,7 +10,7 @@ use lib.Seq.{getD-set-same, getD-set-other}
 use Rattle.meaning.specs.Octets.{place, put, cut, same}
 use Rattle.meaning.specs.Wire.{rootLimit}
 use Rattle.meaning.specs.Lists.{picked, place-finds, same-eq, getD-out}
-use Rattle.meaning.specs.Card.{Route, Card, noEntry, withRoutes, isFor, routePlace, treeLimit, routeLimit, routeOf}
+use Rattle.meaning.specs.Card.{Route, Card, noEntry, withRoutes, isFor, routePlace, treeLimit, routeLimit, routeOf, noRoute}
 use Rattle.octets.specs.Part.{tab}
 use Rattle.octets.proofs.Tab.{tab-length, tab-get, tab-set, tab-snoc, tab-cut, put-in, put-end}
 use Rattle.memory.specs.Sizes.{rootSpace, routeColumn, ownColumn, rowNumbers, labelNumbers, rootNames, Numbers}
@@ -37,7 +37,7 @@ pub route-some : (r ns os : List ℕ) (i n : ℕ) → i ≡ routePlace r (cardOf
 unfolding routeIn entryIn
 route-some r ns os i n e k h = sym (route-at r ns os i e ∙ ap (λ (x : Route). x .via) (tab-get (routeCount ns) (routeIn ns os) i _ (omega arith)))
 
-pub route-none : (r ns os : List ℕ) (i n : ℕ) → i ≡ routePlace r (cardOf ns os) → n ≡ routeCount ns → n ≤ i → 17 ≡ routeOf r (cardOf ns os)
+pub route-none : (r ns os : List ℕ) (i n : ℕ) → i ≡ routePlace r (cardOf ns os) → n ≡ routeCount ns → n ≤ i → noRoute ≡ routeOf r (cardOf ns os)
 route-none r ns os i n e k h = sym (route-at r ns os i e ∙ ap (λ (x : Route). x .via) (getD-out (tab (routeCount ns) (routeIn ns os)) i _ (rw tab-length (omega arith))))
 
 -- ---- a route that stands at another place

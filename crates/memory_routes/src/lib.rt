@@ -10,6 +10,7 @@ ghost use Rattle.meaning.specs.Card.{withRoutes, withCounts, routePlace, routeL
 ghost use Rattle.memory.specs.Sizes.{Numbers, Names, rootNames, rootSpace};
 ghost use Rattle.memory.specs.Memory.{cardOf, routeCount, rootName, routeIn, entryIn};
 use meaning::ROOT_LIMIT;
+use memory::NO_ROUTE;
 use memory::ROOT_NAMES;
 use memory::ROOT_SPACE;
 use memory::ROUTE_COLUMN;
@@ -99,7 +100,7 @@ pub fn route_at(numbers: &[u64], i: usize) -> u64
     if i < memory::route_count(numbers) {
         numbers[ROUTE_COLUMN + i] % 256
     } else {
-        17
+        NO_ROUTE
     }
 }
 

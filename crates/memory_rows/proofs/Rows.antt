@@ -9,9 +9,9 @@ use lib.ListN.{length, getD, set, replicate, length-set, length-replicate}
 use lib.Seq.{getD-set-same, getD-set-other}
 use borrow.Author.Tests.{le-leb}
 use Rattle.meaning.specs.Octets.{cut}
-use Rattle.meaning.specs.Wire.{nameLimit}
+use Rattle.meaning.specs.Wire.{nameLimit, leastLabel}
 use Rattle.meaning.specs.Lists.{getD-all}
-use Rattle.meaning.specs.Card.{free, labelCount, fresh, withTrees, bare, treeLimit}
+use Rattle.meaning.specs.Card.{free, labelCount, fresh, withTrees, bare, treeLimit, mostBase}
 use Rattle.meaning.specs.Events.{baseOutside}
 use Rattle.octets.specs.Part.{tab}
 use Rattle.octets.proofs.Tab.{tab-ext, tab-snoc, tab-cut}
@@ -45,9 +45,9 @@ unfolding tab
 tab-replicate zero f v h = refl
 tab-replicate (suc n) f v h = cc (h zero (suc-le-suc zero-le), tab-replicate n (λ i. f (suc i)) v (λ i k. h (suc i) (suc-le-suc k)))
 
-base-in : (ns : List ℕ) (b : ℕ) → getD ns 0 0 ≡ b → 16 ≤ b → b ≤ 1048320 → baseIn ns ≡ b
+base-in : (ns : List ℕ) (b : ℕ) → getD ns 0 0 ≡ b → leastLabel ≤ b → b ≤ mostBase → baseIn ns ≡ b
 unfolding baseIn baseOutside
-base-in ns b e l h = rw (e, le-leb 16 b l, le-leb b 1048320 h) refl
+base-in ns b e l h = rw (e, le-leb leastLabel b l, le-leb b mostBase h) refl
 
 no-rows : (ns os : List ℕ) → getD ns 2 0 ≡ 0 → getD ns 3 0 ≡ 0 → (tab (routeCount ns) (routeIn ns os) ≡ []) × (tab (treeCount ns) (treeIn ns os) ≡ [])
 unfolding tab routeCount treeCount upTo
@@ -96,7 +96,7 @@ last-none : (ns : List ℕ) → turnIn ns ≡ 0 → lastIn ns ≡ 0
 unfolding lastIn labelBefore
 last-none ns e = rw e refl
 
-pub start-fresh : (ns zs os : List ℕ) (base : ℕ) → Numbers ns → 16 ≤ base → base ≤ 1048320 → zs ≡ replicate (length ns) 0 → cardOf (full 18446744073709551615 (set (set zs 0 base) 1 1)) os ≡ fresh base
+pub start-fresh : (ns zs os : List ℕ) (base : ℕ) → Numbers ns → leastLabel ≤ base → base ≤ mostBase → zs ≡ replicate (length ns) 0 → cardOf (full 18446744073709551615 (set (set zs 0 base) 1 1)) os ≡ fresh base
 unfolding cardOf fresh nextIn
 start-fresh ns zs os base h lo hi e =
     let long : Numbers zs = rw e (length-replicate (length ns) 0 ∙ h) in

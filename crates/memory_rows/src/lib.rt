@@ -4,8 +4,8 @@ ghost use mathlib.Core.List.{List, [], _∷_, _++_};
 ghost use Prim.Native.Nat.{ℕ, _+_, _-_, _≤_, _<_};
 ghost use lib.ListN.{length};
 ghost use Rattle.meaning.specs.Octets.{cut};
-ghost use Rattle.meaning.specs.Wire.{nameLimit};
-ghost use Rattle.meaning.specs.Card.{fresh, withTrees, bare, treeLimit};
+ghost use Rattle.meaning.specs.Wire.{nameLimit, leastLabel};
+ghost use Rattle.meaning.specs.Card.{fresh, withTrees, bare, treeLimit, mostBase};
 ghost use Rattle.memory.specs.Sizes.{Numbers, Names};
 ghost use Rattle.memory.specs.Memory.{cardOf, treeCount, StandsAt};
 ghost use Rattle.memory_rows.specs.Lower.{Lowered, LoweredOne, NamesLowered};
@@ -106,7 +106,7 @@ pub fn remove_tree(numbers: &mut [u64], names: &mut [u8], i: usize)
 
 // A fresh card, whatever the memory held.
 pub fn start_fresh(numbers: &mut [u64], base: u64)
-    requires { ⌜ Numbers (now numbers) × (16 ≤ base) × (base ≤ 1048320) ⌝ }
+    requires { ⌜ Numbers (now numbers) × (leastLabel ≤ base) × (base ≤ mostBase) ⌝ }
     ensures { λ _. ⌜ ((os : List ℕ) → cardOf (now (numbers .exit)) os ≡ fresh base) ⌝ }
 {
     octets::zero(numbers);

@@ -7,7 +7,7 @@ ghost use Prim.Native.Nat.{ℕ, _+_, _*_, _-_, _≤_, _<_};
 ghost use lib.ListN.{length, getD, set};
 ghost use Rattle.meaning.specs.Octets.{pick, place, any, count, same};
 ghost use Rattle.meaning.specs.Wire.{nameLimit};
-ghost use Rattle.meaning.specs.Card.{withTrees, withBranch, withLeaf, treePlace, treeAt, isBranch, useOf, heldFor, carries, labelCount, treeLimit, neighbourCount};
+ghost use Rattle.meaning.specs.Card.{withTrees, withBranch, withLeaf, treePlace, treeAt, isBranch, useOf, heldFor, carries, labelCount, treeLimit, neighbourCount, nobody};
 ghost use Rattle.meaning.specs.Events.{setUse, setLabel, ended};
 ghost use Rattle.octets.specs.Part.{tab};
 ghost use Rattle.memory.specs.Sizes.{Numbers, Names, nameSpace};
@@ -19,6 +19,7 @@ use memory::LABELS;
 use memory::MARK_COLUMN;
 use memory::NAME_SPACE;
 use memory::NEIGHBOURS;
+use memory::NOBODY;
 use memory::OWN_COLUMN;
 use memory::ROW_COLUMN;
 use memory::ROW_WIDTH;
@@ -34,7 +35,7 @@ fn carries_at(numbers: &[u64], i: usize, p: u64) -> bool
         return false;
     }
     let k = p as usize;
-    if memory_labels::mapped_at(numbers, k) == 17 {
+    if memory_labels::mapped_at(numbers, k) == NOBODY {
         return false;
     }
     numbers[MARK_COLUMN + k] / 256 == i as u64
@@ -281,12 +282,12 @@ pub fn set_leaf(numbers: &mut [u64], i: usize, leaf: bool)
 // The neighbour for which the tree at place i holds its label; 17 for none.
 pub fn held_for(numbers: &[u64], i: usize) -> u64
     requires { ⌜ Numbers (now numbers) × StandsAt (now numbers) i ⌝ }
-    ensures { λ r. ⌜ ((os : List ℕ) → (let c = cardOf (now (numbers .entry)) os in r ≡ heldFor c (treeAt i c))) × (r ≤ 17) ⌝ }
+    ensures { λ r. ⌜ ((os : List ℕ) → (let c = cardOf (now (numbers .entry)) os in r ≡ heldFor c (treeAt i c))) × (r ≤ nobody) ⌝ }
 {
     if own_counts(numbers, i) {
         memory_labels::mapped_at(numbers, numbers[OWN_COLUMN + i] as usize)
     } else {
-        17
+        NOBODY
     }
 }
 

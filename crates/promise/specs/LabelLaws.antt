@@ -10,8 +10,8 @@ use lib.ListN.{getD, length, length-set}
 use lib.Dec.{eqb}
 use borrow.Author.Tests.{eqb-true, eqb-false, eq-eqb, le-leb, lt-leb}
 use Rattle.meaning.specs.Octets.{pick, same}
-use Rattle.meaning.specs.Wire.{elementRefusal, isKind, withdraw, Sent}
-use Rattle.meaning.specs.Card.{Tree, Use, free, mapped, awaiting, Card, nobody, withTrees, withLabels, withLabel, treePlace, treeOf, treeAt, leadsOn, isFree, mappedTo, useOf, heldFor, freeLabels, nextFree, withLast, neighbourCount}
+use Rattle.meaning.specs.Wire.{elementRefusal, isKind, withdraw, Sent, leastLabel}
+use Rattle.meaning.specs.Card.{Tree, Use, free, mapped, awaiting, Card, nobody, withTrees, withLabels, withLabel, treePlace, treeOf, treeAt, leadsOn, isFree, mappedTo, useOf, heldFor, freeLabels, nextFree, withLast, neighbourCount, mostBase}
 use Rattle.meaning.specs.Events.{Moved, still, followedBy, setUse, setLabel, ended, giveUp, give, letGo, takeUp, moveLabel, relabel, needMove, need, holder, ofRoot, moveOne, moveFrom, moveAll, needOne, sumFrom, needAll}
 use Rattle.promise.specs.Promise.{Given, noteSent, noteAll, NoneLive, AllMapped, useBut, Untouched}
 use Rattle.meaning.specs.Lists.{by-test, picked, same-eq, same-refl, count-set, count-less}
@@ -31,8 +31,8 @@ spent-eq c d l b f s = record { none = λ z. f (s .none (sym l ∙ z)); block = 
 -- the table is sound, and gs are the labels that are live
 pub record Sound (c : Card) (gs : List Given) : Type 0 where
   pub tidy : Tidy (c .trees)
-  pub low : 16 ≤ c .base
-  pub high : c .base ≤ 1048320
+  pub low : leastLabel ≤ c .base
+  pub high : c .base ≤ mostBase
   pub many : length (c .labels) ≡ 256
   pub linked : Linked (λ a. treeOf a c .label) (λ l. useOf l c)
   pub books : Books (λ l. useOf l c) gs
@@ -273,7 +273,7 @@ module _ (c : Card) (gs : List Given) (S : Sound c gs) (i : ℕ) (h : i < length
     give-fine : Fine i c gs (give i u c)
     unfolding give
     give-fine = moved-fine c gs S i h (nextFree c) (nextFree c) _ (next-from c some-free) (next-within c some-free) _ (nextFree c)
-        (give-linked _ _ (S .linked) (treeAt i c .name) (nextFree c) u (its-label ∙ none) (next-free c some-free) not-zero (lt-leb 16 u near))
+        (give-linked _ _ (S .linked) (treeAt i c .name) (nextFree c) u (its-label ∙ none) (next-free c some-free) not-zero (lt-leb neighbourCount u near))
         (unfold noteAll noteSent in books-give _ gs (S .books) (treeAt i c .name) (nextFree c) u (next-free c some-free))
         (unfold noteAll noteSent in omega (arith, given-free, S .sum))
         (unfold NoneLive in ((λ _. books-free _ gs (S .books) (nextFree c) (next-free c some-free)), tt))

@@ -25,7 +25,7 @@ isMapped a (awaiting n t) = false
 -- mapped to no neighbour: above 15
 unfoldable pub stray : Use → Bool
 stray free = false
-stray (mapped n t) = leb 16 n
+stray (mapped n t) = leb neighbourCount n
 stray (awaiting n t) = false
 
 pub mapped-eq : (a : List ℕ) (u : Use) → isMapped a u ≡ true → u ≡ mapped (mappedTo u) a
@@ -143,7 +143,7 @@ module _ (lab : List ℕ → ℕ) (U : ℕ → Use) (L : Linked lab U) where
       (λ k. absurd (mapped-not-free b (U (lab b)) (L .own b (λ z. nz (eqb-true m (lab b) k ∙ z))) (ap U (sym (eqb-true m (lab b) k)) ∙ fr)))
       (λ k. rw k refl)
 
-  pub give-linked : (a : List ℕ) (m u : ℕ) → lab a ≡ 0 → U m ≡ free → (m ≡ 0 → ⊥) → leb 16 u ≡ false → Linked (carry lab a m) (upd U m (mapped u a))
+  pub give-linked : (a : List ℕ) (m u : ℕ) → lab a ≡ 0 → U m ≡ free → (m ≡ 0 → ⊥) → leb neighbourCount u ≡ false → Linked (carry lab a m) (upd U m (mapped u a))
   unfolding isMapped stray
   give-linked a m u none fr nz ok = record {
     zero-free = rw (ne-eqb m 0 nz) (L .zero-free);

@@ -11,7 +11,7 @@ use lib.Dec.{eqb, ltb}
 use borrow.Author.Tests.{eqb-true, eqb-false, ne-eqb, ltb-false}
 use Rattle.meaning.specs.Octets.{pick, any, cut}
 use Rattle.meaning.specs.Wire.{rootIn}
-use Rattle.meaning.specs.Card.{Tree, Card, noRoute, withRoutes, withTrees, withLabels, withBranch, withLabel, routeOf, bare, treeOf, treeAt, isBranch, isEmpty, notHeld, leadsOn, mappedTo, heldFor, freeLabels, Route, noEntry, neighbourCount}
+use Rattle.meaning.specs.Card.{Tree, Card, noRoute, withRoutes, withTrees, withLabels, withBranch, withLabel, routeOf, bare, treeOf, treeAt, isBranch, isEmpty, notHeld, leadsOn, mappedTo, heldFor, freeLabels, Route, noEntry, neighbourCount, nobody}
 use Rattle.meaning.specs.Events.{Moved, still, followedBy, letGo, upstream, holder, holderOf, swept, treeWithout, parted, shed, shedFrom, sweptBelow, total, inRoot, workedOut, recountedWithout, treesWithout}
 use Rattle.meaning.specs.Lists.{by-test, picked}
 use Rattle.meaning_laws.specs.RoundTrip.{AllSendable}
@@ -203,7 +203,7 @@ sweep (suc n) c gs S L h F =
 
 holder-none : (t : Tree) → holder noRoute t ≡ noRoute
 unfolding holder
-holder-none t = picked (λ (x : ℕ). x ≡ 17) (leadsOn 17 t) (λ _. refl) (λ _. refl)
+holder-none t = picked (λ (x : ℕ). x ≡ nobody) (leadsOn nobody t) (λ _. refl) (λ _. refl)
 
 -- with the route r, a tree t held its label for h; without n it is to hold one for whom it leads on from h, if that is not n
 asked-without : (n r h : ℕ) (t s : Tree) → n < neighbourCount → ((u : ℕ) → leadsOn u t ≡ false → leadsOn u s ≡ false) → h ≡ holder (upstream r) t
@@ -216,11 +216,11 @@ asked-without n r h t s near less its =
     (λ e. rw e (ap (λ (x : ℕ). holder x s) gone))
     (λ e. rw e (ap (λ (x : ℕ). holder x s) (there low)))))
     (λ off. let h-is : h ≡ noRoute = its ∙ nowhere low off in
-    rw h-is (rw (ne-eqb 17 n (λ z. omega arith)) (by-test (eqb r n)
+    rw h-is (rw (ne-eqb nobody n (λ z. omega arith)) (by-test (eqb r n)
     (λ e. rw e (ap (λ (x : ℕ). holder x s) gone))
     (λ e. rw e (ap (λ (x : ℕ). holder x s) (there low) ∙ ends (less r off) ∙ sym (holder-none s)))))))
     (λ high. let h-is : h ≡ noRoute = its ∙ ap (λ (x : ℕ). holder x t) (far high) ∙ holder-none t in
-    rw h-is (rw (ne-eqb 17 n (λ z. omega arith), ne-eqb r n (λ z. omega (arith, ltb-false r 16 high))) (ap (λ (x : ℕ). holder x s) (far high))))
+    rw h-is (rw (ne-eqb nobody n (λ z. omega arith), ne-eqb r n (λ z. omega (arith, ltb-false r 16 high))) (ap (λ (x : ℕ). holder x s) (far high))))
   where
     gone : upstream noRoute ≡ noRoute
     gone = unfold upstream in refl

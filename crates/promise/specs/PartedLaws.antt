@@ -11,7 +11,7 @@ use lib.Dec.{eqb, leb}
 use borrow.Author.Tests.{eqb-true, eqb-false, eq-eqb, ne-eqb, le-leb, lt-leb, leb-true, leb-false}
 use Rattle.meaning.specs.Octets.{pick, place, count}
 use Rattle.meaning.specs.Wire.{elementRefusal}
-use Rattle.meaning.specs.Card.{Tree, Route, Use, free, mapped, awaiting, Card, noRoute, noEntry, withRoutes, withTrees, withLabels, withBranch, withLabel, isFor, routePlace, routeOf, treeOf, isFree, mappedTo, useOf, heldFor, freeLabels, neighbourCount}
+use Rattle.meaning.specs.Card.{Tree, Route, Use, free, mapped, awaiting, Card, noRoute, noEntry, withRoutes, withTrees, withLabels, withBranch, withLabel, isFor, routePlace, routeOf, treeOf, isFree, mappedTo, useOf, heldFor, freeLabels, neighbourCount, nobody}
 use Rattle.meaning.specs.Events.{isOf, freedOf, treeWithout, treesWithout, recountedWithout, routesWithout, parted}
 use Rattle.meaning.specs.Lists.{by-test, picked, found-none}
 use Rattle.meaning_laws.specs.Losses.{freed-free, uses-length, parted-use, without-name, without-size, trees-count, parted-tree}
@@ -45,8 +45,8 @@ module _ (n : ℕ) where
   pub freed-none : n < neighbourCount → (u : Use) → mappedTo (freedOf n u) ≡ n → ⊥
   unfolding freedOf isOf mappedTo
   freed-none near free z = omega arith
-  freed-none near (mapped k b) z = by-test (eqb k n) (λ t. let z′ : 17 ≡ n = rw t at z in omega arith) (λ t. eqb-false k n t (rw t at z))
-  freed-none near (awaiting k b) z = by-test (eqb k n) (λ t. let z′ : 17 ≡ n = rw t at z in omega arith) (λ t. let z′ : 17 ≡ n = rw t at z in omega arith)
+  freed-none near (mapped k b) z = by-test (eqb k n) (λ t. let z′ : nobody ≡ n = rw t at z in omega arith) (λ t. eqb-false k n t (rw t at z))
+  freed-none near (awaiting k b) z = by-test (eqb k n) (λ t. let z′ : nobody ≡ n = rw t at z in omega arith) (λ t. let z′ : nobody ≡ n = rw t at z in omega arith)
 
   freed-real : (u : Use) → stray u ≡ false → stray (freedOf n u) ≡ false
   unfolding freedOf stray

@@ -11,8 +11,8 @@ use lib.Seq.{ext-getD, set-getD, getD-set-same, getD-set-other}
 use lib.Dec.{eqb, leb, ltb}
 use borrow.Author.Tests.{eqb-true, eqb-false, eq-eqb, ne-eqb, ltb-true, ltb-false, lt-ltb, leb-true, not-false}
 use Rattle.meaning.specs.Octets.{pick, place, count, same}
-use Rattle.meaning.specs.Wire.{rootIn, mapping, withdraw, Message, messageIn, Sent, records, recordsF, recordsIn, elementRefusal}
-use Rattle.meaning.specs.Card.{Tree, Use, free, mapped, awaiting, Card, fresh, withNext, withBranch, withLeaf, withLabel, bare, treePlace, treeOf, treeAt, isFree, isAwaiting, mappedTo, notHeld, leadsOn, useOf, freeLabels, heldFor, routeOf, routePlace, branchesFrom, feedOf, carries, carrier, feedOfUse, lookupLabel, isBranch, nothing, lookupName, neighbourCount}
+use Rattle.meaning.specs.Wire.{rootIn, mapping, withdraw, Message, messageIn, Sent, records, recordsF, recordsIn, elementRefusal, leastLabel}
+use Rattle.meaning.specs.Card.{Tree, Use, free, mapped, awaiting, Card, fresh, withNext, withBranch, withLeaf, withLabel, bare, treePlace, treeOf, treeAt, isFree, isAwaiting, mappedTo, notHeld, leadsOn, useOf, freeLabels, heldFor, routeOf, routePlace, branchesFrom, feedOf, carries, carrier, feedOfUse, lookupLabel, isBranch, nothing, lookupName, neighbourCount, mostBase}
 use Rattle.meaning.specs.Events.{Out, Outcome, refused, taken, refuse, accept, roomShort, finish, upstream, holder, holderOf, branch, lessBranch, Event, receive, join, leave, route, outcome, event, baseOutside, start, otherLabel, lost}
 use Rattle.promise.specs.Promise.{Given, ofLabel, isAbout, isWithdrawn, Demand3, noteAll, noteTaken, leafBy, branchesBy, routeBy, feedBy, Step, Past, answerTo, sends, thenStep, thenSteps, history, Each, NoneLive, AllMapped, Leads, Promise, saidBy, branchesSaid, branchesTo, isTaken, liveAt, acceptedAt, Untouched, begun, withoutLabel}
 use Rattle.meaning.specs.Lists.{getD-same, by-test, picked, place-finds, place-count, same-eq, same-refl, getD-out, getD-all, count-some, set-replicate}
@@ -33,7 +33,7 @@ use Rattle.promise.specs.EventLaws.{Awaited, heard-awaited, awaiting-eq,
 unfoldable pub listed : ℕ → List ℕ
 listed l = pick (isBranch l) (l ∷ []) []
 
-listed-some : (l : ℕ) → 16 ≤ l → listed l ≡ l ∷ []
+listed-some : (l : ℕ) → leastLabel ≤ l → listed l ≡ l ∷ []
 unfolding listed isBranch
 listed-some l h = rw (lt-ltb 0 l (omega arith)) refl
 
@@ -84,7 +84,7 @@ unfolding withoutLabel listed
 without-other l b e = picked (λ (x : List ℕ). withoutLabel l x ≡ x) (isBranch b) (λ _. unfold withoutLabel in rw e refl) (λ _. unfold withoutLabel in refl)
 
 -- where no other label stands, what a message says is what it makes of the place
-new-said : (m : Message) (b : ℕ) → 16 ≤ m .label → (m .kind ≡ mapping → (eqb b 0 || eqb b (m .label)) ≡ true) → saidBy m (listed b) ≡ listed (newBranch m b)
+new-said : (m : Message) (b : ℕ) → leastLabel ≤ m .label → (m .kind ≡ mapping → (eqb b 0 || eqb b (m .label)) ≡ true) → saidBy m (listed b) ≡ listed (newBranch m b)
 unfolding saidBy newBranch
 new-said m b low none =
     by-test (eqb (m .kind) mapping)
@@ -267,7 +267,7 @@ fresh-use : (b l : ℕ) → useOf l (fresh b) ≡ free
 unfolding useOf fresh
 fresh-use b l = picked (λ (u : Use). u ≡ free) (leb b l) (λ _. getD-all 256 (l - b) free) (λ _. refl)
 
-fresh-upheld : (b : ℕ) → 16 ≤ b → b ≤ 1048320 → Upheld (record { card = fresh b; live = []; accepted = [] })
+fresh-upheld : (b : ℕ) → leastLabel ≤ b → b ≤ mostBase → Upheld (record { card = fresh b; live = []; accepted = [] })
 fresh-upheld b low high = record {
   sound = record {
     tidy = unfold fresh AllProper in record { once = λ a. unfold count in zero-le; proper = tt };
@@ -461,8 +461,8 @@ module _ (p : Past) (u : Upheld p) where
 pub started : (b : ℕ) → Upheld (begun b)
 unfolding start accept refuse baseOutside withNext fresh
 started b =
-    by-test (leb 16 b && leb b 1048320)
-    (λ e. let r = both (leb 16 b) (leb b 1048320) e in rw e (fresh-upheld b (leb-true _ _ (r .0)) (leb-true _ _ (r .1))))
+    by-test (leb leastLabel b && leb b mostBase)
+    (λ e. let r = both (leb leastLabel b) (leb b mostBase) e in rw e (fresh-upheld b (leb-true _ _ (r .0)) (leb-true _ _ (r .1))))
     (λ e. rw e (fresh-upheld 16 (omega arith) (omega arith)))
 
 pub history-upheld : (base : ℕ) (steps : List Step) → Upheld (history base steps)

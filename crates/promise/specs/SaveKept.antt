@@ -10,8 +10,8 @@ use lib.ListN.{getD, length}
 use lib.Dec.{eqb, ltb}
 use borrow.Author.Tests.{eqb-false, eq-eqb, le-leb, lt-ltb, ltb-false, eqb-true}
 use Rattle.meaning.specs.Octets.{same, all, pick}
-use Rattle.meaning.specs.Wire.{mapping, withdraw, messageIn, elementRefusal}
-use Rattle.meaning.specs.Card.{Tree, Use, free, mapped, awaiting, Card, fresh, withNext, bare, treeOf, treeAt, isBranch, isEmpty, useOf, withLast, treePlace, heldFor, freeLabels, routeOf, routePlace, neighbourCount}
+use Rattle.meaning.specs.Wire.{mapping, withdraw, messageIn, elementRefusal, leastLabel, mostLabel}
+use Rattle.meaning.specs.Card.{Tree, Use, free, mapped, awaiting, Card, fresh, withNext, bare, treeOf, treeAt, isBranch, isEmpty, useOf, withLast, treePlace, heldFor, freeLabels, routeOf, routePlace, neighbourCount, labelCount}
 use Rattle.meaning.specs.Events.{Out, refuse, accept, Event, receive, join, leave, route, baseOutside, start, holderOf, lost}
 use Rattle.meaning.specs.Lists.{by-test, picked, same-refl}
 use Rattle.meaning_save.specs.Save.{Form, old, new, isName, isBranchLabel, isTree, isUse, isCarried, isMappedFor, carriesOwn, keepsRules, saved, restore, fitsSave, settled, carriedBy, lastRight, ruled, tableIn, isSave, Moved, move}
@@ -31,9 +31,9 @@ use Rattle.promise.specs.SaveSteps.{Passed, AllPassed, Told, Writable, s
 
 -- ---- branches: each is the label of an accepted Mapping
 
-label-good : (l : ℕ) → 16 ≤ l → l ≤ 1048575 → isBranchLabel l ≡ true
+label-good : (l : ℕ) → leastLabel ≤ l → l ≤ mostLabel → isBranchLabel l ≡ true
 unfolding isBranchLabel
-label-good l low high = by-test (eqb l 0) (λ e. rw e refl) (λ e. rw (e, le-leb 16 l low, le-leb l 1048575 high) refl)
+label-good l low high = by-test (eqb l 0) (λ e. rw e refl) (λ e. rw (e, le-leb leastLabel l low, le-leb l mostLabel high) refl)
 
 all-without : (t : ℕ → Bool) (l : ℕ) (ls : List ℕ) → all t ls ≡ true → all t (withoutLabel l ls) ≡ true
 unfolding all withoutLabel
@@ -219,7 +219,7 @@ movedOver f g room p d =
     let m = move f g room (saved f (p .card)) in
     record { card = pick (fitsSave f (p .card) && eqb (m .answer) 0) (restore g (m .octets) d .card) (p .card); live = p .live; accepted = p .accepted }
 
-settled-spent : (c : Card) → 16 ≤ c .base → length (c .labels) ≡ 256 → Spent (settled c)
+settled-spent : (c : Card) → leastLabel ≤ c .base → length (c .labels) ≡ labelCount → Spent (settled c)
 unfolding settled withLast freeLabels
 settled-spent c low many = record {
   none = λ z. highest-none (c .base) (c .labels) (omega arith) z ∙ many;

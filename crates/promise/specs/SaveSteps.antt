@@ -9,7 +9,7 @@ use lib.Dec.{eqb}
 use borrow.Author.Tests.{eqb-true, eqb-false, le-leb, ltb-false}
 use Rattle.meaning.specs.Octets.{put, cut, all}
 use Rattle.meaning.specs.Wire.{mapping, withdraw, release, Message, messageIn, elementRefusal, Sent, records, nextId, idsAfter}
-use Rattle.meaning.specs.Card.{noRoute, Route, Tree, free, Card, withNext, withRoutes, withTrees, withLabels, treePlace, routeOf, routePlace, treeOf, neighbourCount}
+use Rattle.meaning.specs.Card.{noRoute, Route, Tree, free, Card, withNext, withRoutes, withTrees, withLabels, treePlace, routeOf, routePlace, treeOf, neighbourCount, thisNode}
 use Rattle.meaning.specs.Events.{Out, Outcome, refused, taken, unless, refuse, accept, roomShort, finish, Moved, setUse, relabel, holderOf, entered, swept, enter, become, onMapping, onWithdraw, onRelease, onMessage, noNeighbour, onOctets, onJoin, onLeave, routesWith, notRoute, notRoot, reRoute, onRoute, Event, receive, join, leave, route, outcome, event, routesWithout, parted, part, onLost, lost, recounted, entryWith}
 use Rattle.meaning.specs.Lists.{by-test, picked, no-when}
 use Rattle.meaning_laws.specs.RoundTrip.{Heard, heard, Sendable, AllSendable}
@@ -113,10 +113,10 @@ module _ (c : Card) (good : all isRoute (c .routes) ≡ true) where
       (λ e. rw e (all-cut isRoute (c .routes) (routePlace r c) good))
       (λ e. rw e (all-put isRoute (c .routes) (routePlace r c) _ good (is-route (λ z. eqb-false via noRoute e z))))
     where
-      is-route : (via ≡ 17 → ⊥) → isRoute (entryWith c r via) ≡ true
-      is-route other = unfold isRoute entryWith in rw (long, le-leb via 16 (below via (ltb-false 17 via low) other)) refl
+      is-route : (via ≡ noRoute → ⊥) → isRoute (entryWith c r via) ≡ true
+      is-route other = unfold isRoute entryWith in rw (long, le-leb via thisNode (below via (ltb-false noRoute via low) other)) refl
         where
-          below : (v : ℕ) → v ≤ 17 → (v ≡ 17 → ⊥) → v ≤ 16
+          below : (v : ℕ) → v ≤ noRoute → (v ≡ noRoute → ⊥) → v ≤ thisNode
           below v h d = omega arith
 
   route-goes : (r : List ℕ) (via : ℕ) → Goes (route r via) (onRoute c r via)

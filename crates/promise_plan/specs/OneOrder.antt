@@ -92,7 +92,7 @@ module _ (c : Card) (gs : List Given) (S : Sound c gs) (R : Ruled c) (r : List �
 
   is-taken : outcome c (route r via) ≡ taken (moved .sent) end
   unfolding outcome onRoute notRoute reRoute unless _when_else_
-  is-taken = rw (le-ltb 17 via (omega arith), right, from, ne-eqb n via (λ z. other (sym z)), no-refusal, upstream-is via near) refl
+  is-taken = rw (le-ltb noRoute via (omega arith), right, from, ne-eqb n via (λ z. other (sym z)), no-refusal, upstream-is via near) refl
 
   its-length : (k : ℕ) → length (records (c .next) (moved .sent)) ≤ k → length (event k c (route r via) .octets) ≡ length (records (c .next) (moved .sent))
   unfolding event

@@ -125,7 +125,7 @@ all-proper (t ∷ ts) h = let p = all-cons isTree t ts h in (tree-parts t (p .0)
 use-real : (u : Use) → isUse u ≡ true → stray u ≡ false
 unfolding isUse stray
 use-real free h = refl
-use-real (mapped n a) h = lt-leb 16 n (ltb-true _ _ (both (ltb n neighbourCount) (isName a) h .0))
+use-real (mapped n a) h = lt-leb neighbourCount n (ltb-true _ _ (both (ltb n neighbourCount) (isName a) h .0))
 use-real (awaiting n a) h = refl
 
 same-mapped : (a : List ℕ) (u : Use) → isMappedFor a u ≡ isMapped a u

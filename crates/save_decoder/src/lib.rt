@@ -5,25 +5,28 @@ ghost use Prim.Native.Nat.{_≤_};
 ghost use lib.ListN.{getD};
 ghost use Rattle.meaning.specs.Octets.{fourAt};
 ghost use Rattle.meaning_save.specs.Save.{Form, formOf, lastPlace, onceEach, sameName, sameRoot, tableIn, isSave};
-ghost use Rattle.meaning.specs.Card.{routeLimit, treeLimit};
+ghost use Rattle.meaning.specs.Card.{routeLimit, treeLimit, mostBase};
 ghost use Rattle.memory.specs.Sizes.{Numbers, Names};
 ghost use Rattle.memory.specs.Memory.{cardOf};
 ghost use Rattle.save_labels.specs.Labels.{OfBlock};
+ghost use Rattle.meaning.specs.Wire.{leastLabel};
 use meaning::LAST_PLACE;
+use meaning::LEAST_LABEL;
+use meaning::MOST_BASE;
 use memory::LABELS;
 use memory::ROUTES;
 use memory::TREES;
 
 // Whether the head may be that of a save: its base is in range, and its routes, trees and labels are not too many.
 fn is_head(octets: &[u8]) -> bool
-    ensures { λ r. ⌜ (r ≡ true → (16 ≤ fourAt (now (octets .entry)) 3) × (fourAt (now (octets .entry)) 3 ≤ 1048320) × (getD (now (octets .entry)) 11 0 ≤ routeLimit) × (getD (now (octets .entry)) 12 0 ≤ treeLimit))
+    ensures { λ r. ⌜ (r ≡ true → (leastLabel ≤ fourAt (now (octets .entry)) 3) × (fourAt (now (octets .entry)) 3 ≤ mostBase) × (getD (now (octets .entry)) 11 0 ≤ routeLimit) × (getD (now (octets .entry)) 12 0 ≤ treeLimit))
         × (r ≡ false → (f : Form) → isSave f (now (octets .entry)) ≡ false) ⌝ }
 {
     let base = octets::four_at(octets, 3);
-    if base < 16 {
+    if base < LEAST_LABEL {
         return false;
     }
-    if 1048320 < base {
+    if MOST_BASE < base {
         return false;
     }
     if ROUTES < octets::at(octets, 11) {

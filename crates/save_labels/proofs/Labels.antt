@@ -22,6 +22,7 @@ use Rattle.memory.proofs.Marks.{free-in}
 use Rattle.memory.proofs.Trees.{label-at}
 use Rattle.memory.proofs.Head.{label-before}
 use Rattle.meaning_laws.specs.SaveLaws.{highest-is, highest-free}
+use Rattle.meaning.specs.Wire.{leastLabel}
 use Rattle.octets.proofs.Tab.{tab-get}
 use Rattle.save_rules.proofs.Rules.{mapped-not, mapped-named}
 use Rattle.save_rows.specs.Stages.{headRead, treesBegin, rowsRead, labelsBegin}
@@ -184,7 +185,7 @@ module _ (b : ℕ) (us : List Use) (a : List ℕ) where
   unfolding labelOf
   label-missed h = rw (le-ltb _ _ h) refl
 
-module _ (b : ℕ) (us : List Use) (u : Use) (low : 16 ≤ b) where
+module _ (b : ℕ) (us : List Use) (u : Use) (low : leastLabel ≤ b) where
   more-length : length (us ++ (u ∷ [])) ≡ length us + 1
   more-length = length-append us (u ∷ [])
 

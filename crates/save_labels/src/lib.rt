@@ -21,6 +21,7 @@ use meaning::TREE_LIMIT;
 use meaning::USE_BESIDE;
 use memory::LABELS;
 use memory::NEIGHBOURS;
+use memory::NOBODY;
 
 // ---- labels in use
 
@@ -78,7 +79,7 @@ fn give_label(numbers: &mut [u64], names: &[u8], tags: &[u32], p: usize)
     ensures { λ _. ⌜ (let c = cardOf (now (numbers .entry)) (now (names .entry)) in
         cardOf (now (numbers .exit)) (now (names .entry)) ≡ withTrees (map (given (baseIn (now (numbers .entry)) + p) (labelIn (now (numbers .entry)) (now (names .entry)) p)) (c .trees)) c) ⌝ }
 {
-    if memory_labels::mapped_at(numbers, p) == 17 {
+    if memory_labels::mapped_at(numbers, p) == NOBODY {
         return;
     }
     let i = save_tags::tagged_from(numbers, names, tags, 0, memory_labels::label_name(names, p));

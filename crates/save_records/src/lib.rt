@@ -15,6 +15,7 @@ use meaning::NEIGHBOUR_COUNT;
 use meaning::ROOT_LIMIT;
 use meaning::ROUTE_SIZE;
 use meaning::USE_BESIDE;
+use memory::NOBODY;
 
 // ---- the head
 
@@ -189,7 +190,7 @@ pub fn put_use_record(numbers: &[u64], names: &[u8], second: bool, p: usize, out
 {
     let label = memory::base(numbers) + p as u64;
     let n = memory_labels::mapped_at(numbers, p);
-    if n == 17 {
+    if n == NOBODY {
         put_state(
             out,
             second,

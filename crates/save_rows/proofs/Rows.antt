@@ -11,7 +11,7 @@ use lib.Seq.{drop-drop, getD-drop, set-at, getD-at, set-set, set-getD, getD-set-
 use lib.Dec.{eqb}
 use Rattle.meaning.specs.Octets.{fourAt}
 use Rattle.meaning.specs.Wire.{rootLimit}
-use Rattle.meaning.specs.Card.{Route, Tree, Card, fresh, withNext, withRoutes, withTrees, withBranch, withLeaf, bare, treeAt}
+use Rattle.meaning.specs.Card.{Route, Tree, Card, fresh, withNext, withRoutes, withTrees, withBranch, withLeaf, bare, treeAt, neighbourCount}
 use Rattle.meaning_save.specs.Save.{Form, spacedIn, nameIn, extent, routeRead, treeRead, treeEnd, foursIn, routesRead, treesRead, treesEnd, headSize, routeSize, treeBeside}
 use Rattle.meaning_laws.specs.SavePlaces.{tree-there, trees-end-more, trees-read-more}
 use Rattle.octets.proofs.Parts.{front, front-more, copy-done}
@@ -129,7 +129,7 @@ module _ (c : Card) (ts : List Tree) (t : Tree) (i : ℕ) (h : i ≡ length ts) 
 
 -- a tree at a place, whose name takes e octets
 module _ (f : Form) (o : List ℕ) (at e : ℕ) (he : e ≡ extent f (drop (at + 3) o)) where
-  tree-read : withBranches (foursIn 16 (drop (at + (4 + e)) o)) (withLeaf (not (eqb (getD o (at + (3 + e)) 0) 0)) (bare (nameIn f (drop (at + 3) o)))) ≡ treeRead f (drop at o)
+  tree-read : withBranches (foursIn neighbourCount (drop (at + (4 + e)) o)) (withLeaf (not (eqb (getD o (at + (3 + e)) 0) 0)) (bare (nameIn f (drop (at + 3) o)))) ≡ treeRead f (drop at o)
   unfolding treeRead withBranches withLeaf bare
   tree-read =
       let n : ℕ = extent f (drop 3 (drop at o)) in
@@ -139,12 +139,12 @@ module _ (f : Form) (o : List ℕ) (at e : ℕ) (he : e ≡ extent f (drop (at +
   pub tree-made : (c c₁ c₂ c₃ : Card) (i : ℕ) (leaf : Bool) → i ≡ length (c .trees)
       → c₁ ≡ withTrees (c .trees ++ (bare (nameIn f (drop (at + 3) o)) ∷ [])) c
       → c₂ ≡ withTrees (set (c₁ .trees) i (withLeaf leaf (treeAt i c₁))) c₁ → leaf ≡ not (eqb (getD o (at + (3 + e)) 0) 0)
-      → c₃ ≡ withTrees (set (c₂ .trees) i (withBranches (foursIn 16 (drop (at + (4 + e)) o)) (treeAt i c₂))) c₂
+      → c₃ ≡ withTrees (set (c₂ .trees) i (withBranches (foursIn neighbourCount (drop (at + (4 + e)) o)) (treeAt i c₂))) c₂
       → c₃ ≡ withTrees (c .trees ++ (treeRead f (drop at o) ∷ [])) c
   tree-made c c₁ c₂ c₃ i leaf h e₁ e₂ ef e₃ =
       let a : Tree = bare (nameIn f (drop (at + 3) o)) in
       let k₂ : c₂ ≡ withTrees (c .trees ++ (withLeaf leaf a ∷ [])) c = rw (e₂, e₁, last-at c (c .trees) a i h) (last-set c (c .trees) a i h (withLeaf leaf a)) in
-      rw (e₃, k₂, last-at c (c .trees) (withLeaf leaf a) i h, last-set c (c .trees) (withLeaf leaf a) i h (withBranches (foursIn 16 (drop (at + (4 + e)) o)) (withLeaf leaf a)), ← tree-read, ← ef) refl
+      rw (e₃, k₂, last-at c (c .trees) (withLeaf leaf a) i h, last-set c (c .trees) (withLeaf leaf a) i h (withBranches (foursIn neighbourCount (drop (at + (4 + e)) o)) (withLeaf leaf a)), ← tree-read, ← ef) refl
 
   -- and the place behind it
   pub tree-behind : (i from : ℕ) → drop at o ≡ treesEnd f i (drop from o) → drop (at + (treeBeside + e)) o ≡ treesEnd f (i + 1) (drop from o)
@@ -177,10 +177,10 @@ module _ (f : Form) (c : Card) (o : List ℕ) (from : ℕ) where
 -- ---- branches: n of them were set
 
 abbrev pub Branched : List ℕ → List ℕ → List ℕ → ℕ → ℕ → ℕ → List ℕ → Type 0
-Branched ns₀ os o at i n ns = cardOf ns os ≡ withTrees (set (cardOf ns₀ os .trees) i (withBranches (front n (foursIn 16 (drop at o)) (treeAt i (cardOf ns₀ os) .branches)) (treeAt i (cardOf ns₀ os)))) (cardOf ns₀ os)
+Branched ns₀ os o at i n ns = cardOf ns os ≡ withTrees (set (cardOf ns₀ os .trees) i (withBranches (front n (foursIn neighbourCount (drop at o)) (treeAt i (cardOf ns₀ os) .branches)) (treeAt i (cardOf ns₀ os)))) (cardOf ns₀ os)
 
 module _ (ns₀ os o : List ℕ) (at i : ℕ) (h : i < treeCount ns₀) where
-  fours-many : length (foursIn 16 (drop at o)) ≡ 16
+  fours-many : length (foursIn neighbourCount (drop at o)) ≡ 16
   fours-many = ap length (fours-are 16 (drop at o)) ∙ reads-length firstFour 4 16 (drop at o)
 
   place-in : i < length (cardOf ns₀ os .trees)
@@ -199,15 +199,15 @@ module _ (ns₀ os o : List ℕ) (at i : ℕ) (h : i < treeCount ns₀) where
   unfolding withTrees withBranches withBranch treeAt
   branched-more n v ns ns' lt e hv k =
       let t : Tree = getD (cardOf ns₀ os .trees) i (bare []) in
-      let v' : v ≡ getD (foursIn 16 (drop at o)) n 0 =
+      let v' : v ≡ getD (foursIn neighbourCount (drop at o)) n 0 =
       let z : at + n * 4 + 0 ≡ at + n * 4 = omega arith in
       hv ∙ sym (ap (λ (l : List ℕ). getD l n 0) (fours-are 16 (drop at o)) ∙ reads-get firstFour 4 16 n (drop at o) 0 lt ∙ ap firstFour (drop-drop (n * 4) at o) ∙ four-drop o (at + n * 4) 0 ∙ ap (fourAt o) z) in
-      let f = front-more (foursIn 16 (drop at o)) (t .branches) _ 0 v n (omega (arith, fours-many)) (omega (arith, branches-length ns₀ os i h)) refl v' in
+      let f = front-more (foursIn neighbourCount (drop at o)) (t .branches) _ 0 v n (omega (arith, fours-many)) (omega (arith, branches-length ns₀ os i h)) refl v' in
       rw (k, e, getD-set-same (cardOf ns₀ os .trees) i _ (bare []) place-in, set-set) (rw f refl)
 
-  pub branched-all : (n : ℕ) (ns : List ℕ) → 16 ≤ n → Branched ns₀ os o at i n ns → cardOf ns os ≡ withTrees (set (cardOf ns₀ os .trees) i (withBranches (foursIn 16 (drop at o)) (treeAt i (cardOf ns₀ os)))) (cardOf ns₀ os)
+  pub branched-all : (n : ℕ) (ns : List ℕ) → neighbourCount ≤ n → Branched ns₀ os o at i n ns → cardOf ns os ≡ withTrees (set (cardOf ns₀ os .trees) i (withBranches (foursIn neighbourCount (drop at o)) (treeAt i (cardOf ns₀ os)))) (cardOf ns₀ os)
   branched-all n ns le e =
-      let d = copy-done (foursIn 16 (drop at o)) (treeAt i (cardOf ns₀ os) .branches) _ n (omega (arith, fours-many)) (fours-many ∙ sym (branches-length ns₀ os i h)) refl in
+      let d = copy-done (foursIn neighbourCount (drop at o)) (treeAt i (cardOf ns₀ os) .branches) _ n (omega (arith, fours-many)) (fours-many ∙ sym (branches-length ns₀ os i h)) refl in
       rw (← d) e
 
 -- ---- head, routes and trees

@@ -4,11 +4,12 @@ ghost use mathlib.Core.List.{List, [], _∷_, _++_};
 ghost use Prim.Native.Nat.{ℕ, _+_, _*_, _≤_, _<_};
 ghost use lib.ListN.{drop, set, getD};
 ghost use Rattle.meaning.specs.Octets.{fourAt};
-ghost use Rattle.meaning.specs.Card.{withRoutes, withTrees, bare, treeAt, routeLimit, treeLimit, neighbourCount};
+ghost use Rattle.meaning.specs.Card.{withRoutes, withTrees, bare, treeAt, routeLimit, treeLimit, neighbourCount, mostBase};
 ghost use Rattle.meaning_save.specs.Save.{formOf, nameIn, extent, routeRead, treeRead, foursIn, routesRead, treesRead, treesEnd};
 ghost use Rattle.memory.specs.Sizes.{Numbers, Names};
 ghost use Rattle.memory.specs.Memory.{cardOf, treeCount, routeCount, StandsAt};
 ghost use Rattle.save_rows.specs.Stages.{withBranches, rowsRead, labelsBegin};
+ghost use Rattle.meaning.specs.Wire.{leastLabel};
 use meaning::NAME_LIMIT;
 use meaning::NEIGHBOUR_COUNT;
 use meaning::ROOT_LIMIT;
@@ -112,7 +113,7 @@ fn read_trees(
 
 // The head, the routes and the trees, into memory that held anything; the place behind them.
 pub fn read_rows(octets: &[u8], second: bool, numbers: &mut [u64], names: &mut [u8]) -> usize
-    requires { ⌜ Numbers (now numbers) × Names (now names) × (16 ≤ fourAt (now octets) 3) × (fourAt (now octets) 3 ≤ 1048320) × (getD (now octets) 11 0 ≤ routeLimit) × (getD (now octets) 12 0 ≤ treeLimit) ⌝ }
+    requires { ⌜ Numbers (now numbers) × Names (now names) × (leastLabel ≤ fourAt (now octets) 3) × (fourAt (now octets) 3 ≤ mostBase) × (getD (now octets) 11 0 ≤ routeLimit) × (getD (now octets) 12 0 ≤ treeLimit) ⌝ }
     ensures { λ r. ⌜ (cardOf (now (numbers .exit)) (now (names .exit)) ≡ rowsRead (formOf second) (now (octets .entry)))
         × (drop r (now (octets .entry)) ≡ labelsBegin (formOf second) (now (octets .entry))) × (r < 65536) ⌝ }
 {

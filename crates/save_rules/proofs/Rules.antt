@@ -10,7 +10,7 @@ use lib.Dec.{eqb, leb, ltb}
 use borrow.Author.Tests.{lt-ltb, le-leb, eq-eqb, ne-eqb, eqb-true, ltb-true, ltb-false}
 use Rattle.meaning.specs.Octets.{place, any, same, all}
 use Rattle.meaning.specs.Lists.{by-test, place-finds, place-skips, getD-out, getD-same, same-eq, same-refl, any-count, count-some}
-use Rattle.meaning.specs.Card.{Tree, mapped, awaiting, Card, treeOf, treePlace, bare, named, carries, isFree, mappedTo, useOf, labelCount, routeLimit, treeLimit, neighbourCount}
+use Rattle.meaning.specs.Card.{Tree, mapped, awaiting, Card, treeOf, treePlace, bare, named, carries, isFree, mappedTo, useOf, labelCount, routeLimit, treeLimit, neighbourCount, mostBase, nobody}
 use Rattle.meaning.specs.Events.{baseOutside}
 use Rattle.meaning_save.specs.Save.{isName, onceEach, isRoute, sameRoot, isTree, sameName, isUse, isCarried, allCarried, isMappedFor, carriesOwn, holdsRight, keepsRows}
 use Rattle.memory.specs.Memory.{baseIn, nextIn, treeCount, isFreeAt, isMappedAt, labelName, labelIn, cardOf, InBlock}
@@ -18,6 +18,7 @@ use Rattle.memory.proofs.Memory.{routeCount-le, treeCount-le, base-range, route
 use Rattle.memory.proofs.Marks.{never, by-use, mapped-use, label-free, label-mapped}
 use Rattle.memory.proofs.Labels.{use-in, use-at, awaited-is}
 use Rattle.meaning_laws.specs.SaveRules.{all-at}
+use Rattle.meaning.specs.Wire.{leastLabel}
 
 -- ---- one label
 
@@ -31,7 +32,7 @@ module _ (ns os : List ℕ) (p : ℕ) where
       (λ n k. let z : false ≡ true = rw k at e in cc)
 
   -- used for a neighbour, where it is mapped; and where it awaits release, if that neighbour is one
-  pub use-mapped : (mappedTo (labelIn ns os p) ≡ 17 → ⊥) → isUse (labelIn ns os p) ≡ isName (labelName os p)
+  pub use-mapped : (mappedTo (labelIn ns os p) ≡ nobody → ⊥) → isUse (labelIn ns os p) ≡ isName (labelName os p)
   unfolding isUse mappedTo
   use-mapped ne =
       by-use ns p os
@@ -44,7 +45,7 @@ module _ (ns os : List ℕ) (p : ℕ) where
   use-awaiting n k = rw k refl
 
   module _ (m : ℕ) (e : m ≡ mappedTo (labelIn ns os p)) where
-    pub mapped-so : (m ≡ 17 → ⊥) → labelIn ns os p ≡ mapped m (labelName os p)
+    pub mapped-so : (m ≡ nobody → ⊥) → labelIn ns os p ≡ mapped m (labelName os p)
     unfolding mappedTo
     mapped-so ne =
         by-use ns p os
@@ -52,11 +53,11 @@ module _ (ns os : List ℕ) (p : ℕ) where
         (λ n h k. let q : m ≡ n = rw k at e in rw q k)
         (λ n k. absurd (ne (rw k at e)))
 
-    pub carried-some : (c : Card) (l : ℕ) → (m ≡ 17 → ⊥) → isCarried c l (labelIn ns os p) ≡ eqb (treeOf (labelName os p) c .label) l
+    pub carried-some : (c : Card) (l : ℕ) → (m ≡ nobody → ⊥) → isCarried c l (labelIn ns os p) ≡ eqb (treeOf (labelName os p) c .label) l
     unfolding isCarried
     carried-some c l ne = rw (mapped-so ne) refl
 
-    pub carried-free : (c : Card) (l : ℕ) → m ≡ 17 → isCarried c l (labelIn ns os p) ≡ true
+    pub carried-free : (c : Card) (l : ℕ) → m ≡ nobody → isCarried c l (labelIn ns os p) ≡ true
     unfolding isCarried mappedTo
     carried-free c l q =
         by-use ns p os
@@ -111,7 +112,7 @@ place-once a (t ∷ ts) (suc k) d once h e =
     (λ y. rw y (ap suc (place-once a ts k d (rw x at once) (le-of-suc-le-suc h) e))))
 
 -- whether a mapped label is its tree's: that is whether any tree carries it
-module _ (ns os : List ℕ) (p m : ℕ) (h : p < labelCount) (e : m ≡ mappedTo (labelIn ns os p)) (ne : m ≡ 17 → ⊥) (is : isMappedAt ns p ≡ true)
+module _ (ns os : List ℕ) (p m : ℕ) (h : p < labelCount) (e : m ≡ mappedTo (labelIn ns os p)) (ne : m ≡ nobody → ⊥) (is : isMappedAt ns p ≡ true)
     (once : onceEach sameName (cardOf ns os .trees) ≡ true) (own : all (carriesOwn (cardOf ns os)) (cardOf ns os .trees) ≡ true) where
   named-tree : isCarried (cardOf ns os) (baseIn ns + p) (labelIn ns os p) ≡ eqb (treeOf (labelName os p) (cardOf ns os) .label) (baseIn ns + p)
   named-tree = carried-some ns os p m e (cardOf ns os) (baseIn ns + p) ne
@@ -163,7 +164,7 @@ module _ (ns os : List ℕ) where
   -- what any memory keeps
   base-kept : not (baseOutside (cardOf ns os .base)) ≡ true
   unfolding cardOf baseOutside
-  base-kept = let r = base-range ns in rw (le-leb 16 (baseIn ns) (r .0), le-leb (baseIn ns) 1048320 (r .1)) refl
+  base-kept = let r = base-range ns in rw (le-leb leastLabel (baseIn ns) (r .0), le-leb (baseIn ns) mostBase (r .1)) refl
 
   next-kept : ltb (cardOf ns os .next) 4294967296 ≡ true
   unfolding cardOf nextIn

@@ -12,6 +12,7 @@ ghost use Rattle.memory.specs.Sizes.{Numbers, Names};
 ghost use Rattle.memory.specs.Memory.{cardOf, baseIn, isFreeAt, isMappedAt, labelIn, labelName, StandsAt};
 use meaning::LABEL_COUNT;
 use memory::NEIGHBOURS;
+use memory::NOBODY;
 
 // ---- labels
 
@@ -20,7 +21,7 @@ fn is_near(numbers: &[u64], p: usize) -> bool
     requires { ⌜ Numbers (now numbers) × (p < labelCount) × (isFreeAt (now numbers) p ≡ false) ⌝ }
     ensures { λ r. ⌜ ((os : List ℕ) → isUse (labelIn (now (numbers .entry)) os p) ≡ (r && isName (labelName os p))) ⌝ }
 {
-    if memory_labels::mapped_at(numbers, p) != 17 {
+    if memory_labels::mapped_at(numbers, p) != NOBODY {
         return true;
     }
     memory_labels::awaited_at(numbers, p) < NEIGHBOURS
@@ -61,7 +62,7 @@ fn is_carried(numbers: &[u64], p: usize) -> bool
     ensures { λ r. ⌜ ((os : List ℕ) → (let c = cardOf (now (numbers .entry)) os in
         onceEach sameName (c .trees) ≡ true → all (carriesOwn c) (c .trees) ≡ true → r ≡ isCarried c (baseIn (now (numbers .entry)) + p) (labelIn (now (numbers .entry)) os p))) ⌝ }
 {
-    if memory_labels::mapped_at(numbers, p) == 17 {
+    if memory_labels::mapped_at(numbers, p) == NOBODY {
         return true;
     }
     memory_trees::carrier_at(numbers, p) < memory::tree_count(numbers)
@@ -87,7 +88,7 @@ pub fn is_mapped_for(numbers: &[u64], names: &[u8], p: usize, name: &[u8]) -> bo
     requires { ⌜ Numbers (now numbers) × Names (now names) × (p < labelCount) ⌝ }
     ensures { λ r. ⌜ (r ≡ isMappedFor (now (name .entry)) (labelIn (now (numbers .entry)) (now (names .entry)) p)) × (r ≡ true → isMappedAt (now (numbers .entry)) p ≡ true) ⌝ }
 {
-    if memory_labels::mapped_at(numbers, p) == 17 {
+    if memory_labels::mapped_at(numbers, p) == NOBODY {
         return false;
     }
     octets::equal(memory_labels::label_name(names, p), name)

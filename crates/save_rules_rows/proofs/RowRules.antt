@@ -11,7 +11,7 @@ use lib.Dec.{eqb, leb}
 use borrow.Author.Tests.{le-leb, lt-leb, eq-eqb, ne-eqb, not-true, not-false}
 use Rattle.meaning.specs.Octets.{any, same, all}
 use Rattle.meaning.specs.Lists.{getD-same}
-use Rattle.meaning.specs.Wire.{rootIn}
+use Rattle.meaning.specs.Wire.{rootIn, leastLabel, mostLabel}
 use Rattle.meaning.specs.Card.{Route, Tree, Use, Card, treeAt, bare, isBranch, isEmpty, isFor, named, routeOf, heldFor, labelCount, neighbourCount}
 use Rattle.meaning.specs.Events.{notRoot, upstream, holderOf, holder}
 use Rattle.meaning_save.specs.Save.{isName, onceEach, isRoute, sameRoot, isBranchLabel, isTree, sameName, isCarried, allCarried, holdsRight}
@@ -162,11 +162,11 @@ branch-none l e = rw (eq-eqb l 0 e) refl
 
 pub branch-low : (l : ℕ) → (l ≡ 0 → ⊥) → l < neighbourCount → isBranchLabel l ≡ false
 unfolding isBranchLabel
-branch-low l ne h = rw (ne-eqb l 0 ne, lt-leb 16 l h) refl
+branch-low l ne h = rw (ne-eqb l 0 ne, lt-leb leastLabel l h) refl
 
-pub branch-high : (l : ℕ) → (l ≡ 0 → ⊥) → 16 ≤ l → isBranchLabel l ≡ leb l 1048575
+pub branch-high : (l : ℕ) → (l ≡ 0 → ⊥) → leastLabel ≤ l → isBranchLabel l ≡ leb l mostLabel
 unfolding isBranchLabel
-branch-high l ne h = rw (ne-eqb l 0 ne, le-leb 16 l h) refl
+branch-high l ne h = rw (ne-eqb l 0 ne, le-leb leastLabel l h) refl
 
 module _ (t : Tree) where
   pub leaf-leads : (b : Bool) → b ≡ t .leaf → b ≡ true → not (isEmpty t) ≡ true

@@ -9,6 +9,8 @@ ghost use Rattle.meaning.specs.Card.{treeAt, isEmpty, isFor, routeLimit};
 ghost use Rattle.meaning_save.specs.Save.{isName, onceEach, isRoute, sameRoot, isBranchLabel, isTree};
 ghost use Rattle.memory.specs.Sizes.{Numbers, Names};
 ghost use Rattle.memory.specs.Memory.{cardOf, routeIn, StandsAt};
+use meaning::LEAST_LABEL;
+use meaning::MOST_LABEL;
 use meaning::NEIGHBOUR_COUNT;
 use memory::NO_NEIGHBOUR;
 
@@ -88,10 +90,10 @@ fn is_branch_label(label: u64) -> bool
     if label == 0 {
         return true;
     }
-    if label < 16 {
+    if label < LEAST_LABEL {
         return false;
     }
-    label <= 1048575
+    label <= MOST_LABEL
 }
 
 fn branches_good(numbers: &[u64], i: usize) -> bool

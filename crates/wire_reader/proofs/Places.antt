@@ -11,7 +11,7 @@ use borrow.Author.Tests.{le-ltb, lt-ltb, ltb-true, ltb-false, leb-true, le-leb, 
 use Rattle.meaning.specs.Octets.{pick, any, twoAt, fourAt}
 use Rattle.meaning.specs.Lists.{by-test, picked}
 use Rattle.meaning.specs.Wire as wire
-use Rattle.meaning.specs.Wire.{Framed, framed, overrun, after, tlvs, isOverrun, found, must, absent, isLabel}
+use Rattle.meaning.specs.Wire.{Framed, framed, overrun, after, tlvs, isOverrun, found, must, absent, isLabel, leastLabel, mostLabel}
 use Rattle.meaning_laws.specs.RoundTrip.{both}
 use Rattle.meaning_laws.specs.WireLaws.{tlvs-end, tlvs-step, tlvs-short}
 use Rattle.wire_reader.specs.Read.{tlvAt, endOf, labelIn}
@@ -192,19 +192,19 @@ module _ (v : List ℕ) where
   module _ (l : ℕ) (e : l ≡ fourAt v 0) where
     pub label-low : l < 16 → 0 ≡ labelIn v
     unfolding labelIn isLabel
-    label-low h = simp (← e, lt-leb 16 l h, and-false)
+    label-low h = simp (← e, lt-leb leastLabel l h, and-false)
 
-    pub label-high : 1048575 < l → 0 ≡ labelIn v
+    pub label-high : mostLabel < l → 0 ≡ labelIn v
     unfolding labelIn isLabel
-    label-high h = simp (← e, lt-leb l 1048575 h, and-false)
+    label-high h = simp (← e, lt-leb l mostLabel h, and-false)
 
-    pub label-right : length v ≡ 4 → 16 ≤ l → l ≤ 1048575 → l ≡ labelIn v
+    pub label-right : length v ≡ 4 → leastLabel ≤ l → l ≤ mostLabel → l ≡ labelIn v
     unfolding labelIn isLabel
-    label-right h low high = simp (← e, eq-eqb _ _ h, le-leb 16 l low, le-leb l 1048575 high)
+    label-right h low high = simp (← e, eq-eqb _ _ h, le-leb leastLabel l low, le-leb l mostLabel high)
 
-  label-least : isLabel v ≡ true → 16 ≤ fourAt v 0
+  label-least : isLabel v ≡ true → leastLabel ≤ fourAt v 0
   unfolding isLabel
-  label-least h = leb-true 16 (fourAt v 0) (both (eqb (length v) 4) (leb 16 (fourAt v 0)) (both (eqb (length v) 4 && leb 16 (fourAt v 0)) (leb (fourAt v 0) 1048575) h .0) .1)
+  label-least h = leb-true leastLabel (fourAt v 0) (both (eqb (length v) 4) (leb leastLabel (fourAt v 0)) (both (eqb (length v) 4 && leb leastLabel (fourAt v 0)) (leb (fourAt v 0) mostLabel) h .0) .1)
 
   pub label-none : 0 ≡ labelIn v → isLabel v ≡ false
   unfolding labelIn

@@ -5,6 +5,8 @@ ghost use lib.ListN.{drop};
 ghost use Rattle.meaning.specs.Octets.{any};
 ghost use Rattle.meaning.specs.Wire.{tlvs, isOverrun, found, must, isKind};
 ghost use Rattle.wire_reader.specs.Read.{tlvAt, endOf, labelIn, headRefusal, Ordered, Reads};
+use meaning::LEAST_LABEL;
+use meaning::MOST_LABEL;
 
 // ---- TLVs
 
@@ -181,10 +183,10 @@ fn label_in(v: &[u8]) -> u64
         return 0;
     }
     let label = octets::four_at(v, 0);
-    if label < 16 {
+    if label < LEAST_LABEL {
         return 0;
     }
-    if 1048575 < label {
+    if MOST_LABEL < label {
         return 0;
     }
     label

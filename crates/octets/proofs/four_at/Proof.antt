@@ -6,27 +6,21 @@ use Rattle.octets.proofs.four_at.Reads as reads
 use Rattle.octets.proofs.four_at.Lts as lts
 use Rattle.octets.proofs.two_at.Reads as two-at-reads
 
--- src/lib.rt:33:5
 two-at-requires : tie.Need-two-at-requires
 two-at-requires c κs = search needs
 
--- src/lib.rt:33:5
 mul-result : tie.Need-mul-result
 mul-result c = search needs
 
--- src/lib.rt:33:38
 add-two-at : tie.Need-add-two-at
 add-two-at c = search needs
 
--- src/lib.rt:33:28
 two-at-requires-2 : tie.Need-two-at-requires-2
 two-at-requires-2 c κs = search needs
 
--- src/lib.rt:33:5
 add-result : tie.Need-add-result
 add-result c = search needs
 
--- src/lib.rt:29:1
 returns : tie.Need-returns
 unfolding fourAt
 returns c = search needs

@@ -6,27 +6,21 @@ use Rattle.octets.proofs.two_at.Reads as reads
 use Rattle.octets.proofs.two_at.Lts as lts
 use Rattle.octets.proofs.at.Reads as at-reads
 
--- src/lib.rt:26:5
 at-requires : tie.Need-at-requires
 at-requires c κs = search needs
 
--- src/lib.rt:26:5
 mul-result : tie.Need-mul-result
 mul-result c = search needs
 
--- src/lib.rt:26:28
 add-at : tie.Need-add-at
 add-at c = search needs
 
--- src/lib.rt:26:22
 at-requires-2 : tie.Need-at-requires-2
 at-requires-2 c κs = search needs
 
--- src/lib.rt:26:5
 add-result : tie.Need-add-result
 add-result c = search needs
 
--- src/lib.rt:22:1
 returns : tie.Need-returns
 unfolding twoAt
 returns c = search needs

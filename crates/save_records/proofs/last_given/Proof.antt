@@ -7,27 +7,21 @@ use Rattle.save_records.proofs.last_given.Lts as lts
 use Rattle.memory.proofs.base.Reads as base-reads
 use Rattle.memory.proofs.turn.Reads as turn-reads
 
--- src/lib.rt:26:9
 turn-requires : tie.Need-turn-requires
 turn-requires c κs = search needs
 
--- src/lib.rt:28:9
 returns : tie.Need-returns
 returns c = λ os. last-none (c .before .before .before .args .numbers .now) os _ (c .before .turn .ensures .0 os) (c .if1 .taken)
 
--- src/lib.rt:30:5
 base-requires : tie.Need-base-requires
 base-requires c κs = search needs
 
--- src/lib.rt:30:5
 add-result : tie.Need-add-result
 add-result c = search needs
 
--- src/lib.rt:30:5
 sub-result : tie.Need-sub-result
 sub-result c = search needs
 
--- src/lib.rt:22:1
 returns-2 : tie.Need-returns-2
 returns-2 c = λ os. last-some (c .before .before .before .before .args .numbers .now) os _ _ (c .base .ensures .0) (c .before .before .turn .ensures .0 os) (c .before .if1 .left)
 

@@ -17,127 +17,96 @@ use Rattle.save_forms.proofs.head_kind.Reads as head-kind-reads
 use Rattle.save_forms.proofs.head_size.Reads as head-size-reads
 use Rattle.save_records.proofs.last_given.Reads as last-given-reads
 
--- src/lib.rt:38:9
 base-requires : tie.Need-base-requires
 base-requires c κs = search needs
 
--- src/lib.rt:39:9
 next-id-requires : tie.Need-next-id-requires
 next-id-requires c κs = search needs
 
--- src/lib.rt:40:9
 last-given-requires : tie.Need-last-given-requires
 last-given-requires c κs = search needs
 
--- src/lib.rt:41:30
 free-labels-requires : tie.Need-free-labels-requires
 free-labels-requires c κs = search needs
 
--- src/lib.rt:41:16
 sub-uses : tie.Need-sub-uses
 sub-uses c = search needs
 
--- src/lib.rt:45:9
 head-kind-requires : tie.Need-head-kind-requires
 head-kind-requires c κs = search needs
 
--- src/lib.rt:46:9
 cast-t14 : tie.Need-cast-t14
 cast-t14 c = search needs
 
--- src/lib.rt:47:9
 cast-t17 : tie.Need-cast-t17
 cast-t17 c = search needs
 
--- src/lib.rt:48:9
 cast-t20 : tie.Need-cast-t20
 cast-t20 c = search needs
 
--- src/lib.rt:49:9
 cast-t22 : tie.Need-cast-t22
 cast-t22 c = search needs
 
--- src/lib.rt:50:9
 cast-t25 : tie.Need-cast-t25
 cast-t25 c = search needs
 
--- src/lib.rt:51:9
 cast-t28 : tie.Need-cast-t28
 cast-t28 c = search needs
 
--- src/lib.rt:52:9
 cast-t31 : tie.Need-cast-t31
 cast-t31 c = search needs
 
--- src/lib.rt:53:9
 cast-t33 : tie.Need-cast-t33
 cast-t33 c = search needs
 
--- src/lib.rt:54:9
 route-count-requires : tie.Need-route-count-requires
 route-count-requires c κs = search needs
 
--- src/lib.rt:54:9
 cast-t34 : tie.Need-cast-t34
 cast-t34 c = search needs
 
--- src/lib.rt:55:9
 tree-count-requires : tie.Need-tree-count-requires
 tree-count-requires c κs = search needs
 
--- src/lib.rt:55:9
 cast-t36 : tie.Need-cast-t36
 cast-t36 c = search needs
 
--- src/lib.rt:56:9
 cast-t39 : tie.Need-cast-t39
 cast-t39 c = search needs
 
--- src/lib.rt:57:9
 cast-t41 : tie.Need-cast-t41
 cast-t41 c = search needs
 
--- src/lib.rt:58:9
 cast-t44 : tie.Need-cast-t44
 cast-t44 c = search needs
 
--- src/lib.rt:59:9
 cast-t47 : tie.Need-cast-t47
 cast-t47 c = search needs
 
--- src/lib.rt:60:9
 cast-t50 : tie.Need-cast-t50
 cast-t50 c = search needs
 
--- src/lib.rt:61:9
 cast-t52 : tie.Need-cast-t52
 cast-t52 c = search needs
 
--- src/lib.rt:63:9
 head-size-requires : tie.Need-head-size-requires
 head-size-requires c κs = search needs
 
--- src/lib.rt:64:23
 sub-copy : tie.Need-sub-copy
 sub-copy c = search needs
 
--- src/lib.rt:64:23
 part-copy-start : tie.Need-part-copy-start
 part-copy-start c = search needs
 
--- src/lib.rt:64:23
 part-copy-end : tie.Need-part-copy-end
 part-copy-end c = search needs
 
--- src/lib.rt:64:5
 copy-requires : tie.Need-copy-requires
 copy-requires c κs = search needs
 
--- src/lib.rt:34:1
 same-length : tie.Need-same-length
 same-length c = search needs
 
--- src/lib.rt:34:1
 returns : tie.Need-returns
 unfolding marked four two
 returns c =

@@ -13,71 +13,54 @@ use Rattle.octets.proofs.copy.Reads as copy-reads
 use Rattle.save_forms.proofs.use_kind.Reads as use-kind-reads
 use Rattle.save_texts.proofs.put_name.Reads as put-name-reads
 
--- src/lib.rt:179:9
 use-kind-requires : tie.Need-use-kind-requires
 use-kind-requires c κs = search needs
 
--- src/lib.rt:180:9
 cast-t12 : tie.Need-cast-t12
 cast-t12 c = search needs
 
--- src/lib.rt:181:9
 cast-t15 : tie.Need-cast-t15
 cast-t15 c = search needs
 
--- src/lib.rt:182:9
 cast-t18 : tie.Need-cast-t18
 cast-t18 c = search needs
 
--- src/lib.rt:183:9
 cast-t20 : tie.Need-cast-t20
 cast-t20 c = search needs
 
--- src/lib.rt:185:9
 cast-t21 : tie.Need-cast-t21
 cast-t21 c = search needs
 
--- src/lib.rt:188:18
 sub-copy : tie.Need-sub-copy
 sub-copy c = search needs
 
--- src/lib.rt:188:18
 part-copy-start : tie.Need-part-copy-start
 part-copy-start c = search needs
 
--- src/lib.rt:188:18
 part-copy-end : tie.Need-part-copy-end
 part-copy-end c = search needs
 
--- src/lib.rt:188:43
 slice-aggregate-copy : tie.Need-slice-aggregate-copy
 slice-aggregate-copy c = search needs
 
--- src/lib.rt:188:5
 copy-requires : tie.Need-copy-requires
 copy-requires c κs = search needs
 
--- src/lib.rt:189:26
 sub-put-name : tie.Need-sub-put-name
 sub-put-name c = search needs
 
--- src/lib.rt:189:26
 part-put-name-start : tie.Need-part-put-name-start
 part-put-name-start c = search needs
 
--- src/lib.rt:189:26
 part-put-name-end : tie.Need-part-put-name-end
 part-put-name-end c = search needs
 
--- src/lib.rt:189:5
 put-name-requires : tie.Need-put-name-requires
 put-name-requires c κs = search needs
 
--- src/lib.rt:165:1
 same-length : tie.Need-same-length
 same-length c = search needs
 
--- src/lib.rt:165:1
 returns : tie.Need-returns
 unfolding marked four
 returns c =

@@ -11,51 +11,39 @@ use Rattle.octets.proofs.copy.Reads as copy-reads
 use Rattle.save_forms.proofs.tree_kind.Reads as tree-kind-reads
 use Rattle.save_texts.proofs.put_name.Reads as put-name-reads
 
--- src/lib.rt:134:29
 tree-kind-requires : tie.Need-tree-kind-requires
 tree-kind-requires c κs = search needs
 
--- src/lib.rt:135:18
 sub-copy : tie.Need-sub-copy
 sub-copy c = search needs
 
--- src/lib.rt:135:18
 part-copy-start : tie.Need-part-copy-start
 part-copy-start c = search needs
 
--- src/lib.rt:135:18
 part-copy-end : tie.Need-part-copy-end
 part-copy-end c = search needs
 
--- src/lib.rt:135:34
 slice-aggregate-copy : tie.Need-slice-aggregate-copy
 slice-aggregate-copy c = search needs
 
--- src/lib.rt:135:5
 copy-requires : tie.Need-copy-requires
 copy-requires c κs = search needs
 
--- src/lib.rt:136:26
 sub-put-name : tie.Need-sub-put-name
 sub-put-name c = search needs
 
--- src/lib.rt:136:26
 part-put-name-start : tie.Need-part-put-name-start
 part-put-name-start c = search needs
 
--- src/lib.rt:136:26
 part-put-name-end : tie.Need-part-put-name-end
 part-put-name-end c = search needs
 
--- src/lib.rt:136:5
 put-name-requires : tie.Need-put-name-requires
 put-name-requires c κs = search needs
 
--- src/lib.rt:129:1
 same-length : tie.Need-same-length
 same-length c = search needs
 
--- src/lib.rt:129:1
 returns : tie.Need-returns
 returns c = tree-name-put _ _ _ (c .before .before .before .before .before .before .before .before .before .before .before .before .args .out .now) _ _ refl (c .before .before .before .before .before .before .before .before .before .before .before .before .pre) (c .before .before .before .before .before .before .copy .ensures ∙ ap (λ (k : ℕ). 0x4C ∷ 0x53 ∷ k ∷ []) (c .before .before .before .before .before .before .before .before .before .tree-kind .ensures)) (c .before .before .put-name .ensures)
 

@@ -15,55 +15,42 @@ use Rattle.save_records.proofs.put_tree_name.Reads as put-tree-name-rea
 use Rattle.save_records.proofs.put_tree_rest.Reads as put-tree-rest-reads
 use Rattle.save_texts.proofs.name_size.Reads as name-size-reads
 
--- src/lib.rt:155:9
 tree-name-requires : tie.Need-tree-name-requires
 tree-name-requires c κs = search needs
 
--- src/lib.rt:156:17
 name-size-requires : tie.Need-name-size-requires
 name-size-requires c κs = search needs
 
--- src/lib.rt:156:13
 add-a : tie.Need-add-a
 add-a c = search needs
 
--- src/lib.rt:158:19
 sub-put-tree-name : tie.Need-sub-put-tree-name
 sub-put-tree-name c = search needs
 
--- src/lib.rt:158:19
 part-put-tree-name-start : tie.Need-part-put-tree-name-start
 part-put-tree-name-start c = search needs
 
--- src/lib.rt:158:19
 part-put-tree-name-end : tie.Need-part-put-tree-name-end
 part-put-tree-name-end c = omega (arith, (c .name-size .ensures .0 ∙ ap (nameSize _) (c .before .tree-name .ensures .0 (c .before .before .before .before .before .args .numbers .now) (c .before .before .before .before .before .pre .3 .0))), c .before .before .before .before .before .pre .2)
 
--- src/lib.rt:158:5
 put-tree-name-requires : tie.Need-put-tree-name-requires
 put-tree-name-requires c κs = search needs
 
--- src/lib.rt:159:31
 sub-put-tree-rest : tie.Need-sub-put-tree-rest
 sub-put-tree-rest c = omega (arith, (c .before .before .before .before .name-size .ensures .0 ∙ ap (nameSize _) (c .before .before .before .before .before .tree-name .ensures .0 (c .before .before .before .before .before .before .before .before .before .args .numbers .now) (c .before .before .before .before .before .before .before .before .before .pre .3 .0))), c .before .before .before .before .before .before .before .before .before .pre .2)
 
--- src/lib.rt:159:31
 part-put-tree-rest-start : tie.Need-part-put-tree-rest-start
 part-put-tree-rest-start c = omega (arith, (c .before .before .before .before .name-size .ensures .0 ∙ ap (nameSize _) (c .before .before .before .before .before .tree-name .ensures .0 (c .before .before .before .before .before .before .before .before .before .args .numbers .now) (c .before .before .before .before .before .before .before .before .before .pre .3 .0))), c .before .before .before .before .before .before .before .before .before .pre .2)
 
--- src/lib.rt:159:31
 part-put-tree-rest-end : tie.Need-part-put-tree-rest-end
 part-put-tree-rest-end c = search needs
 
--- src/lib.rt:159:5
 put-tree-rest-requires : tie.Need-put-tree-rest-requires
 put-tree-rest-requires c κs = (search needs, omega (arith, (c .before .before .before .before .before .name-size .ensures .0 ∙ ap (nameSize _) (c .before .before .before .before .before .before .tree-name .ensures .0 (c .before .before .before .before .before .before .before .before .before .before .args .numbers .now) (c .before .before .before .before .before .before .before .before .before .before .pre .3 .0))), c .before .before .before .before .before .before .before .before .before .before .pre .2), search needs)
 
--- src/lib.rt:150:1
 same-length : tie.Need-same-length
 same-length c = search needs
 
--- src/lib.rt:150:1
 returns : tie.Need-returns
 returns c =
     let s = c .before .before .before .before .before .before .before .before .before .before .before .before .before in

@@ -11,59 +11,45 @@ use Rattle.octets.proofs.copy.Reads as copy-reads
 use Rattle.save_records.proofs.leaf_octet.Reads as leaf-octet-reads
 use Rattle.save_records.proofs.put_fours.Reads as put-fours-reads
 
--- src/lib.rt:144:17
 leaf-octet-requires : tie.Need-leaf-octet-requires
 leaf-octet-requires c κs = search needs
 
--- src/lib.rt:145:18
 sub-copy : tie.Need-sub-copy
 sub-copy c = search needs
 
--- src/lib.rt:145:18
 part-copy-start : tie.Need-part-copy-start
 part-copy-start c = search needs
 
--- src/lib.rt:145:18
 part-copy-end : tie.Need-part-copy-end
 part-copy-end c = search needs
 
--- src/lib.rt:145:34
 slice-aggregate-copy : tie.Need-slice-aggregate-copy
 slice-aggregate-copy c = search needs
 
--- src/lib.rt:145:5
 copy-requires : tie.Need-copy-requires
 copy-requires c κs = search needs
 
--- src/lib.rt:146:17
 mul-e : tie.Need-mul-e
 mul-e c = search needs
 
--- src/lib.rt:146:13
 add-e : tie.Need-add-e
 add-e c = search needs
 
--- src/lib.rt:147:27
 sub-put-fours : tie.Need-sub-put-fours
 sub-put-fours c = search needs
 
--- src/lib.rt:147:27
 part-put-fours-start : tie.Need-part-put-fours-start
 part-put-fours-start c = search needs
 
--- src/lib.rt:147:27
 part-put-fours-end : tie.Need-part-put-fours-end
 part-put-fours-end c = search needs
 
--- src/lib.rt:147:5
 put-fours-requires : tie.Need-put-fours-requires
 put-fours-requires c κs = search needs
 
--- src/lib.rt:140:1
 same-length : tie.Need-same-length
 same-length c = search needs
 
--- src/lib.rt:140:1
 returns : tie.Need-returns
 returns c =
     let s = c .before .before .before .before .before .before .before .before .before .before .before .before in
