@@ -12,7 +12,7 @@ use Rattle.meaning.specs.Octets.{pick}
 use Rattle.meaning.specs.Wire.{rootLength, opaqueIn}
 use Rattle.meaning.specs.Lists.{by-test}
 use Rattle.meaning_layers.specs.Layers.{beforeInner, innerIn, isLast, innerOf, Peeled, layerOf, under, peel, noLayer}
-use Rattle.meaning_layers.specs.LayerLaws.{name-long, wraps-so}
+use Rattle.meaning_layers.specs.LayerLaws.{leastName, name-long, wraps-so}
 use Rattle.meaning_layers.specs.LayerCalls.{below}
 use Rattle.meaning_layers.specs.PeelLaws.{peel-last, peel-more}
 
@@ -34,9 +34,9 @@ start-inner e l =
     ap (λ (k : ℕ). drop k e) (start-more e l ∙ p) ∙ sym (drop-drop (3 + beforeInner (opaqueIn e)) (6 + rootLength e) e) ∙ unfold innerOf innerIn opaqueIn in refl
 
 -- at least nine octets come before it, and thirteen are behind
-pub start-bounds : (e : List ℕ) → isLast e ≡ false → (9 ≤ innerStart e) × (innerStart e + 13 ≤ length e)
+pub start-bounds : (e : List ℕ) → isLast e ≡ false → (9 ≤ innerStart e) × (innerStart e + leastName ≤ length e)
 start-bounds e l =
-    let long : 13 ≤ length (innerOf e) = unfold innerOf in name-long (innerIn (opaqueIn e)) (wraps-so (opaqueIn e) (unfold isLast in not-false _ l) .inner) in
+    let long : leastName ≤ length (innerOf e) = unfold innerOf in name-long (innerIn (opaqueIn e)) (wraps-so (opaqueIn e) (unfold isLast in not-false _ l) .inner) in
     (omega (arith, start-more e l), omega (arith, ap length (start-inner e l), length-drop (innerStart e) e))
 
 pub start-not : (e : List ℕ) → (innerStart e ≡ 0 → ⊥) → isLast e ≡ false

@@ -43,8 +43,11 @@ filled-long o h f =
     (λ e. le-trans (end-more o) (leb-true _ _ e))
     (λ e. no-way (sym f ∙ filled-step o h ∙ rw e refl))
 
--- a name takes thirteen octets at least
-pub name-long : (e : List ℕ) → elementRefusal e ≡ 0 → 13 ≤ length e
+-- the shortest name: six octets of the element's own, a root of four, and an element of the opaque value, which has a head of three
+abbrev pub leastName : ℕ
+leastName = 6 + 4 + 3
+
+pub name-long : (e : List ℕ) → elementRefusal e ≡ 0 → leastName ≤ length e
 name-long e ok =
     let w = whole e ok in
     let o = filled-long (opaqueIn e) (w .some) (w .filled) in

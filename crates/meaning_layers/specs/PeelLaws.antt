@@ -1,6 +1,6 @@
 -- THE LAYERS OF A NAME: the equations of `peel` with no count in them, the layers of a wrapped name, the way back from the layers to the name, and how many there can be.
 -- Assumes nothing.
-use Prim.Native.Nat.{ℕ, zero, suc, _+_, _*_, _≤_, _<_}
+use Prim.Native.Nat.{ℕ, zero, suc, _+_, _*_, _-_, _/_, _≤_, _<_}
 use native.Mathlib.Nat.{le-refl}
 use native.Mathlib.Omega.{arith}
 use mathlib.Core.Path.{_≡_, refl, ap, ap₂, _∙_}
@@ -8,12 +8,12 @@ use mathlib.Core.Bool.{true, false}
 use mathlib.Core.List.{List, [], _∷_, _++_}
 use lib.ListN.{length, length-drop}
 use borrow.Author.Tests.{not-false}
-use Rattle.meaning.specs.Wire.{rootLength, rootIn, opaqueIn, elementRefusal}
+use Rattle.meaning.specs.Wire.{rootLength, rootIn, opaqueIn, elementRefusal, opaqueLimit}
 use Rattle.meaning.specs.Lists.{by-test}
 use Rattle.meaning_laws.specs.RoundTrip.{whole}
 use Rattle.meaning_layers.specs.Layers.{beforeInner, eightIn, innerIn, isLast, innerOf, Layer, layerOf, Peeled, under, peelF, peel, wrapped, wrap, wrapAll}
 use Rattle.meaning_layers.specs.ElementLaws.{root-cases}
-use Rattle.meaning_layers.specs.LayerLaws.{name-long, Wrappable, wrapped-not-last, wrapped-inner, wrapped-layer, wraps-so, inner-named, wrapped-back, wrap-taken}
+use Rattle.meaning_layers.specs.LayerLaws.{leastName, name-long, Wrappable, wrapped-not-last, wrapped-inner, wrapped-layer, wraps-so, inner-named, wrapped-back, wrap-taken}
 
 -- ---- the name inside is shorter
 
@@ -125,21 +125,25 @@ peel-wraps (l ∷ ls) a p =
 -- ---- how many layers
 
 -- each layer takes thirteen octets at least
-pub layers-long : (e : List ℕ) → elementRefusal e ≡ 0 → 13 * suc (length (peel e .outer)) ≤ length e
+pub layers-long : (e : List ℕ) → elementRefusal e ≡ 0 → leastName * suc (length (peel e .outer)) ≤ length e
 unfolding under
 layers-long =
-    by-layers (λ (e : List ℕ). 13 * suc (length (peel e .outer)) ≤ length e)
+    by-layers (λ (e : List ℕ). leastName * suc (length (peel e .outer)) ≤ length e)
     (λ e n l. rw (peel-last e l) (name-long e n))
     (λ e n l i p. rw (peel-more e l) (longer e n l (length (peel (innerOf e) .outer)) p))
   where
-    longer : (e : List ℕ) → elementRefusal e ≡ 0 → isLast e ≡ false → (k : ℕ) → 13 * suc k ≤ length (innerOf e) → 13 * suc (suc k) ≤ length e
+    longer : (e : List ℕ) → elementRefusal e ≡ 0 → isLast e ≡ false → (k : ℕ) → leastName * suc k ≤ length (innerOf e) → leastName * suc (suc k) ≤ length e
     longer e n l k h =
         let w = whole e n in
         let r : 4 ≤ rootLength e = root-cases e n (λ _ a. omega arith) (λ _ a. omega arith) in
         omega (arith, w .fills, w .opaque, inner-three e l)
 
+-- the most layers: a name stands within an opaque value behind a head of three octets, and each layer below takes a shortest name at least
+abbrev pub layerLimit : ℕ
+layerLimit = 1 + (opaqueLimit - 3) / leastName
+
 -- AT MOST TEN LAYERS: nine outer ones and the innermost.
-pub layers-few : (e : List ℕ) → elementRefusal e ≡ 0 → suc (length (peel e .outer)) ≤ 10
+pub layers-few : (e : List ℕ) → elementRefusal e ≡ 0 → suc (length (peel e .outer)) ≤ layerLimit
 unfolding under
 layers-few e ok =
     by-test (isLast e)
@@ -147,5 +151,5 @@ layers-few e ok =
     (λ l. let deep = layers-long (innerOf e) (inner-named e ok l) in
     rw (peel-more e l) (few (length (peel (innerOf e) .outer)) _ _ deep (inner-three e l) (whole e ok .fits)))
   where
-    few : (k a o : ℕ) → 13 * suc k ≤ a → a + 3 ≤ o → o ≤ 128 → suc (suc k) ≤ 10
+    few : (k a o : ℕ) → leastName * suc k ≤ a → a + 3 ≤ o → o ≤ opaqueLimit → suc (suc k) ≤ layerLimit
     few k a o h i j = omega arith

@@ -102,9 +102,9 @@ module _ (c : Card) (keeps : keepsRules c ≡ true) (n : ℕ) (neighbour : noNei
       let R = rules c keeps in
       carried-routes c n (near n neighbour) (R .routes) ps ms (inUse (c .base) (c .labels)) (rules-sound c R right) (rules-ruled c R) room big h
 
-  -- with 22272 octets
-  pub accepted-carried-22272 : lastRight c ≡ true → (ms : List Move) → accepts c n ps ms ≡ true → (noRefusal 22272 c ms ≡ true) × (someThrough n (carriedOut 22272 c ms) ≡ false)
-  accepted-carried-22272 right ms h = accepted-carried right ms h 22272 (omega arith)
+  -- with the most octets that one call sends, 22272
+  pub accepted-carried-most : lastRight c ≡ true → (ms : List Move) → accepts c n ps ms ≡ true → (noRefusal sentLimit c ms ≡ true) × (someThrough n (carriedOut sentLimit c ms) ≡ false)
+  accepted-carried-most right ms h = accepted-carried right ms h sentLimit (omega arith)
 
   -- THE PLANNER: whenever any list is accepted it finds one
   pub planner-finds : (ms : List Move) → accepts c n ps ms ≡ true → planned c n ps ≡ listed (proposal c n ps)
@@ -160,7 +160,7 @@ module _ (c : Card) (keeps : keepsRules c ≡ true) (n : ℕ) (neighbour : noNei
 
 -- After any history.
 pub history-plan : (base : ℕ) (steps : List Step) (n : ℕ) → noNeighbour n ≡ false → (ps : List Allowed) (ms : List Move) → planned (history base steps .card) n ps ≡ listed ms
-    → (noRefusal 22272 (history base steps .card) ms ≡ true) × (someThrough n (carriedOut 22272 (history base steps .card) ms) ≡ false)
+    → (noRefusal sentLimit (history base steps .card) ms ≡ true) × (someThrough n (carriedOut sentLimit (history base steps .card) ms) ≡ false)
 history-plan base steps n h ps ms e =
     let keeps = history-keeps-rules base steps in
-    accepted-carried-22272 (history base steps .card) keeps n h ps (history-last base steps) ms (planner-accepted (history base steps .card) keeps n h ps ms e)
+    accepted-carried-most (history base steps .card) keeps n h ps (history-last base steps) ms (planner-accepted (history base steps .card) keeps n h ps ms e)

@@ -68,11 +68,11 @@ pub short-old : (b : Bool) (a o : List ℕ) → b ≡ false → o ≡ opaqueIn a
 unfolding formOf isShort
 short-old b a o e h = rw (e, h) refl
 
-pub size-new : (b : Bool) (a : List ℕ) (n : ℕ) → b ≡ true → n ≡ length (take nameLimit a) → n ≤ nameLimit → (1 + n ≡ nameSize (formOf b) a) × (1 ≤ 1 + n) × (1 + n ≤ nameMost (formOf b)) × (1 + n ≤ 151)
+pub size-new : (b : Bool) (a : List ℕ) (n : ℕ) → b ≡ true → n ≡ length (take nameLimit a) → n ≤ nameLimit → (1 + n ≡ nameSize (formOf b) a) × (1 ≤ 1 + n) × (1 + n ≤ nameMost (formOf b)) × (1 + n ≤ 1 + nameLimit)
 unfolding formOf nameSize
 size-new b a n e h k = rw e (omega arith, omega arith, omega arith, omega arith)
 
-pub size-old : (b : Bool) (a : List ℕ) → b ≡ false → (spacedName ≡ nameSize (formOf b) a) × (1 ≤ spacedName) × (spacedName ≤ nameMost (formOf b)) × (spacedName ≤ 151)
+pub size-old : (b : Bool) (a : List ℕ) → b ≡ false → (spacedName ≡ nameSize (formOf b) a) × (1 ≤ spacedName) × (spacedName ≤ nameMost (formOf b)) × (spacedName ≤ 1 + nameLimit)
 unfolding formOf nameSize
 size-old b a e = rw e (refl, omega arith, omega arith, omega arith)
 
