@@ -36,7 +36,7 @@ fn give_up(
     let name = memory_trees::tree_name(names, i);
     let end = at + wire_writer::record_size(name);
     let next = wire_writer::send(id, out, at, to, 0x0402, label, name);
-    memory_trees::end_label(numbers, i);
+    memory_changes::end_label(numbers, i);
     Written { at: end, id: next }
 }
 

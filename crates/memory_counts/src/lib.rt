@@ -126,7 +126,7 @@ pub fn change_branch(numbers: &mut [u64], i: usize, k: usize, n: usize, label: u
     let leaf = memory_trees::is_leaf(numbers, i);
     let branches = memory_trees::branch_count(numbers, i);
     let others = branches - memory_trees::count_of(numbers, i, n);
-    memory_trees::set_branch(numbers, i, n, label);
+    memory_changes::set_branch(numbers, i, n, label);
     recount(
         numbers,
         k,
@@ -143,7 +143,7 @@ pub fn change_leaf(numbers: &mut [u64], i: usize, k: usize, leaf: bool)
 {
     let branches = memory_trees::branch_count(numbers, i);
     let before = counts_of(memory_trees::is_leaf(numbers, i), branches);
-    memory_trees::set_leaf(numbers, i, leaf);
+    memory_changes::set_leaf(numbers, i, leaf);
     recount(numbers, k, before, counts_of(leaf, branches));
 }
 

@@ -1,4 +1,4 @@
-// Trees in the card's memory: what is asked of them, and what changes in one place.
+// Trees in the card's memory: what is asked of them.
 ghost use mathlib.Core.Path.{_≡_};
 ghost use mathlib.Core.Bool.{true, false};
 ghost use mathlib.Core.List.{List, [], _∷_};
@@ -7,8 +7,7 @@ ghost use Prim.Native.Nat.{ℕ, _+_, _*_, _-_, _≤_, _<_};
 ghost use lib.ListN.{length, getD, set};
 ghost use Rattle.meaning.specs.Octets.{pick, place, any, count, same};
 ghost use Rattle.meaning.specs.Wire.{nameLimit};
-ghost use Rattle.meaning.specs.Card.{withTrees, withBranch, withLeaf, treePlace, treeAt, isBranch, useOf, heldFor, carries, labelCount, treeLimit, neighbourCount, nobody};
-ghost use Rattle.meaning.specs.Events.{setUse, setLabel, ended};
+ghost use Rattle.meaning.specs.Card.{treePlace, treeAt, isBranch, heldFor, carries, labelCount, treeLimit, neighbourCount, nobody};
 ghost use Rattle.octets.specs.Part.{tab};
 ghost use Rattle.memory.specs.Sizes.{Numbers, Names, nameSpace};
 ghost use Rattle.memory.specs.Memory.{cardOf, baseIn, treeCount, treeName, isMappedAt, carriesAt, ownPlace, StandsAt};
@@ -18,7 +17,6 @@ use memory::BRANCH_COLUMN;
 use memory::LABELS;
 use memory::MARK_COLUMN;
 use memory::NAME_SPACE;
-use memory::NEIGHBOURS;
 use memory::NOBODY;
 use memory::OWN_COLUMN;
 use memory::ROW_COLUMN;
@@ -261,22 +259,6 @@ pub fn tree_place(numbers: &[u64], names: &[u8], name: &[u8]) -> usize
     search(numbers, names, &name[..n])
 }
 
-pub fn set_branch(numbers: &mut [u64], i: usize, n: usize, label: u64)
-    requires { ⌜ Numbers (now numbers) × (n < neighbourCount) × StandsAt (now numbers) i ⌝ }
-    ensures { λ _. ⌜ ((os : List ℕ) → (let c = cardOf (now (numbers .entry)) os in cardOf (now (numbers .exit)) os
-        ≡ withTrees (set (c .trees) i (withBranch n label (treeAt i c))) c)) ⌝ }
-{
-    numbers[BRANCH_COLUMN + i * ROW_WIDTH + n] = label;
-}
-
-pub fn set_leaf(numbers: &mut [u64], i: usize, leaf: bool)
-    requires { ⌜ Numbers (now numbers) × StandsAt (now numbers) i ⌝ }
-    ensures { λ _. ⌜ ((os : List ℕ) → (let c = cardOf (now (numbers .entry)) os in cardOf (now (numbers .exit)) os
-        ≡ withTrees (set (c .trees) i (withLeaf leaf (treeAt i c))) c)) ⌝ }
-{
-    numbers[ROW_COLUMN + i * ROW_WIDTH] = if leaf { 1 } else { 0 };
-}
-
 // ---- labels
 
 // The neighbour for which the tree at place i holds its label; 17 for none.
@@ -308,14 +290,4 @@ pub fn carrier_at(numbers: &[u64], p: usize) -> usize
     } else {
         n
     }
-}
-
-// The label that the tree carries awaits release from now on, and the tree carries none: a label that is not mapped has no carrier.
-pub fn end_label(numbers: &mut [u64], i: usize)
-    requires { ⌜ Numbers (now numbers) × ((os : List ℕ) → treeAt i (cardOf (now numbers) os) .label ≡ 0 → ⊥) × StandsAt (now numbers) i ⌝ }
-    ensures { λ _. ⌜ ((os : List ℕ) → (let c = cardOf (now (numbers .entry)) os in cardOf (now (numbers .exit)) os
-        ≡ setLabel i 0 (setUse (treeAt i c .label) (ended (useOf (treeAt i c .label) c)) c))) ⌝ }
-{
-    let k = MARK_COLUMN + numbers[OWN_COLUMN + i] as usize;
-    numbers[k] = numbers[k] % 256 + NEIGHBOURS;
 }

@@ -49,7 +49,7 @@ fn read_branches(octets: &[u8], at: usize, numbers: &mut [u64], i: usize)
     let mut n = 0;
     while n < NEIGHBOUR_COUNT {
         let label = save_fields::four_at(octets, at + n * 4);
-        memory_trees::set_branch(numbers, i, n, label);
+        memory_changes::set_branch(numbers, i, n, label);
         n += 1;
     }
 }
@@ -81,7 +81,7 @@ fn read_tree(
     let i = memory::tree_count(numbers);
     enter_name(octets, at + 3, second, numbers, names);
     let leaf = octets::at(octets, at + (3 + e)) != 0;
-    memory_trees::set_leaf(numbers, i, leaf);
+    memory_changes::set_leaf(numbers, i, leaf);
     read_branches(octets, at + (4 + e), numbers, i);
 }
 

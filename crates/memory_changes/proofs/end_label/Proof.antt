@@ -2,8 +2,8 @@ use native.Mathlib.Omega.{arith}
 use mathlib.Core.List.{[]}
 use Rattle.memory.proofs.Trees.{label-carried, own-inside, ends}
 use borrow.Author.Needs.{needs}
-use Rattle.memory_trees.proofs.end_label.Statement.{statement}
-use Rattle.memory_trees.proofs.end_label.Tie as tie
+use Rattle.memory_changes.proofs.end_label.Statement.{statement}
+use Rattle.memory_changes.proofs.end_label.Tie as tie
 
 add-k : tie.Need-add-k
 add-k c = search needs

@@ -1,7 +1,7 @@
 use borrow.Author.Needs.{needs}
 use Rattle.memory.proofs.Trees.{set-branch}
-use Rattle.memory_trees.proofs.set_branch.Statement.{statement}
-use Rattle.memory_trees.proofs.set_branch.Tie as tie
+use Rattle.memory_changes.proofs.set_branch.Statement.{statement}
+use Rattle.memory_changes.proofs.set_branch.Tie as tie
 
 mul-numbers : tie.Need-mul-numbers
 mul-numbers c = search needs

@@ -4,8 +4,8 @@ use mathlib.Core.Bool.{not}
 use lib.Dec.{eqb}
 use borrow.Author.Needs.{needs}
 use Rattle.memory.proofs.Trees.{set-leaf}
-use Rattle.memory_trees.proofs.set_leaf.Statement.{statement}
-use Rattle.memory_trees.proofs.set_leaf.Tie as tie
+use Rattle.memory_changes.proofs.set_leaf.Statement.{statement}
+use Rattle.memory_changes.proofs.set_leaf.Tie as tie
 
 mul-numbers : tie.Need-mul-numbers
 mul-numbers c = search needs
