@@ -120,5 +120,5 @@ pub fn lookup_name(numbers: &[u64; NUMBER_COUNT], names: &[u8; OCTET_COUNT], ele
 pub fn free_labels(numbers: &[u64; NUMBER_COUNT]) -> u32
     ensures { λ r. ⌜ ((os : List ℕ) → r ≡ freeLabels (cardOf (now (numbers .entry)) os)) ⌝ }
 {
-    memory_labels::free_labels(numbers) as u32
+    memory_free::free_labels(numbers) as u32
 }

@@ -73,7 +73,7 @@ fn give(
     ensures { λ r. ⌜ (let c = cardOf (now (numbers .entry)) (now (names .entry)) in Wrote (give i u c) id at (now (out .entry)) (now (out .exit)) (cardOf (now (numbers .exit)) (now (names .exit))) (r .at) (r .id)
         × (freeLabels (cardOf (now (numbers .exit)) (now (names .exit))) + 1 ≡ freeLabels c)) ⌝ }
 {
-    let p = memory_labels::next_free(numbers);
+    let p = memory_free::next_free(numbers);
     let label = memory::base(numbers) + p as u64;
     let name = memory_trees::tree_name(names, i);
     let end = at + wire_writer::record_size(name);

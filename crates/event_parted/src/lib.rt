@@ -67,7 +67,7 @@ fn free_one(numbers: &mut [u64], p: usize, n: u64)
     ensures { λ _. ⌜ Freed n p (p + 1) (now (numbers .entry)) (now (numbers .exit)) ⌝ }
 {
     if is_of(numbers, p, n) {
-        memory_labels::set_free(numbers, p);
+        memory_free::set_free(numbers, p);
         return;
     }
 }

@@ -79,7 +79,7 @@ fn is_plenty(numbers: &[u64], room: usize) -> bool
     if room < n * (2 * RECORD_LIMIT) {
         return false;
     }
-    !memory_labels::labels_short(numbers, n)
+    !memory_free::labels_short(numbers, n)
 }
 
 // 12 and 16 for a move of all trees of a root.
@@ -92,7 +92,7 @@ pub fn move_refusal(numbers: &[u64], names: &[u8], root: &[u8], u: u64, room: us
     }
     let t = take_all(numbers, names, root, u);
     let octets = t.octets;
-    if memory_labels::labels_short(numbers, t.labels) {
+    if memory_free::labels_short(numbers, t.labels) {
         return 12;
     }
     if room < octets { 16 } else { 0 }

@@ -56,7 +56,7 @@ fn surely_short(numbers: &[u64], via: u64, standing: u64, lone: u64) -> bool
     if standing <= lone {
         return false;
     }
-    memory_labels::labels_short(numbers, (standing - lone) as usize)
+    memory_free::labels_short(numbers, (standing - lone) as usize)
 }
 
 // 15, 12 and 16 for a route that is another than the old one. Behind the counts the labels are asked once more, so that no order runs out

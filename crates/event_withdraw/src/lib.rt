@@ -136,7 +136,7 @@ pub fn release(
         (now (answer .exit)) 0 s s (cardOf (now (numbers .exit)) (now (names .entry))))) ⌝ }
 {
     if memory_labels::is_awaited(numbers, names, n as u64, name, label) {
-        memory_labels::free_label(numbers, label);
+        memory_free::free_label(numbers, label);
         *answer = 0;
         return;
     }

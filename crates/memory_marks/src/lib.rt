@@ -25,7 +25,7 @@ pub fn map_label(numbers: &mut [u64], names: &mut [u8], p: usize, i: usize, n: u
 {
     let used = memory::used_octets(names, i);
     octets::copy_within(names, i * NAME_SPACE, LABEL_NAMES + p * NAME_SPACE, used);
-    memory_labels::set_taken(numbers, p);
+    memory_free::set_taken(numbers, p);
     numbers[MARK_COLUMN + p] = n + 256 * i as u64;
     numbers[OWN_COLUMN + i] = p as u64;
 }
@@ -54,7 +54,7 @@ pub fn enter_use(
         ≡ withLabels (set (c .labels) place (pick held (mapped n (now (name .entry))) (awaiting n (now (name .entry))))) c) ⌝ }
 {
     memory::set_text(names, LABEL_NAMES + place * NAME_SPACE, name);
-    memory_labels::set_taken(numbers, place);
+    memory_free::set_taken(numbers, place);
     numbers[MARK_COLUMN + place] = use_of(held, n) + NOWHERE;
 }
 

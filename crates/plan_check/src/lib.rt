@@ -157,7 +157,7 @@ pub fn labels_enough(numbers: &[u64], names: &[u8], list: &[u8]) -> bool
     requires { ⌜ Numbers (now numbers) × Names (now names) ⌝ }
     ensures { λ r. ⌜ (let c = cardOf (now (numbers .entry)) (now (names .entry)) in r ≡ leb (needList c (listIn (now (list .entry)))) (freeLabels c)) ⌝ }
 {
-    let free = memory_labels::free_labels(numbers);
+    let free = memory_free::free_labels(numbers);
     let k = list.len() / ENTRY_SIZE;
     let mut sum = 0;
     let mut i = 0;

@@ -21,7 +21,7 @@ fn is_last_right(numbers: &[u64]) -> bool
     if memory::turn(numbers) != 0 {
         return true;
     }
-    memory_labels::free_labels(numbers) == LABEL_COUNT
+    memory_free::free_labels(numbers) == LABEL_COUNT
 }
 
 // Whether the table in the memory, where names and roots stand once, keeps the rules that the form asks for, that of the counts aside: what

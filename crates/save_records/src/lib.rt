@@ -39,7 +39,7 @@ pub fn put_save_head(numbers: &[u64], second: bool, out: &mut [u8])
     let base = memory::base(numbers);
     let next = memory::next_id(numbers);
     let last = last_given(numbers);
-    let uses = LABEL_COUNT - memory_labels::free_labels(numbers);
+    let uses = LABEL_COUNT - memory_free::free_labels(numbers);
     let head = [
         0x4c,
         0x53,

@@ -11,7 +11,7 @@ use Rattle.memory.proofs.base.Reads as base-reads
 use Rattle.memory.proofs.next_id.Reads as next-id-reads
 use Rattle.memory.proofs.route_count.Reads as route-count-reads
 use Rattle.memory.proofs.tree_count.Reads as tree-count-reads
-use Rattle.memory_labels.proofs.free_labels.Reads as free-labels-reads
+use Rattle.memory_free.proofs.free_labels.Reads as free-labels-reads
 use Rattle.octets.proofs.copy.Reads as copy-reads
 use Rattle.save_forms.proofs.head_kind.Reads as head-kind-reads
 use Rattle.save_forms.proofs.head_size.Reads as head-size-reads

@@ -7,8 +7,8 @@ use Rattle.memory.specs.Sizes.{wordColumn}
 use Rattle.memory.specs.Memory.{wordAt}
 use Rattle.memory.proofs.NextFree.{first-here, first-behind, first-past, first-on}
 use borrow.Author.Needs.{needs}
-use Rattle.memory_labels.proofs.free_from.Statement.{statement}
-use Rattle.memory_labels.proofs.free_from.Tie as tie
+use Rattle.memory_free.proofs.free_from.Statement.{statement}
+use Rattle.memory_free.proofs.free_from.Tie as tie
 
 returns : tie.Need-returns
 returns c = first-past _ (c .before .before .args .i) (c .if1 .taken) (c .before .before .pre .1)

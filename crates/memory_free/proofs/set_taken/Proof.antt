@@ -5,8 +5,8 @@ use Rattle.octets.proofs.Bits.{one-shifted, clear-same, clear-other}
 use Rattle.memory.specs.Memory.{wordAt}
 use Rattle.memory.proofs.Marks.{rebit}
 use borrow.Author.Needs.{needs}
-use Rattle.memory_labels.proofs.set_taken.Statement.{statement}
-use Rattle.memory_labels.proofs.set_taken.Tie as tie
+use Rattle.memory_free.proofs.set_taken.Statement.{statement}
+use Rattle.memory_free.proofs.set_taken.Tie as tie
 
 add-k : tie.Need-add-k
 add-k c = search needs

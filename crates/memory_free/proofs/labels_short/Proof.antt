@@ -1,8 +1,8 @@
 use mathlib.Core.Path.{refl}
 use Rattle.meaning.specs.Events.{labelsShort}
 use borrow.Author.Needs.{needs}
-use Rattle.memory_labels.proofs.labels_short.Statement.{statement}
-use Rattle.memory_labels.proofs.labels_short.Tie as tie
+use Rattle.memory_free.proofs.labels_short.Statement.{statement}
+use Rattle.memory_free.proofs.labels_short.Tie as tie
 
 free-labels-requires : tie.Need-free-labels-requires
 free-labels-requires c κs = search needs

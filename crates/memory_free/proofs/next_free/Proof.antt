@@ -1,7 +1,7 @@
 use Rattle.memory.proofs.NextFree.{next-later, next-around}
 use borrow.Author.Needs.{needs}
-use Rattle.memory_labels.proofs.next_free.Statement.{statement}
-use Rattle.memory_labels.proofs.next_free.Tie as tie
+use Rattle.memory_free.proofs.next_free.Statement.{statement}
+use Rattle.memory_free.proofs.next_free.Tie as tie
 
 turn-requires : tie.Need-turn-requires
 turn-requires c κs = search needs

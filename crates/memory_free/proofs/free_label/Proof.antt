@@ -1,8 +1,8 @@
 use native.Mathlib.Omega.{arith}
 use Rattle.memory.proofs.Labels.{free-label}
 use borrow.Author.Needs.{needs}
-use Rattle.memory_labels.proofs.free_label.Statement.{statement}
-use Rattle.memory_labels.proofs.free_label.Tie as tie
+use Rattle.memory_free.proofs.free_label.Statement.{statement}
+use Rattle.memory_free.proofs.free_label.Tie as tie
 
 base-requires : tie.Need-base-requires
 base-requires c κs = search needs

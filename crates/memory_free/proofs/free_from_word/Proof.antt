@@ -7,8 +7,8 @@ use Rattle.memory.specs.Sizes.{wordColumn}
 use Rattle.memory.specs.Memory.{wordAt}
 use borrow.Author.Needs.{needs}
 use Rattle.memory.proofs.NextFree.{From, first-word, first-next, first-none}
-use Rattle.memory_labels.proofs.free_from_word.Statement.{statement}
-use Rattle.memory_labels.proofs.free_from_word.Tie as tie
+use Rattle.memory_free.proofs.free_from_word.Statement.{statement}
+use Rattle.memory_free.proofs.free_from_word.Tie as tie
 
 abbrev Inv-loop : tie.InvT-loop
 Inv-loop numbers from w₀ w = (w ≤ 4) × From numbers (from * 64) w

@@ -2,8 +2,8 @@ use Prim.Native.Nat.{_+_}
 use native.Mathlib.Omega.{arith}
 use Rattle.memory.proofs.Labels.{few-in, counted}
 use borrow.Author.Needs.{needs}
-use Rattle.memory_labels.proofs.free_labels.Statement.{statement}
-use Rattle.memory_labels.proofs.free_labels.Tie as tie
+use Rattle.memory_free.proofs.free_labels.Statement.{statement}
+use Rattle.memory_free.proofs.free_labels.Tie as tie
 use Rattle.memory.specs.Sizes.{wordColumn}
 
 shared-slice-read-result : tie.Need-shared-slice-read-result
