@@ -1,5 +1,4 @@
 // A message from a neighbour: read, and handed to the event of its kind.
-ghost use mathlib.Core.Path.{_≡_};
 ghost use Prim.Native.Nat.{_≤_, _<_};
 ghost use lib.ListN.{length};
 ghost use Rattle.meaning.specs.Wire.{nameLimit, leastLabel};

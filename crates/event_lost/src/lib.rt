@@ -1,8 +1,7 @@
 // A neighbour's session is lost: its room is tested before anything is written, all that is its own goes, labels that lead nowhere
 // any more are given up, and empty trees go.
 ghost use mathlib.Core.Path.{_≡_};
-ghost use mathlib.Core.List.{List};
-ghost use Prim.Native.Nat.{ℕ, _+_, _*_, _≤_, _<_};
+ghost use Prim.Native.Nat.{_+_, _*_, _≤_, _<_};
 ghost use lib.ListN.{length};
 ghost use lib.Dec.{ltb};
 ghost use Rattle.meaning.specs.Wire.{records, recordLimit};

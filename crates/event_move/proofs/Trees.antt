@@ -8,10 +8,9 @@ use mathlib.Core.List.{List, [], _++_, append-assoc}
 use lib.ListN.{getD, length}
 use lib.Seq.{getD-set-other}
 use lib.Dec.{eqb}
-use Rattle.meaning.specs.Octets.{placeFrom}
 use Rattle.meaning.specs.Lists.{append-nil, by-test, picked, count-set, count-less}
 use Rattle.meaning.specs.Wire.{Sent, records}
-use Rattle.meaning.specs.Card.{Tree, Card, Use, free, mapped, awaiting, withTrees, withLabels, withLast, bare, treeAt, isFree, useOf, freeLabels, turn, nextFree, nobody}
+use Rattle.meaning.specs.Card.{Tree, Card, Use, free, mapped, awaiting, withTrees, withLabels, withLast, bare, treeAt, isFree, useOf, freeLabels, nextFree, nobody}
 use Rattle.meaning_laws.specs.NextFree.{nextPlace, next-free}
 use Rattle.meaning.specs.Events.{Moved, still, followedBy, setUse, setLabel, ended, giveUp, give, letGo, takeUp, moveLabel, holder, ofRoot, moveOne, moveFrom, sumFrom}
 use Rattle.event_holder.specs.Move.{sizeOne}

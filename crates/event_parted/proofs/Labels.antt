@@ -8,7 +8,7 @@ use lib.Dec.{eqb, ltb}
 use borrow.Author.Tests.{ltb-true, ltb-false, eq-eqb, ne-eqb, eqb-true, eqb-false}
 use Rattle.meaning.specs.Octets.{pick}
 use Rattle.meaning.specs.Lists.{by-test}
-use Rattle.meaning.specs.Card.{Tree, Use, free, Card, withTrees, withLabels, withLabel, treeAt, mappedTo, heldFor, labelCount, neighbourCount}
+use Rattle.meaning.specs.Card.{Tree, Use, Card, withTrees, withLabels, withLabel, treeAt, mappedTo, heldFor, labelCount, neighbourCount}
 use Rattle.meaning.specs.Events.{isOf, freedOf, usesWithout}
 use Rattle.octets.specs.Part.{tab}
 use Rattle.octets.proofs.Tab.{tab-ext}

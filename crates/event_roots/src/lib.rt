@@ -7,7 +7,7 @@ ghost use lib.Dec.{ltb};
 ghost use mathlib.Core.Bool.{true};
 ghost use Rattle.meaning.specs.Octets.{_when_else_};
 ghost use Rattle.meaning.specs.Wire.{records, recordLimit};
-ghost use Rattle.meaning.specs.Card.{Card, treeAt, freeLabels, sentLimit, treeLimit, thisNode, nobody};
+ghost use Rattle.meaning.specs.Card.{treeAt, freeLabels, sentLimit, treeLimit, thisNode, nobody};
 ghost use Rattle.meaning.specs.Events.{labelsShort, needOne, needAll, moveOne, moveAll};
 ghost use Rattle.memory.specs.Sizes.{Numbers, Names};
 ghost use Rattle.memory.specs.Memory.{cardOf, StandsAt};

@@ -11,7 +11,7 @@ use Rattle.meaning.specs.Octets.{put, cut, _when_else_}
 use Rattle.meaning.specs.Lists.{by-test, getD-out}
 use Rattle.meaning.specs.Wire.{records, idsAfter}
 use Rattle.meaning.specs.Card.{Route, Tree, Card, noRoute, noEntry, withNext, withRoutes, routePlace, routeOf, treeAt, freeLabels, routeLimit, neighbourCount}
-use Rattle.meaning.specs.Events.{taken, unless, finish, still, labelsShort, upstream, moveOne, moveFrom, moveAll, sumFrom, needAll, workedOut, entryOf, entryWith, routesWith, quickNo, runsOut, routesFull, routeRefusal, reRoute}
+use Rattle.meaning.specs.Events.{taken, unless, finish, still, labelsShort, upstream, moveOne, moveFrom, moveAll, sumFrom, needAll, workedOut, entryOf, entryWith, routesWith, quickNo, runsOut, routesFull, reRoute}
 use Rattle.meaning_laws.specs.RoutesStay.{all-routes}
 use Rattle.meaning_laws.specs.Counts.{twelve-cases}
 use Rattle.meaning.specs.Calls.{Does}

@@ -12,7 +12,7 @@ use borrow.Author.Tests.{eq-eqb, ne-eqb}
 use Rattle.meaning.specs.Octets.{pick, any, _when_else_}
 use Rattle.meaning.specs.Lists.{by-test}
 use Rattle.meaning.specs.Wire.{Sent, recordOf, nextId, records, idsAfter, release, recordSize}
-use Rattle.meaning.specs.Card.{Tree, Card, free, withNext, withTrees, withLabels, withBranch, bare, treePlace, treeAt, isBranch, isEmpty, isAwaiting, useOf, neighbourCount}
+use Rattle.meaning.specs.Card.{Tree, Card, free, withNext, withLabels, withBranch, bare, treePlace, treeAt, isBranch, isEmpty, isAwaiting, useOf, neighbourCount}
 use Rattle.meaning.specs.Events.{taken, unless, finish, Moved, followedBy, tell, setUse, relabel, become, branch, lessBranch, onWithdraw, onRelease, notAwaited}
 use Rattle.meaning.specs.Calls.{Does}
 use Rattle.octets.specs.Part.{mid}

@@ -8,7 +8,7 @@ use lib.Seq.{take-all}
 use borrow.Author.Tests.{eq-eqb, ne-eqb, lt-ltb, le-ltb}
 use Rattle.meaning.specs.Octets.{_when_else_}
 use Rattle.meaning.specs.Wire.{rootIn, opaqueIn, elementRefusal}
-use Rattle.meaning_layers.specs.Layers.{eightIn, layerOf, peel, Read, refused, peeled, read}
+use Rattle.meaning_layers.specs.Layers.{eightIn, layerOf, peel, refused, peeled, read}
 use Rattle.meaning_layers.specs.InnerStart.{innerStart, layerCount, layerStart, start-none, start-not, start-below}
 use Rattle.firmware_layers.specs.Fields.{answerOf, countOf, layerAnswer, layerFields, fieldsOf}
 

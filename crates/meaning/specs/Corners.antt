@@ -1,7 +1,7 @@
 -- The corners of document 01's rules, as docs/DECISIONS.md reads them: tables as that of `Examples`, one for each card to begin with.
 -- Assumes nothing.
 use Prim.Native.Nat.{ℕ, zero, suc, _+_, _-_}
-use mathlib.Core.Bool.{Bool, true, _&&_, false}
+use mathlib.Core.Bool.{Bool, true, _&&_}
 use mathlib.Core.List.{List, [], _∷_, _++_}
 use lib.ListN.{length, replicate}
 use lib.Dec.{T, eqb}

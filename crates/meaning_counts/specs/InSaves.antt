@@ -1,11 +1,10 @@
 -- The counts in a save.
 -- Assumes nothing.
-use Prim.Native.Nat.{ℕ}
 use mathlib.Core.Bool.{Bool, not, _&&_}
 use mathlib.Core.List.{List, [], _∷_}
 use lib.Dec.{T}
 use Rattle.meaning.specs.Octets.{same}
-use Rattle.meaning.specs.Card.{Route, Card, fresh, withRoutes}
+use Rattle.meaning.specs.Card.{Route, fresh, withRoutes}
 use Rattle.meaning.specs.Computing.{computing}
 use Rattle.meaning.specs.Examples.{A, heard}
 use Rattle.meaning_save.specs.Save.{old, new, saved, restore, keepsRules}

@@ -5,9 +5,8 @@ use mathlib.Core.Path.{_≡_, refl, _∙_}
 use mathlib.Core.List.{List}
 use lib.ListN.{length}
 use lib.Dec.{eqb}
-use Rattle.meaning.specs.Octets.{pick}
 use Rattle.meaning.specs.Lists.{picked}
-use Rattle.meaning.specs.Card.{Card, nobody, withTrees, withLabels, treeAt, heldFor, noRoute, withLast, isEmpty, leadsOn}
+use Rattle.meaning.specs.Card.{Card, nobody, withTrees, withLabels, treeAt, heldFor, withLast, isEmpty, leadsOn}
 use Rattle.meaning.specs.Events.{Moved, still, followedBy, setUse, setLabel, giveUp, give, letGo, takeUp, moveLabel, relabel, holder, ofRoot, moveOne, moveFrom, moveAll, swept, parted, shed, shedFrom, sweptBelow}
 
 let-go-routes : (i : ℕ) (c : Card) → letGo i c .card .routes ≡ c .routes

@@ -20,7 +20,6 @@ use Rattle.meaning_laws.specs.NoticeLaws.{four-back}
 use Rattle.meaning_save.specs.Save.{Form, old, new, headSize, routeSize, treeBeside, useBeside, spacedName, saveLimit, lastPlace, isShortTree, isShortUse, fitsSave, marked, lastSaved, headSaved, routesSaved, treesSaved, usesSaved, saved, save, routesRead, treesRead, treesEnd, usesRead, isMappedFor, allLabelled, highestUsed, settled, carriedBy, lastIn, lastRight, tableIn, isCarried, allCarried, isTree, carriesOwn, holdsRight, keepsRules, ruled, isSave, restore, allWorkedOut, countsRight, keepsRows}
 use Rattle.meaning_laws.specs.SaveRules.{all-at, Rules, rules}
 use Rattle.meaning_laws.specs.SaveLists.{either, tree-ok, routes-length, routes-back, treesSize, trees-length, trees-old, trees-new, trees-fit, trees-back, trees-after, labelFor, labels-back, inUse, used-free, usesSize, uses-length, uses-old, uses-new, uses-fit, free-fit, trees-any, uses-any, uses-back}
-use Rattle.meaning_laws.specs.SaveFields.{all-cons}
 use native.Mathlib.Nat.{le-of-suc-le-suc, not-suc-le-zero}
 use Rattle.meaning_laws.specs.Counts.{plains}
 use Rattle.meaning_laws.specs.SaveCounts.{plains-worked, worked-same}

@@ -1,7 +1,7 @@
 -- The events that write most: 64 trees with the longest names, in one order. Tables of `meaning`, but each of its edits would compute them anew.
 -- Assumes nothing.
 use Prim.Native.Nat.{ℕ, zero, suc, _+_}
-use mathlib.Core.Bool.{Bool, true, false, _&&_}
+use mathlib.Core.Bool.{Bool, false, _&&_}
 use mathlib.Core.List.{List, [], _∷_, _++_}
 use lib.ListN.{length, take, replicate, set}
 use lib.Dec.{T, eqb}

@@ -12,7 +12,7 @@ use Rattle.meaning.specs.Card.{Card, free, mapped, fresh, withLabels, withLast}
 use Rattle.meaning.specs.Events.{Out, Event, join, leave, route, event, start}
 use Rattle.meaning.specs.Computing.{computing}
 use Rattle.meaning.specs.Examples.{enough, A, wide, heard}
-use Rattle.meaning_save.specs.Save.{old, new, padded, spaced, nameSaved, marked, lastSaved, headSaved, routeSaved, foursOf, treeSaved, useSaved, routesSaved, treesSaved, usesSaved, saved, isShort, isShortTree, isShortUse, fitsSave, save, spacedIn, nameIn, routeRead, foursIn, treeRead, useRead, routesRead, treesRead, usesRead, isMappedFor, labelled, allLabelled, allWorkedOut, tableIn, isName, onceEach, isRoute, sameRoot, isBranchLabel, isTree, sameName, isUse, isCarried, allCarried, carriesOwn, holdsRight, isCounted, countsRight, keepsRows, keepsRules, isSave, restore, highestUsed, settled, carriedBy, lastIn, treeEnd, treesEnd, useEnd, lastRight, ruled, Moved, notMoved, move, newer, older}
+use Rattle.meaning_save.specs.Save.{old, new, padded, spaced, nameSaved, marked, lastSaved, headSaved, routeSaved, foursOf, treeSaved, useSaved, routesSaved, treesSaved, usesSaved, saved, isShort, isShortTree, isShortUse, fitsSave, save, spacedIn, nameIn, routeRead, foursIn, treeRead, useRead, routesRead, treesRead, usesRead, isMappedFor, labelled, allLabelled, allWorkedOut, tableIn, isName, onceEach, isRoute, sameRoot, isBranchLabel, isTree, sameName, isUse, isCarried, allCarried, carriesOwn, holdsRight, isCounted, countsRight, keepsRows, keepsRules, isSave, restore, highestUsed, settled, carriedBy, lastIn, treeEnd, treesEnd, useEnd, lastRight, ruled, notMoved, move, newer, older}
 
 -- as `computing`, for the definitions of saves
 unfoldable pub computingSaves : ℕ

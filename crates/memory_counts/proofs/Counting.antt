@@ -4,11 +4,11 @@ use native.Mathlib.Nat.{not-suc-le-zero, le-of-suc-le-suc, zero-lt-suc}
 use native.Mathlib.Numerals.{add-one}
 use native.Mathlib.Omega.{arith}
 use mathlib.Core.Path.{_≡_, refl, sym, ap, _∙_}
-use mathlib.Core.Bool.{Bool, true, false, not, _&&_, and-false}
+use mathlib.Core.Bool.{Bool, true, false, not, and-false}
 use mathlib.Core.List.{List, [], _∷_}
-use lib.ListN.{take, drop, getD, length, set, length-set, length-drop, drop-of-length-le}
-use lib.Seq.{set-out, getD-set-same, getD-drop, drop-cons}
-use lib.Dec.{eqb, ltb}
+use lib.ListN.{take, drop, getD, length, set, length-drop, drop-of-length-le}
+use lib.Seq.{set-out, getD-drop, drop-cons}
+use lib.Dec.{eqb}
 use borrow.Author.Tests.{eq-eqb, ne-eqb}
 use Rattle.meaning.specs.Octets.{any, count, place, same}
 use Rattle.meaning.specs.Lists.{by-test, any-count, count-any, same-eq}
@@ -20,7 +20,6 @@ use Rattle.octets.proofs.Same.{same-at}
 use Rattle.octets.proofs.Tab.{tab-length, tab-get}
 use Rattle.memory.specs.Sizes.{nameSpace}
 use Rattle.memory.specs.Memory.{upTo, textAt, treeName, cardOf, routeCount, treeCount, routeIn}
-use Rattle.memory.proofs.Memory.{trees-length}
 use Rattle.memory.proofs.Marks.{never}
 use Rattle.memory.proofs.Trees.{branches-length, name-at}
 use Rattle.memory_trees.proofs.Others.{one, count-set, one-within}

@@ -9,7 +9,7 @@ ghost use Rattle.meaning.specs.Wire.{rootIn};
 ghost use Rattle.meaning.specs.Card.{Tree, withTrees, withBranch, withLeaf, treeAt, isBranch, isEmpty, routePlace, treeLimit, routeLimit, neighbourCount};
 ghost use Rattle.meaning.specs.Events.{ofRoot, total, inRoot, oneStanding, oneLone, changed, recounted};
 ghost use Rattle.memory.specs.Sizes.{Numbers, Names};
-ghost use Rattle.memory.specs.Memory.{cardOf, routeCount, treeCount, treeName, StandsAt};
+ghost use Rattle.memory.specs.Memory.{cardOf, treeCount, treeName, StandsAt};
 use meaning::ROOT_LIMIT;
 use memory::NAME_SPACE;
 use memory::NO_NEIGHBOUR;

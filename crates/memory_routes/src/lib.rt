@@ -7,7 +7,7 @@ ghost use lib.ListN.{length, set};
 ghost use Rattle.meaning.specs.Octets.{put, cut, same};
 ghost use Rattle.meaning.specs.Wire.{rootLimit};
 ghost use Rattle.meaning.specs.Card.{withRoutes, withCounts, routePlace, routeLimit, routeOf};
-ghost use Rattle.memory.specs.Sizes.{Numbers, Names, rootNames, rootSpace};
+ghost use Rattle.memory.specs.Sizes.{Numbers, Names};
 ghost use Rattle.memory.specs.Memory.{cardOf, routeCount, rootName, routeIn, entryIn};
 use meaning::ROOT_LIMIT;
 use memory::NO_ROUTE;

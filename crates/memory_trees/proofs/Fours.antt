@@ -1,7 +1,7 @@
 -- Sixteen numbers that are read by fours. Assumes nothing.
 use Prim.Native.Nat.{ℕ, _+_}
 use native.Mathlib.Omega.{arith}
-use mathlib.Core.Path.{_≡_, refl, sym}
+use mathlib.Core.Path.{_≡_, refl}
 use mathlib.Core.List.{List, _++_}
 use lib.ListN.{getD}
 use Rattle.octets.specs.Part.{tab}

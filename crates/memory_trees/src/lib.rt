@@ -9,7 +9,7 @@ ghost use Rattle.meaning.specs.Octets.{pick, place, any, count, same};
 ghost use Rattle.meaning.specs.Wire.{nameLimit};
 ghost use Rattle.meaning.specs.Card.{treePlace, treeAt, isBranch, heldFor, carries, labelCount, treeLimit, neighbourCount, nobody};
 ghost use Rattle.octets.specs.Part.{tab};
-ghost use Rattle.memory.specs.Sizes.{Numbers, Names, nameSpace};
+ghost use Rattle.memory.specs.Sizes.{Numbers, Names};
 ghost use Rattle.memory.specs.Memory.{cardOf, baseIn, treeCount, treeName, isMappedAt, carriesAt, ownPlace, StandsAt};
 use meaning::NAME_LIMIT;
 use meaning::NEIGHBOUR_COUNT;

@@ -6,8 +6,8 @@ use native.Mathlib.Omega.{arith}
 use mathlib.Core.Path.{_≡_, refl, sym, ap, _∙_}
 use mathlib.Core.Bool.{Bool, true, false}
 use mathlib.Core.List.{List, [], _∷_, _++_}
-use lib.ListN.{length, take, drop, getD, set, length-set, drop-of-length-le, length-append, length-take, length-drop, List·getD-append}
-use lib.Seq.{getD-at, getD-take, getD-drop, getD-append-add, length-take-le, drop-cons, drop-length, ext-getD, getD-set-same, getD-set-other}
+use lib.ListN.{length, take, drop, getD, set, length-set, drop-of-length-le, length-append, length-drop, List·getD-append}
+use lib.Seq.{getD-at, getD-take, getD-drop, getD-append-add, length-take-le, drop-cons, ext-getD, getD-set-same, getD-set-other}
 use lib.Dec.{ltb, leb, eqb}
 use borrow.Author.Tests.{ltb-true, ltb-false, leb-true, leb-false, eqb-true, eqb-false}
 use Rattle.meaning.specs.Octets.{place, count, put, cut}

@@ -1,6 +1,6 @@
 // Slices of octets and of numbers: every loop over them lives here. A caller lends the part that it means, `&mut s[a..e]`.
 ghost use mathlib.Core.Path.{_≡_};
-ghost use Prim.Native.Nat.{ℕ, _+_, _-_, _≤_, _<_};
+ghost use Prim.Native.Nat.{_+_, _-_, _≤_, _<_};
 ghost use mathlib.Core.List.{[], _∷_};
 ghost use lib.ListN.{length, take, drop, getD, replicate};
 ghost use Rattle.meaning.specs.Octets.{same, twoAt, fourAt};

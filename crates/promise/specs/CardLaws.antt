@@ -14,7 +14,7 @@ use Rattle.meaning.specs.Octets.{pick, place, placeFrom, count, any, same, put,
 use Rattle.meaning.specs.Wire.{elementRefusal}
 use Rattle.meaning.specs.Card.{Tree, Use, free, Card, withTrees, withLabels, withLabel, named, bare, treePlace, treeOf, treeAt, isBranch, isEmpty, isFree, useOf, turn, nextFree, freeLabels, withLast, neighbourCount}
 use Rattle.meaning.specs.Events.{setUse, setLabel, entered, swept}
-use Rattle.meaning.specs.Lists.{getD-same, by-test, picked, place-finds, place-count, getD-out, same-eq, same-refl, found-put, found-cut, count-put, count-cut, other-put, other-cut, count-other-put, place-only, from-within, from-passes}
+use Rattle.meaning.specs.Lists.{getD-same, by-test, picked, place-finds, getD-out, same-eq, same-refl, found-put, found-cut, count-put, count-cut, other-put, other-cut, count-other-put, place-only, from-within, from-passes}
 use Rattle.promise.specs.Promise.{treesBut, useBut, Untouched}
 use Rattle.promise.specs.LiveLaws.{free-eq, upd}
 

@@ -8,7 +8,7 @@ use mathlib.Core.List.{List, [], _∷_}
 use Rattle.meaning.specs.Octets.{two, four, twoAt}
 use Rattle.meaning.specs.Wire.{nextId, messageIn, recordsF, recordsIn}
 use Rattle.meaning.specs.Card.{Card, withNext, treeOf, treePlace, treeAt, useOf, heldFor, freeLabels, routeOf, routePlace}
-use Rattle.meaning.specs.Events.{Out, refuse, accept, roomShort, noNeighbour, holderOf, start}
+use Rattle.meaning.specs.Events.{Out, refuse, accept, roomShort, noNeighbour, holderOf}
 use Rattle.meaning_save.specs.Save.{Form, saved, save, ruled, isSave, restore, fitsSave}
 use Rattle.meaning.specs.Notice.{noticeDue, noticeRecord, notice}
 use Rattle.meaning.specs.Lists.{picked}
@@ -18,7 +18,7 @@ use Rattle.promise.specs.Promise.{Given, noteSent, noteAll, Step, Past, 
 use Rattle.promise.specs.LabelLaws.{spent-eq}
 use Rattle.promise.specs.PromiseProof.{Upheld, then-upheld, started, kept}
 use Rattle.promise.specs.SaveSteps.{Writable, then-writable}
-use Rattle.promise.specs.SaveKept.{start-writable, past-ruled, swapped, swapped-same, carriedOn, movedOver, carried, carried-upheld, carried-writable, either-way, moved-way}
+use Rattle.promise.specs.SaveKept.{start-writable, past-ruled, swapped, swapped-same, movedOver, carried, carried-upheld, carried-writable, either-way, moved-way}
 
 -- does: an event.
 -- tells: a notice: the room that it has, the neighbour, the number of a refusal, the refused octets.

@@ -15,7 +15,7 @@ use Rattle.meaning.specs.Card.{Tree, Route, free, Card, noRoute, nobody, withRo
 use Rattle.meaning.specs.Events.{upstream, holder, holderOf, swept, ofRoot, moveAll, needAll, routesWith, routesFull, total, inRoot, workedOut, entryWith}
 use Rattle.meaning_laws.specs.Standing.{standing-at, not-standing}
 use Rattle.promise.specs.Promise.{Given}
-use Rattle.meaning.specs.Lists.{by-test, same-eq, same-refl, same-flip, getD-out, found-put, found-cut, other-put, other-cut, count-put, count-cut, count-other-put, getD-same}
+use Rattle.meaning.specs.Lists.{by-test, same-eq, same-refl, same-flip, getD-out, found-put, found-cut, other-put, other-cut, count-put, count-cut, count-other-put}
 use Rattle.meaning_laws.specs.Counts.{any-set-zero, empty-leads, Counted, plains, plain-route}
 use Rattle.promise.specs.CardLaws.{shape}
 use Rattle.promise.specs.CountLaws.{Tally, found, same-shapes, routed-true, counted-of}

@@ -14,15 +14,15 @@ use Rattle.meaning.specs.Wire.{mapping, withdraw, messageIn, elementRefusal, le
 use Rattle.meaning.specs.Card.{Tree, Use, free, mapped, awaiting, Card, fresh, withNext, bare, treeOf, treeAt, isBranch, isEmpty, useOf, withLast, treePlace, heldFor, freeLabels, routeOf, routePlace, neighbourCount, labelCount}
 use Rattle.meaning.specs.Events.{Out, refuse, accept, Event, receive, join, leave, route, baseOutside, start, holderOf, lost}
 use Rattle.meaning.specs.Lists.{by-test, picked, same-refl}
-use Rattle.meaning_save.specs.Save.{Form, old, new, isName, isBranchLabel, isTree, isUse, isCarried, isMappedFor, carriesOwn, keepsRules, saved, restore, fitsSave, settled, carriedBy, lastRight, ruled, tableIn, isSave, Moved, move}
+use Rattle.meaning_save.specs.Save.{Form, old, new, isName, isBranchLabel, isTree, isUse, isCarried, isMappedFor, carriesOwn, keepsRules, saved, restore, fitsSave, settled, carriedBy, lastRight, ruled, Moved, move}
 use Rattle.meaning_laws.specs.SaveFields.{all-cons}
 use Rattle.meaning_laws.specs.RoundTrip.{both}
 use Rattle.meaning_laws.specs.SaveRules.{all-of, Rules, rules-kept}
-use Rattle.meaning_laws.specs.SaveLaws.{fits-any, read-back, save-taken, restored, highest-none, highest-block}
+use Rattle.meaning_laws.specs.SaveLaws.{fits-any, restored, highest-none, highest-block}
 use Rattle.meaning_laws.specs.SaveMoves.{Taken, move-taken, moved-restored}
 use Rattle.meaning_laws.specs.Counts.{counted-same}
 use Rattle.meaning_laws.specs.SaveCounts.{counted-right}
-use Rattle.promise.specs.Promise.{Given, ofLabel, withoutLabel, saidBy, branchesSaid, Step, Past, thenSteps, begun, history, Each, Promise, branchesBy}
+use Rattle.promise.specs.Promise.{Given, ofLabel, withoutLabel, saidBy, branchesSaid, Step, Past, thenSteps, begun, history, Each, Promise}
 use Rattle.promise.specs.LiveLaws.{isMapped, only, givens, Books}
 use Rattle.promise.specs.CardLaws.{Proper, at-proper, at-named}
 use Rattle.promise.specs.PromiseProof.{listed, Upheld, steps-upheld, started, history-upheld, kept}

@@ -11,7 +11,7 @@ use Rattle.meaning.specs.Octets.{pick, count}
 use Rattle.meaning.specs.Wire.{release, messageIn, records, recordsIn}
 use Rattle.meaning.specs.Card.{Card, nothing}
 use Rattle.meaning.specs.Events.{Event, receive, refuse, roomShort, event}
-use Rattle.meaning_save.specs.Save.{Form, saved, save, restore, fitsSave, move}
+use Rattle.meaning_save.specs.Save.{Form, saved, save, fitsSave, move}
 use Rattle.meaning.specs.Calls.{Hands, feedIn}
 use Rattle.meaning.specs.Lists.{by-test}
 use Rattle.promise.specs.Promise.{Given, ofLabel, noteAll, noteTaken, branchesSaid, feedBy, Step, Past, answerTo, sends, isTaken, liveAt, acceptedAt, thenStep, begun, Each, NoneLive, AllMapped, Leads, isWithdrawn, Untouched, Promise}

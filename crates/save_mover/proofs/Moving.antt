@@ -1,7 +1,7 @@
 -- A move is the save, in the other form, of the table in the octets. Assumes nothing.
 use Prim.Native.Nat.{ℕ}
 use mathlib.Core.Path.{_≡_, refl, sym, ap, _∙_}
-use mathlib.Core.Bool.{Bool, true, false, not}
+use mathlib.Core.Bool.{true, false, not}
 use mathlib.Core.List.{List}
 use lib.ListN.{take, drop, length}
 use lib.Seq.{take-append-seam}
@@ -9,7 +9,7 @@ use Rattle.meaning.specs.Lists.{by-test}
 use Rattle.meaning.specs.Card.{Card}
 use Rattle.meaning.specs.Events.{roomShort, refuse}
 use Rattle.meaning.specs.Calls.{over, Does}
-use Rattle.meaning_save.specs.Save.{Form, old, new, formOf, saved, fitsSave, save, tableIn, isSave, Moved, notMoved, move, newer, older}
+use Rattle.meaning_save.specs.Save.{Form, formOf, saved, fitsSave, save, tableIn, isSave, Moved, notMoved, move, newer, older}
 use Rattle.save_mover.specs.Moves.{Moves, Gives}
 
 module _ (f g : Form) (room : ℕ) (o : List ℕ) where

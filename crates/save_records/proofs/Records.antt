@@ -12,7 +12,7 @@ use Rattle.meaning.specs.Wire.{rootLimit}
 use Rattle.meaning.specs.Card.{Route, Tree, Use, mapped, awaiting, Card, freeLabels, labelCount, turn, neighbourCount}
 use Rattle.meaning.specs.Lists.{by-test}
 use Rattle.meaning_laws.specs.RoundTrip.{both}
-use Rattle.meaning_save.specs.Save.{Form, old, new, formOf, headKind, treeKind, useKind, headSize, spaced, nameSaved, marked, lastSaved, headSaved, routeSaved, foursOf, treeSaved, useSaved, routeSize, treeBeside, useBeside}
+use Rattle.meaning_save.specs.Save.{Form, old, new, headKind, treeKind, useKind, headSize, spaced, nameSaved, marked, lastSaved, headSaved, routeSaved, foursOf, treeSaved, useSaved, routeSize, treeBeside, useBeside}
 use Rattle.meaning_laws.specs.SaveFields.{nameSize, name-length, fours-length}
 use Rattle.octets.specs.Part.{mid}
 use Rattle.octets.proofs.Tab.{tab-is}

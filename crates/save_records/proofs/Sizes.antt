@@ -2,13 +2,12 @@
 use Prim.Native.Nat.{ℕ}
 use native.Mathlib.Omega.{arith}
 use mathlib.Core.Path.{_≡_, refl}
-use mathlib.Core.Bool.{true, false}
-use mathlib.Core.List.{List, [], _∷_, _++_}
+use mathlib.Core.Bool.{true}
+use mathlib.Core.List.{[]}
 use lib.ListN.{length}
 use Rattle.meaning.specs.Octets.{two, four}
 use Rattle.meaning.specs.Card.{Use, free, mapped, awaiting, Card, isFree}
-use Rattle.meaning_save.specs.Save.{Form, old, new, nameSaved, marked, lastSaved, headSaved, useSaved, headSize, useBeside}
-use Rattle.meaning_laws.specs.SaveFields.{nameSize, name-length}
+use Rattle.meaning_save.specs.Save.{Form, old, new, marked, lastSaved, headSaved, useSaved, headSize}
 
 pub head-length : (f : Form) (c : Card) → length (headSaved f c) ≡ headSize f
 unfolding headSaved lastSaved marked four two

@@ -8,7 +8,7 @@ use lib.ListN.{length, take, drop, replicate, length-drop, drop-of-length-le}
 use lib.Seq.{take-all, take-take, drop-nil}
 use lib.Dec.{leb}
 use Rattle.meaning.specs.Wire.{rootLength, rootIn, opaqueIn, rootLimit, nameLimit}
-use Rattle.meaning_save.specs.Save.{padded, spaced, Form, old, new, formOf, nameSaved, nameMost, isShort, savedOpaque, spacedName}
+use Rattle.meaning_save.specs.Save.{padded, spaced, old, formOf, nameSaved, nameMost, isShort, savedOpaque, spacedName}
 use Rattle.meaning_laws.specs.SaveFields.{nameSize}
 use Rattle.meaning.specs.Lists.{append-nil}
 use Rattle.octets.specs.Part.{mid}

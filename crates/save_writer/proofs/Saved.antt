@@ -6,7 +6,7 @@ use mathlib.Core.Bool.{true, false}
 use mathlib.Core.List.{List, _++_, append-assoc}
 use lib.ListN.{length, length-append}
 use borrow.Author.Tests.{lt-ltb, le-ltb}
-use Rattle.meaning.specs.Card.{Card, Use, isFree, treeAt, freeLabels, labelCount}
+use Rattle.meaning.specs.Card.{Card, Use, isFree, treeAt, labelCount}
 use Rattle.meaning_save.specs.Save.{Form, headSaved, routeSaved, treeSaved, useSaved, routesSaved, treesSaved, usesSaved, saved, save, fitsSave, headSize, routeSize, treeBeside, useBeside}
 use Rattle.meaning.specs.Events.{roomShort, refuse}
 use Rattle.meaning.specs.Calls.{over, Does}

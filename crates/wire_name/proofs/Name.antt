@@ -9,7 +9,7 @@ use lib.Seq.{take-all, take-nil}
 use borrow.Author.Tests.{eq-eqb, ne-eqb, le-leb, lt-leb}
 use Rattle.meaning.specs.Octets.{twoAt}
 use Rattle.meaning.specs.Wire.{rootLength, opaqueLength, rootIn, opaqueIn, firstEnd, isFilled}
-use Rattle.meaning_laws.specs.WireLaws.{end-more, end-there, filled-end, filled-there}
+use Rattle.meaning_laws.specs.WireLaws.{end-there, filled-end, filled-there}
 
 pub opaque-at : (e : List ℕ) (n k : ℕ) → n ≡ rootLength e → k ≡ twoAt e (4 + n) → k ≡ opaqueLength e
 unfolding opaqueLength

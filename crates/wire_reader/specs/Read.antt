@@ -6,7 +6,7 @@ use mathlib.Core.List.{List, _∷_}
 use lib.ListN.{length, take, drop}
 use lib.Dec.{ltb, eqb}
 use Rattle.meaning.specs.Octets.{pick, twoAt, fourAt, _when_else_}
-use Rattle.meaning.specs.Wire.{tlvs, isOverrun, found, bodyOf, Message, isSized, isKind, isLabel, messageRefusal, messageIn}
+use Rattle.meaning.specs.Wire.{tlvs, isOverrun, found, bodyOf, isSized, isKind, isLabel, messageRefusal, messageIn}
 use Rattle.wire_reader.specs.declared.Tlv.{Tlv}
 use Rattle.wire_reader.specs.declared.Tlv.the-variants.{Whole, End, Past}
 use Rattle.wire_reader.specs.declared.Read.{Read}

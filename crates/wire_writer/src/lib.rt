@@ -1,7 +1,7 @@
 // One record out: the mark, the neighbour, and an LDP message with a FEC and a Label TLV, numbered by the card's counter.
 ghost use mathlib.Core.Path.{_≡_};
-ghost use mathlib.Core.List.{[], _∷_, _++_};
-ghost use Prim.Native.Nat.{_+_, _≤_, _<_};
+ghost use mathlib.Core.List.{_∷_, _++_};
+ghost use Prim.Native.Nat.{_+_, _≤_};
 ghost use lib.ListN.{length};
 ghost use Rattle.meaning.specs.Octets.{two, four};
 ghost use Rattle.meaning.specs.Wire.{recordOf, recordSize, nextId};

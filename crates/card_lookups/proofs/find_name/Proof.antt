@@ -36,13 +36,14 @@ feed-at-requires c κs = search needs
 
 returns-2 : tie.Need-returns-2
 returns-2 c =
+    let the-if2 = c .before .before .before .before .if2 in
     let start = c .before .before .before .before .before .before .before .before .before .before .before .before in
     let the-element-refusal = c .before .before .before .before .before .before .before .before .element-refusal in
     let the-if1 = c .before .before .before .before .before .before .before .if1 in
     let the-tree-place = c .before .before .before .before .before .before .tree-place in
     let the-tree-count = c .before .before .before .before .before .tree-count in
     let via = c .before .before .route-of .ensures ∙ ap (λ (r : List ℕ). routeOf r (cardOf (start .args .numbers .now) (start .args .names .now))) (c .before .before .before .root-of .ensures) in
-    name-found _ _ _ _ _ _ (the-element-refusal .ensures) (the-if1 .left) (the-tree-place .ensures .0) (rw (the-tree-count .ensures .0) at (c .before .before .before .before .if2 .taken)) _ via (c .feed-at .ensures _)
+    name-found _ _ _ _ _ _ (the-element-refusal .ensures) (the-if1 .left) (the-tree-place .ensures .0) (rw (the-tree-count .ensures .0) at (the-if2 .taken)) _ via (c .feed-at .ensures _)
 
 no-feed-requires-2 : tie.Need-no-feed-requires-2
 no-feed-requires-2 c κs = search needs

@@ -2,7 +2,7 @@
 use Prim.Native.Nat.{_-_}
 use borrow.Author.Needs.{needs}
 use mathlib.Core.Path.{_≡_, refl}
-use lib.ListN.{length, length-set}
+use lib.ListN.{length}
 use Rattle.echo.proofs.fill.Statement.{statement}
 use Rattle.echo.proofs.fill.Tie as tie
 

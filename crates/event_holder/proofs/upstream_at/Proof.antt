@@ -1,5 +1,3 @@
-use Prim.Native.Nat.{ℕ}
-use mathlib.Core.List.{List}
 use borrow.Author.Needs.{needs}
 use Rattle.event_holder.proofs.upstream_at.Statement.{statement}
 use Rattle.event_holder.proofs.upstream_at.Tie as tie

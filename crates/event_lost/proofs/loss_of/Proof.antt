@@ -33,18 +33,23 @@ add-result c = search needs
 
 returns-3 : tie.Need-returns-3
 returns-3 c =
+    let the-held-for = c .before .before .before .before .before .before .held-for in
+    let the-if1 = c .before .before .before .before .before .if1 in
+    let the-if2 = c .before .before .before .before .if2 in
     let s = c .before .before .before .before .before .before .before .before .before in
-    let u = c .before .before .before .before .before .before .held-for .ensures .0 (s .args .names .now) in
-    let some = c .before .before .before .before .before .if1 .left in (
-      loss-ends _ _ _ _ u _ (c .before .before .before .is-leaf .ensures (s .args .names .now)) _ (c .before .before .holder-then .ensures (s .args .names .now)) (c .before .before .before .before .if2 .left) some (c .before .if3 .taken) (label-held _ _ _ (s .pre .3 .0) (λ z. some (u ∙ z))) _ (c .tree-name .ensures .0 (s .args .numbers .now) (s .pre .3 .0)),
+    let u = the-held-for .ensures .0 (s .args .names .now) in
+    let some = the-if1 .left in (
+      loss-ends _ _ _ _ u _ (c .before .before .before .is-leaf .ensures (s .args .names .now)) _ (c .before .before .holder-then .ensures (s .args .names .now)) (the-if2 .left) some (c .before .if3 .taken) (label-held _ _ _ (s .pre .3 .0) (λ z. some (u ∙ z))) _ (c .tree-name .ensures .0 (s .args .numbers .now) (s .pre .3 .0)),
       omega arith,
     )
 
 returns-4 : tie.Need-returns-4
 returns-4 c =
+    let the-held-for = c .before .before .before .before .before .held-for in
+    let the-if1 = c .before .before .before .before .if1 in
     let s = c .before .before .before .before .before .before .before .before in
-    let u = c .before .before .before .before .before .held-for .ensures .0 (s .args .names .now) in
-    (loss-stays _ _ _ _ u _ (c .before .before .is-leaf .ensures (s .args .names .now)) _ (c .before .holder-then .ensures (s .args .names .now)) (c .before .before .before .if2 .left) (c .before .before .before .before .if1 .left) (c .if3 .left), omega arith)
+    let u = the-held-for .ensures .0 (s .args .names .now) in
+    (loss-stays _ _ _ _ u _ (c .before .before .is-leaf .ensures (s .args .names .now)) _ (c .before .holder-then .ensures (s .args .names .now)) (c .before .before .before .if2 .left) (the-if1 .left) (c .if3 .left), omega arith)
 
 pub loss-of-spec : {M : Type 1} → statement M
 loss-of-spec =

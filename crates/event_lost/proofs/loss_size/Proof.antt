@@ -25,7 +25,9 @@ loop-holds : tie.Need-loop-holds Inv-loop μ-loop
 loop-holds c = (omega arith, omega arith, sym (sum-none _ _))
 
 loss-of-requires : tie.Need-loss-of-requires Inv-loop μ-loop
-loss-of-requires c κs = (c .before .before .before .before .before .pre .0, c .before .before .before .before .before .pre .1, c .before .before .before .before .before .pre .2, (omega (arith, c .before .before .tree-count .ensures .0), omega arith))
+loss-of-requires c κs =
+    let start = c .before .before .before .before .before in
+    (start .pre .0, start .pre .1, start .pre .2, (omega (arith, c .before .before .tree-count .ensures .0), omega arith))
 
 add-sum : tie.Need-add-sum Inv-loop μ-loop
 add-sum c = search needs

@@ -10,7 +10,10 @@ part-from-requires : tie.Need-part-from-requires
 part-from-requires c κs = search needs
 
 shed-all-requires : tie.Need-shed-all-requires
-shed-all-requires c κs = (search needs, search needs, loss-fits _ _ _ _ _ _ (c .before .before .before .before .before .before .before .part-from .ensures) (c .before .before .before .before .before .before .before .before .before .before .before .before .before .before .before .pre .3))
+shed-all-requires c κs =
+    let the-part-from = c .before .before .before .before .before .before .before .part-from in
+    let start = c .before .before .before .before .before .before .before .before .before .before .before .before .before .before .before in
+    (search needs, search needs, loss-fits _ _ _ _ _ _ (the-part-from .ensures) (start .pre .3))
 
 sweep-requires : tie.Need-sweep-requires
 sweep-requires c κs = search needs
@@ -28,7 +31,12 @@ same-length-3 : tie.Need-same-length-3
 same-length-3 c = search needs
 
 returns : tie.Need-returns
-returns c = lost-ends _ _ _ _ _ _ _ _ _ _ _ _ (c .before .before .before .before .before .before .before .before .before .before .before .before .before .before .before .before .before .before .before .before .before .before .before .before .before .before .next-id .ensures _) (c .before .before .before .before .before .before .before .before .before .before .before .before .before .before .before .before .before .before .before .before .before .before .before .part-from .ensures) (c .before .before .before .before .before .before .before .before .before .before .before .before .before .before .before .shed-all .ensures) (c .before .before .before .before .before .before .before .before .sweep .ensures) (c .before .before .set-next-id .ensures _)
+returns c =
+    let the-next-id = c .before .before .before .before .before .before .before .before .before .before .before .before .before .before .before .before .before .before .before .before .before .before .before .before .before .before .next-id in
+    let the-part-from = c .before .before .before .before .before .before .before .before .before .before .before .before .before .before .before .before .before .before .before .before .before .before .before .part-from in
+    let the-shed-all = c .before .before .before .before .before .before .before .before .before .before .before .before .before .before .before .shed-all in
+    let the-sweep = c .before .before .before .before .before .before .before .before .sweep in
+    lost-ends _ _ _ _ _ _ _ _ _ _ _ _ (the-next-id .ensures _) (the-part-from .ensures) (the-shed-all .ensures) (the-sweep .ensures) (c .before .before .set-next-id .ensures _)
 
 pub part-spec : {M : Type 1} → statement M
 part-spec =

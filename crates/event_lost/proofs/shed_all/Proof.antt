@@ -22,9 +22,10 @@ loop-holds c = (omega arith, refl, refl, shedding-none _ _ _ _)
 
 shed-one-requires : tie.Need-shed-one-requires Inv-loop μ-loop
 shed-one-requires c κs =
+    let the-tree-count = c .before .before .before .before .tree-count in
     let s = c .before .before .before .before .before .before .before .before .before in
     let v = c .before .before .before .loop .inv in
-    let h : c .before .before .before .loop .i < treeCount (s .args .numbers .now) = omega (arith, c .before .before .before .before .tree-count .ensures .0) in
+    let h : c .before .before .before .loop .i < treeCount (s .args .numbers .now) = omega (arith, the-tree-count .ensures .0) in
     (v .1 ∙ s .pre .0, s .pre .1, rw (v .2) (shedding-room _ _ _ _ _ _ _ _ _ h (v .3) _ (s .pre .2)), (shedding-in _ _ _ _ _ _ _ _ _ h (v .3), omega arith))
 
 add-i : tie.Need-add-i Inv-loop μ-loop
@@ -35,11 +36,14 @@ loop-less c = search needs
 
 loop-again : tie.Need-loop-again Inv-loop μ-loop
 loop-again c =
+    let the-loop = c .before .before .before .before .before .before .before .before .loop in
+    let the-tree-count = c .before .before .before .before .before .before .before .before .before .tree-count in
+    let the-shed-one = c .before .before .before .before .shed-one in
     let s = c .before .before .before .before .before .before .before .before .before .before .before .before .before .before in
-    let v = c .before .before .before .before .before .before .before .before .loop .inv in
-    let h : c .before .before .before .before .before .before .before .before .loop .i < treeCount (s .args .numbers .now) = omega (arith, c .before .before .before .before .before .before .before .before .before .tree-count .ensures .0) in
+    let v = the-loop .inv in
+    let h : the-loop .i < treeCount (s .args .numbers .now) = omega (arith, the-tree-count .ensures .0) in
     let room = shedding-room _ _ _ _ _ _ _ _ _ h (v .3) _ (s .pre .2) in
-    (omega arith, c .before .before .before .numbers .given ∙ v .1, c .before .out .given ∙ v .2, shedding-more _ _ _ _ _ _ _ _ _ h (v .3) _ _ _ _ (omega (arith, room)) (c .before .before .before .before .shed-one .ensures))
+    (omega arith, c .before .before .before .numbers .given ∙ v .1, c .before .out .given ∙ v .2, shedding-more _ _ _ _ _ _ _ _ _ h (v .3) _ _ _ _ (omega (arith, room)) (the-shed-one .ensures))
 
 same-length : tie.Need-same-length Inv-loop μ-loop
 same-length c = c .before .loop .inv .1

@@ -33,8 +33,11 @@ loop-less c = omega arith
 
 loop-again : tie.Need-loop-again Inv-loop μ-loop
 loop-again c =
-    let v = c .before .before .before .before .before .before .before .before .loop .inv in
-    (c .before .before .before .numbers .given ∙ v .0, c .before .names .given ∙ v .1, sweeping-more _ _ _ _ _ _ _ (c .before .before .before .before .before .before .before .loop-test .taken) (v .2) (c .before .before .before .before .sweep-one .ensures))
+    let the-loop = c .before .before .before .before .before .before .before .before .loop in
+    let the-loop-test = c .before .before .before .before .before .before .before .loop-test in
+    let the-sweep-one = c .before .before .before .before .sweep-one in
+    let v = the-loop .inv in
+    (c .before .before .before .numbers .given ∙ v .0, c .before .names .given ∙ v .1, sweeping-more _ _ _ _ _ _ _ (the-loop-test .taken) (v .2) (the-sweep-one .ensures))
 
 same-length : tie.Need-same-length Inv-loop μ-loop
 same-length c = c .before .loop .inv .0

@@ -16,7 +16,11 @@ same-length-2 : tie.Need-same-length-2
 same-length-2 c = search needs
 
 returns : tie.Need-returns
-returns c = swept-goes _ _ _ (c .before .before .before .before .before .before .before .before .is-empty .ensures _) (c .before .before .before .before .before .before .before .if1 .taken) _ (c .before .before .before .before .remove-tree .ensures)
+returns c =
+    let the-is-empty = c .before .before .before .before .before .before .before .before .is-empty in
+    let the-if1 = c .before .before .before .before .before .before .before .if1 in
+    let the-remove-tree = c .before .before .before .before .remove-tree in
+    swept-goes _ _ _ (the-is-empty .ensures _) (the-if1 .taken) _ (the-remove-tree .ensures)
 
 same-length-3 : tie.Need-same-length-3
 same-length-3 c = search needs

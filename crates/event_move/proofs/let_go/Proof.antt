@@ -32,8 +32,11 @@ same-length-3 c = search needs
 
 returns-2 : tie.Need-returns-2
 returns-2 c =
+    let the-if1 = c .before .before .before .before .before .before .before .if1 in
+    let the-tree-label = c .before .before .before .before .before .before .before .before .tree-label in
+    let the-give-up = c .before .before .before .before .give-up in
     let s = c .before .before .before .before .before .before .before .before .before .before .before .before .before in
-    rw (let-go-some (s .args .i) (cardOf (s .args .numbers .now) (s .args .names .now)) (λ z. c .before .before .before .before .before .before .before .if1 .left (c .before .before .before .before .before .before .before .before .tree-label .ensures _ ∙ z))) (c .before .before .before .before .give-up .ensures)
+    rw (let-go-some (s .args .i) (cardOf (s .args .numbers .now) (s .args .names .now)) (λ z. the-if1 .left (the-tree-label .ensures _ ∙ z))) (the-give-up .ensures)
 
 pub let-go-spec : {M : Type 1} → statement M
 let-go-spec =

@@ -14,8 +14,10 @@ let-go-requires c κs =
 
 take-up-requires : tie.Need-take-up-requires
 take-up-requires c κs =
+    let the-let-go = c .before .before .before .before .before .before .before .let-go in
+    let the-out = c .before .before .before .before .out in
     let s = c .before .before .before .before .before .before .before .before .before .before .before .before .before .before in
-    let w = c .before .before .before .before .before .before .before .let-go .ensures in (search needs, search needs, s .pre .2, s .pre .3, rw (w .1) (s .pre .4), rw (c .before .before .before .before .out .given) (room-then (s .args .i) (s .args .u) _ _ (s .args .names .now) _ _ _ _ _ _ (s .pre .6 .0) (s .pre .5) _ (w .0)), (rw (let-go-many (s .args .i) (s .args .u) _ _ (s .args .names .now) _ _ _ _ _ _ (s .pre .6 .0) (s .pre .5) (w .0)) (s .pre .6 .0), s .pre .6 .1))
+    let w = the-let-go .ensures in (search needs, search needs, s .pre .2, s .pre .3, rw (w .1) (s .pre .4), rw (the-out .given) (room-then (s .args .i) (s .args .u) _ _ (s .args .names .now) _ _ _ _ _ _ (s .pre .6 .0) (s .pre .5) _ (w .0)), (rw (let-go-many (s .args .i) (s .args .u) _ _ (s .args .names .now) _ _ _ _ _ _ (s .pre .6 .0) (s .pre .5) (w .0)) (s .pre .6 .0), s .pre .6 .1))
 
 same-length : tie.Need-same-length
 same-length c = search needs
@@ -29,9 +31,11 @@ same-length-3 c = search needs
 returns : tie.Need-returns
 unfolding moveLabel
 returns c =
+    let the-let-go = c .before .before .before .before .before .before .before .before .before .before .before .before .before .before .let-go in
+    let the-take-up = c .before .before .before .before .before .before .take-up in
     let s = c .before .before .before .before .before .before .before .before .before .before .before .before .before .before .before .before .before .before .before .before .before in
-    let w = c .before .before .before .before .before .before .before .before .before .before .before .before .before .before .let-go .ensures in
-    let v = c .before .before .before .before .before .before .take-up .ensures in (
+    let w = the-let-go .ensures in
+    let v = the-take-up .ensures in (
       wrote-then (letGo (s .args .i) (cardOf (s .args .numbers .now) (s .args .names .now))) (takeUp (s .args .i) (s .args .u)) _ _ _ _ _ _ _ _ _ _ _
           (room-first (s .args .i) (s .args .u) (s .args .numbers .now) (s .args .numbers .now) (s .args .names .now) (s .args .id) (s .args .at) (s .args .out .now) (s .args .out .now) 0 0 (s .pre .6 .0) (s .pre .5))
           (w .0) (v .0),

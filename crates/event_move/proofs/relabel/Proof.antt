@@ -23,9 +23,10 @@ returns c =
 
 move-label-requires : tie.Need-move-label-requires
 move-label-requires c κs =
+    let the-held-for = c .before .before .before .before .held-for in
     let s = c .before .before .before .before .before .before .before .before .before in
     let card : Card = cardOf (s .args .numbers .now) (s .args .names .now) in
-    let ne : heldFor card (treeAt (s .args .i) card) ≡ s .args .u → ⊥ = λ z. c .before .before .before .if1 .left (c .before .before .before .before .held-for .ensures .0 _ ∙ z) in
+    let ne : heldFor card (treeAt (s .args .i) card) ≡ s .args .u → ⊥ = λ z. c .before .before .before .if1 .left (the-held-for .ensures .0 _ ∙ z) in
     (s .pre .0, s .pre .1, s .pre .2, s .pre .3, omega (arith, s .pre .4, need-other _ _ _ ne), omega (arith, s .pre .5, resize-some _ _ _ ne), s .pre .6)
 
 same-length-2 : tie.Need-same-length-2
@@ -39,9 +40,12 @@ same-length-4 c = search needs
 
 returns-2 : tie.Need-returns-2
 returns-2 c =
+    let the-if1 = c .before .before .before .before .before .before .before .before .before .before .if1 in
+    let the-held-for = c .before .before .before .before .before .before .before .before .before .before .before .held-for in
+    let the-move-label = c .before .before .before .before .before .before .move-label in
     let s = c .before .before .before .before .before .before .before .before .before .before .before .before .before .before .before .before in
     let card : Card = cardOf (s .args .numbers .now) (s .args .names .now) in
-    rw (relabel-some (s .args .i) (s .args .u) card (λ z. c .before .before .before .before .before .before .before .before .before .before .if1 .left (c .before .before .before .before .before .before .before .before .before .before .before .held-for .ensures .0 _ ∙ z))) (c .before .before .before .before .before .before .move-label .ensures .0)
+    rw (relabel-some (s .args .i) (s .args .u) card (λ z. the-if1 .left (the-held-for .ensures .0 _ ∙ z))) (the-move-label .ensures .0)
 
 pub relabel-spec : {M : Type 1} → statement M
 relabel-spec =

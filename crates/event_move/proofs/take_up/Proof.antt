@@ -30,9 +30,11 @@ same-length-3 c = search needs
 
 returns-2 : tie.Need-returns-2
 returns-2 c =
+    let the-if1 = c .before .before .before .before .before .before .before .before .before .before .if1 in
+    let the-give = c .before .before .before .before .before .before .give in
     let s = c .before .before .before .before .before .before .before .before .before .before .before .before .before .before in
-    let ne = c .before .before .before .before .before .before .before .before .before .before .if1 .left in
-    rw (take-up-some (s .args .i) (s .args .u) (cardOf (s .args .numbers .now) (s .args .names .now)) ne, need-one (s .args .u) ne) (c .before .before .before .before .before .before .give .ensures)
+    let ne = the-if1 .left in
+    rw (take-up-some (s .args .i) (s .args .u) (cardOf (s .args .numbers .now) (s .args .names .now)) ne, need-one (s .args .u) ne) (the-give .ensures)
 
 pub take-up-spec : {M : Type 1} → statement M
 take-up-spec =

@@ -36,9 +36,11 @@ loop-less c = search needs
 
 loop-again : tie.Need-loop-again Inv-loop μ-loop
 loop-again c =
+    let the-loop = c .before .before .before .before .before .loop in
+    let the-tree-count = c .before .before .before .before .before .before .tree-count in
     let s = c .before .before .before .before .before .before .before .before .before .before in
-    let v = c .before .before .before .before .before .loop .inv in
-    let h : c .before .before .before .before .before .loop .i < length (cardOf (s .args .numbers .now) (s .args .names .now) .trees) = rw trees-length (omega (arith, c .before .before .before .before .before .before .tree-count .ensures .0)) in
+    let v = the-loop .inv in
+    let h : the-loop .i < length (cardOf (s .args .numbers .now) (s .args .names .now) .trees) = rw trees-length (omega (arith, the-tree-count .ensures .0)) in
     (omega arith, c .before .numbers .given ∙ v .1, ending-more _ _ _ _ _ h (v .2) (c .before .before .end-branch .ensures))
 
 same-length : tie.Need-same-length Inv-loop μ-loop

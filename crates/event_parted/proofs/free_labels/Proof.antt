@@ -19,7 +19,9 @@ loop-holds : tie.Need-loop-holds Inv-loop μ-loop
 loop-holds c = (omega arith, freed-none _ 0 _)
 
 free-word-requires : tie.Need-free-word-requires Inv-loop μ-loop
-free-word-requires c κs = (c .before .before .loop .inv .1 .long ∙ c .before .before .before .before .pre .0, search needs, c .before .before .before .before .pre .1)
+free-word-requires c κs =
+    let start = c .before .before .before .before in
+    (c .before .before .loop .inv .1 .long ∙ start .pre .0, search needs, start .pre .1)
 
 add-w : tie.Need-add-w Inv-loop μ-loop
 add-w c = search needs

@@ -14,7 +14,10 @@ same-length : tie.Need-same-length
 same-length c = search needs
 
 returns : tie.Need-returns
-returns c = freed-this _ _ _ _ (c .before .before .set-free .ensures .0) (c .before .before .set-free .ensures .1) (sym (c .before .before .before .before .before .is-of .ensures) ∙ c .before .before .before .before .if1 .taken)
+returns c =
+    let the-is-of = c .before .before .before .before .before .is-of in
+    let the-if1 = c .before .before .before .before .if1 in
+    freed-this _ _ _ _ (c .before .before .set-free .ensures .0) (c .before .before .set-free .ensures .1) (sym (the-is-of .ensures) ∙ the-if1 .taken)
 
 same-length-2 : tie.Need-same-length-2
 same-length-2 c = search needs

@@ -48,7 +48,8 @@ loop-less c = search needs
 
 loop-again : tie.Need-loop-again Inv-loop μ-loop
 loop-again c =
-    let v = c .before .before .before .before .before .loop .inv in
+    let the-loop = c .before .before .before .before .before .loop in
+    let v = the-loop .inv in
     (omega arith, omega arith, refl, freed-then _ _ _ _ _ _ _ (v .0) (omega arith) (v .3) (c .before .before .free-one .ensures))
 
 same-length-2 : tie.Need-same-length-2 Inv-loop μ-loop
@@ -56,8 +57,9 @@ same-length-2 c = c .before .loop .inv .3 .long
 
 returns-2 : tie.Need-returns-2 Inv-loop μ-loop
 returns-2 c =
+    let start = c .before .before .before .before .before .before in
     let v = c .before .loop .inv in
-    let w = c .before .before .before .before .before .before .args .w in
+    let w = start .args .w in
     let e : c .before .loop .p ≡ w * 64 + 64 = omega arith in
     rw e at (v .3)
 

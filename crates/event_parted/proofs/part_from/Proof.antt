@@ -19,7 +19,11 @@ same-length-2 : tie.Need-same-length-2
 same-length-2 c = search needs
 
 returns : tie.Need-returns
-returns c = all-gone _ _ _ _ _ (c .before .before .before .before .before .before .before .before .before .before .before .before .before .end-branches .ensures) (c .before .before .before .before .before .before .before .before .before .free-labels .ensures _) (c .before .before .before .before .end-routes .ensures)
+returns c =
+    let the-end-branches = c .before .before .before .before .before .before .before .before .before .before .before .before .before .end-branches in
+    let the-free-labels = c .before .before .before .before .before .before .before .before .before .free-labels in
+    let the-end-routes = c .before .before .before .before .end-routes in
+    all-gone _ _ _ _ _ (the-end-branches .ensures) (the-free-labels .ensures _) (the-end-routes .ensures)
 
 pub part-from-spec : {M : Type 1} → statement M
 part-from-spec =

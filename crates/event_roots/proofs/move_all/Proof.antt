@@ -22,9 +22,11 @@ loop-holds c = (omega arith, refl, refl, refl, moving-none _ _ _ _ _ _)
 
 move-one-requires : tie.Need-move-one-requires Inv-loop μ-loop
 move-one-requires c κs =
+    let the-loop = c .before .before .before .before .loop in
+    let the-tree-count = c .before .before .before .before .before .tree-count in
     let s = c .before .before .before .before .before .before .before .before .before .before .before in
-    let v = c .before .before .before .before .loop .inv in
-    let h : c .before .before .before .before .loop .i < treeCount (s .args .numbers .now) = omega (arith, c .before .before .before .before .before .tree-count .ensures .0) in
+    let v = the-loop .inv in
+    let h : the-loop .i < treeCount (s .args .numbers .now) = omega (arith, the-tree-count .ensures .0) in
     (v .1 ∙ s .pre .0, v .2 ∙ s .pre .1, s .pre .2, s .pre .3, moving-need _ _ _ _ _ _ _ _ _ _ _ _ h (v .4) (s .pre .4), rw (v .3) (moving-room _ _ _ _ _ _ _ _ _ _ _ _ h (v .4) _ (s .pre .5)), (moving-in _ _ _ _ _ _ _ _ _ _ _ _ h (v .4), omega arith))
 
 add-i : tie.Need-add-i Inv-loop μ-loop
@@ -35,12 +37,16 @@ loop-less c = search needs
 
 loop-again : tie.Need-loop-again Inv-loop μ-loop
 loop-again c =
+    let the-loop = c .before .before .before .before .before .before .before .before .before .before .before .loop in
+    let the-move-one = c .before .before .before .before .before .before .move-one in
+    let the-tree-count = c .before .before .before .before .before .before .before .before .before .before .before .before .tree-count in
+    let the-numbers = c .before .before .before .before .before .numbers in
     let s = c .before .before .before .before .before .before .before .before .before .before .before .before .before .before .before .before .before .before in
-    let v = c .before .before .before .before .before .before .before .before .before .before .before .loop .inv in
-    let w = c .before .before .before .before .before .before .move-one .ensures in
-    let h : c .before .before .before .before .before .before .before .before .before .before .before .loop .i < treeCount (s .args .numbers .now) = omega (arith, c .before .before .before .before .before .before .before .before .before .before .before .before .tree-count .ensures .0) in
+    let v = the-loop .inv in
+    let w = the-move-one .ensures in
+    let h : the-loop .i < treeCount (s .args .numbers .now) = omega (arith, the-tree-count .ensures .0) in
     let room = moving-room _ _ _ _ _ _ _ _ _ _ _ _ h (v .4) _ (s .pre .5) in
-    (omega arith, c .before .before .before .before .before .numbers .given ∙ v .1, c .before .before .before .names .given ∙ v .2, c .before .out .given ∙ v .3, moving-more _ _ _ _ _ _ _ _ _ _ _ _ h (v .4) _ _ _ _ _ (omega (arith, room)) (w .0) (w .1))
+    (omega arith, the-numbers .given ∙ v .1, c .before .before .before .names .given ∙ v .2, c .before .out .given ∙ v .3, moving-more _ _ _ _ _ _ _ _ _ _ _ _ h (v .4) _ _ _ _ _ (omega (arith, room)) (w .0) (w .1))
 
 same-length : tie.Need-same-length Inv-loop μ-loop
 same-length c = c .before .loop .inv .1

@@ -1,4 +1,4 @@
-use mathlib.Core.Path.{sym, ap, _∙_}
+use mathlib.Core.Path.{sym, _∙_}
 use borrow.Author.Needs.{needs}
 use Rattle.event_roots.proofs.Roots.{moves-freely, moves-short, moves-tight, moves-well}
 use Rattle.event_roots.proofs.move_refusal.Statement.{statement}

@@ -25,7 +25,9 @@ loop-holds : tie.Need-loop-holds Inv-loop μ-loop
 loop-holds c = (omega arith, omega arith, omega arith, sym (sum-none _ _), sym (sum-none _ _))
 
 take-one-requires : tie.Need-take-one-requires Inv-loop μ-loop
-take-one-requires c κs = (c .before .before .before .before .before .before .pre .0, c .before .before .before .before .before .before .pre .1, (omega (arith, c .before .before .tree-count .ensures .0), omega arith))
+take-one-requires c κs =
+    let start = c .before .before .before .before .before .before in
+    (start .pre .0, start .pre .1, (omega (arith, c .before .before .tree-count .ensures .0), omega arith))
 
 add-labels : tie.Need-add-labels Inv-loop μ-loop
 add-labels c = search needs
@@ -41,8 +43,9 @@ loop-less c = search needs
 
 loop-again : tie.Need-loop-again Inv-loop μ-loop
 loop-again c =
+    let the-loop = c .before .before .before .before .loop in
     let t = c .before .before .take-one .ensures in
-    let v = c .before .before .before .before .loop .inv in
+    let v = the-loop .inv in
     (omega (arith, t .2), omega (arith, t .2), omega (arith, t .3), sum-next _ _ _ _ _ (v .3) (t .0), sum-next _ _ _ _ _ (v .4) (t .1))
 
 returns : tie.Need-returns Inv-loop μ-loop

@@ -19,7 +19,9 @@ move-size-requires c κs = search needs
 
 returns : tie.Need-returns
 returns c =
-    let ours = sym (c .before .before .before .if1 .taken) ∙ c .before .before .before .before .is-of-root .ensures _ (c .before .before .before .before .before .before .before .before .pre .2 .0) in (
+    let the-is-of-root = c .before .before .before .before .is-of-root in
+    let start = c .before .before .before .before .before .before .before .before in
+    let ours = sym (c .before .before .before .if1 .taken) ∙ the-is-of-root .ensures _ (start .pre .2 .0) in (
       sym (need-of _ _ _ ours ∙ ap needMove (sym (c .before .before .holder .ensures _)) ∙ need-none _ (c .if2 .taken)),
       c .before .move-size .ensures .0 ∙ ap (moveSize _) (c .before .before .holder .ensures _) ∙ sym (size-of _ _ _ ours),
       omega arith,
@@ -28,7 +30,9 @@ returns c =
 
 returns-2 : tie.Need-returns-2
 returns-2 c =
-    let ours = sym (c .before .before .before .if1 .taken) ∙ c .before .before .before .before .is-of-root .ensures _ (c .before .before .before .before .before .before .before .before .pre .2 .0) in (
+    let the-is-of-root = c .before .before .before .before .is-of-root in
+    let start = c .before .before .before .before .before .before .before .before in
+    let ours = sym (c .before .before .before .if1 .taken) ∙ the-is-of-root .ensures _ (start .pre .2 .0) in (
       sym (need-of _ _ _ ours ∙ ap needMove (sym (c .before .before .holder .ensures _)) ∙ need-one _ (c .if2 .left)),
       c .before .move-size .ensures .0 ∙ ap (moveSize _) (c .before .before .holder .ensures _) ∙ sym (size-of _ _ _ ours),
       omega arith,
@@ -37,7 +41,8 @@ returns-2 c =
 
 returns-3 : tie.Need-returns-3
 returns-3 c =
-    let other = sym (c .if1 .left) ∙ c .before .is-of-root .ensures (c .before .before .before .before .before .args .numbers .now) (c .before .before .before .before .before .pre .2 .0) in
+    let start = c .before .before .before .before .before in
+    let other = sym (c .if1 .left) ∙ c .before .is-of-root .ensures (start .args .numbers .now) (start .pre .2 .0) in
     (sym (need-not _ _ _ other), sym (size-not _ _ _ other), omega arith, omega arith)
 
 pub take-one-spec : {M : Type 1} → statement M

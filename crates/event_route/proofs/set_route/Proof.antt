@@ -20,7 +20,11 @@ same-length-2 : tie.Need-same-length-2
 same-length-2 c = search needs
 
 returns : tie.Need-returns
-returns c = c .before .before .before .before .remove-route .ensures ∙ gone-is _ _ _ (c .before .before .before .before .before .before .before .before .before .before .before .pre .7) (c .before .before .before .before .before .before .before .if1 .taken)
+returns c =
+    let the-remove-route = c .before .before .before .before .remove-route in
+    let start = c .before .before .before .before .before .before .before .before .before .before .before in
+    let the-if1 = c .before .before .before .before .before .before .before .if1 in
+    the-remove-route .ensures ∙ gone-is _ _ _ (start .pre .7) (the-if1 .taken)
 
 enter-route-requires : tie.Need-enter-route-requires
 enter-route-requires c κs =
@@ -35,7 +39,10 @@ same-length-4 : tie.Need-same-length-4
 same-length-4 c = search needs
 
 returns-2 : tie.Need-returns-2
-returns-2 c = c .before .before .before .before .enter-route .ensures ∙ put-is _ _ (c .before .before .before .before .before .before .before .if1 .left)
+returns-2 c =
+    let the-enter-route = c .before .before .before .before .enter-route in
+    let the-if1 = c .before .before .before .before .before .before .before .if1 in
+    the-enter-route .ensures ∙ put-is _ _ (the-if1 .left)
 
 pub set-route-spec : {M : Type 1} → statement M
 set-route-spec =

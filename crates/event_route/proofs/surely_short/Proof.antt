@@ -18,7 +18,9 @@ labels-short-requires : tie.Need-labels-short-requires
 labels-short-requires c κs = search needs
 
 returns-3 : tie.Need-returns-3
-returns-3 c = λ os. surely-some (cardOf (c .before .before .before .before .args .numbers .now) os) (c .before .before .before .before .args .via) (c .before .before .before .before .args .standing) (c .before .before .before .before .args .lone) _ (omega arith) (omega arith) (c .labels-short .ensures os)
+returns-3 c =
+    let start = c .before .before .before .before in
+    λ os. surely-some (cardOf (start .args .numbers .now) os) (start .args .via) (start .args .standing) (start .args .lone) _ (omega arith) (omega arith) (c .labels-short .ensures os)
 
 pub surely-short-spec : {M : Type 1} → statement M
 surely-short-spec =

@@ -19,7 +19,9 @@ same-length-3 : tie.Need-same-length-3
 same-length-3 c = search needs
 
 returns : tie.Need-returns
-returns c = ended-is _ _ _ _ _ _ _ _ _ (c .before .before .before .before .before .before .before .before .before .before .take-up .ensures .0) (c .before .before .set-next-id .ensures _)
+returns c =
+    let the-take-up = c .before .before .before .before .before .before .before .before .before .before .take-up in
+    ended-is _ _ _ _ _ _ _ _ _ (the-take-up .ensures .0) (c .before .before .set-next-id .ensures _)
 
 pub grow-spec : {M : Type 1} → statement M
 grow-spec =

@@ -1,5 +1,3 @@
-use Prim.Native.Nat.{ℕ}
-use mathlib.Core.List.{List}
 use borrow.Author.Needs.{needs}
 use Rattle.memory.specs.Memory.{cardOf}
 use Rattle.event_tree.proofs.Upstream.{new-held, new-led}

@@ -15,7 +15,9 @@ any-branch-requires : tie.Need-any-branch-requires
 any-branch-requires c κs = search needs
 
 returns-2 : tie.Need-returns-2
-returns-2 c = λ os. none-left _ _ _ _ (branches-length _ os _ (c .before .before .before .before .pre .2 .0)) (c .any-branch .ensures os) (sym (c .before .before .is-leaf .ensures os) ∙ c .before .if1 .left)
+returns-2 c =
+    let start = c .before .before .before .before in
+    λ os. none-left _ _ _ _ (branches-length _ os _ (start .pre .2 .0)) (c .any-branch .ensures os) (sym (c .before .before .is-leaf .ensures os) ∙ c .before .if1 .left)
 
 pub less-empty-spec : {M : Type 1} → statement M
 less-empty-spec =

@@ -14,7 +14,10 @@ same-length : tie.Need-same-length
 same-length c = search needs
 
 returns : tie.Need-returns
-returns c = λ s. release-taken _ _ _ _ _ s (sym (c .before .before .before .before .before .is-awaited .ensures .0) ∙ c .before .before .before .before .if1 .taken) (c .before .before .free-label .ensures _)
+returns c =
+    let the-is-awaited = c .before .before .before .before .before .is-awaited in
+    let the-if1 = c .before .before .before .before .if1 in
+    λ s. release-taken _ _ _ _ _ s (sym (the-is-awaited .ensures .0) ∙ the-if1 .taken) (c .before .before .free-label .ensures _)
 
 same-length-2 : tie.Need-same-length-2
 same-length-2 c = search needs

@@ -59,7 +59,9 @@ same-length-6 : tie.Need-same-length-6
 same-length-6 c = search needs
 
 returns-2 : tie.Need-returns-2
-returns-2 c = c .before .before .before .before .withdraw-unknown .ensures
+returns-2 c =
+    let the-withdraw-unknown = c .before .before .before .before .withdraw-unknown in
+    the-withdraw-unknown .ensures
 
 pub withdraw-spec : {M : Type 1} → statement M
 withdraw-spec =

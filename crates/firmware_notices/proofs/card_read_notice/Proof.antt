@@ -19,7 +19,9 @@ returns c = rw (← c .before .before .before .read-notice .ensures, c .before .
 
 returns-2 : tie.Need-returns-2
 unfolding answerOf fieldsOf
-returns-2 c = rw (← c .before .before .before .before .read-notice .ensures, c .before .before .read2 .given .1) (refl, refl)
+returns-2 c =
+    let the-read-notice = c .before .before .before .before .read-notice in
+    rw (← the-read-notice .ensures, c .before .before .read2 .given .1) (refl, refl)
 
 pub card-read-notice-spec : {M : Type 1} → statement M
 card-read-notice-spec =

@@ -13,7 +13,9 @@ same-length-2 : tie.Need-same-length-2
 same-length-2 c = search needs
 
 returns : tie.Need-returns
-returns c = c .before .before .before .before .serve-core .ensures
+returns c =
+    let the-serve-core = c .before .before .before .before .serve-core in
+    the-serve-core .ensures
 
 pub card-serve-spec : {M : Type 1} → statement M
 card-serve-spec = tie.close (tie.spec serve-core-requires same-length same-length-2 returns)

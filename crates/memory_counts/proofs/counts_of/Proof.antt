@@ -1,6 +1,5 @@
 use native.Mathlib.Omega.{arith}
-use mathlib.Core.Path.{_≡_, sym, _∙_}
-use Rattle.meaning.specs.Card.{Tree}
+use mathlib.Core.Path.{sym, _∙_}
 use Rattle.memory_counts.proofs.Counting.{with-leaf, with-none, with-one, with-more}
 use Rattle.memory_counts.proofs.counts_of.Statement.{statement}
 use Rattle.memory_counts.proofs.counts_of.Tie as tie

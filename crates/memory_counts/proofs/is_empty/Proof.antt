@@ -14,7 +14,9 @@ any-branch-requires : tie.Need-any-branch-requires
 any-branch-requires c κs = search needs
 
 returns-2 : tie.Need-returns-2
-returns-2 c = λ os. empty-row _ os _ (c .before .before .before .before .pre .1 .0) _ (c .any-branch .ensures os) (sym (c .before .if1 .left) ∙ c .before .before .is-leaf .ensures os)
+returns-2 c =
+    let start = c .before .before .before .before in
+    λ os. empty-row _ os _ (start .pre .1 .0) _ (c .any-branch .ensures os) (sym (c .before .if1 .left) ∙ c .before .before .is-leaf .ensures os)
 
 pub is-empty-spec : {M : Type 1} → statement M
 is-empty-spec = tie.close (tie.spec is-leaf-requires returns any-branch-requires returns-2)

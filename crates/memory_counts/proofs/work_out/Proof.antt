@@ -45,10 +45,11 @@ loop-less c = search needs
 
 loop-again : tie.Need-loop-again Inv-loop μ-loop
 loop-again c =
+    let the-tree-count = c .before .before .before .before .tree-count in
     let l = c .before .before .before in
     let s = c .before .before .before .before .before .before .before .before in
     let card = cardOf (s .args .numbers .now) (s .args .names .now) in
-    let many = c .before .before .before .before .tree-count .ensures .0 in
+    let many = the-tree-count .ensures .0 in
     let within : l .loop .i < length (card .trees) = rw trees-length (omega arith) in
     let ours = c .before .is-of-root .ensures (s .args .numbers .now) (omega arith) in (
       omega arith,

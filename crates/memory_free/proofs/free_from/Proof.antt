@@ -1,5 +1,4 @@
 use native.Mathlib.Omega.{arith}
-use mathlib.Core.Path.{_∙_, sym}
 use lib.Count.{trailing-le}
 use Prim.Native.Nat.{_+_, _/_, _%_, _^_}
 use Rattle.meaning.specs.Lists.{positive}

@@ -25,14 +25,19 @@ shared-slice-read-result-4 : tie.Need-shared-slice-read-result-4
 shared-slice-read-result-4 c = search needs
 
 add-result-3 : tie.Need-add-result-3
-add-result-3 c = let few = few-in (c .before .before .before .before .args .numbers .now) (λ w. c .shared-slice-known4 .given (wordColumn + w) .fits) in omega (arith, few 0, few 1, few 2, few 3)
+add-result-3 c =
+    let start = c .before .before .before .before in
+    let few = few-in (start .args .numbers .now) (λ w. c .shared-slice-known4 .given (wordColumn + w) .fits) in omega (arith, few 0, few 1, few 2, few 3)
 
 cast-result : tie.Need-cast-result
-cast-result c = let few = few-in (c .before .before .before .before .args .numbers .now) (λ w. c .shared-slice-known4 .given (wordColumn + w) .fits) in omega (arith, few 0, few 1, few 2, few 3)
+cast-result c =
+    let start = c .before .before .before .before in
+    let few = few-in (start .args .numbers .now) (λ w. c .shared-slice-known4 .given (wordColumn + w) .fits) in omega (arith, few 0, few 1, few 2, few 3)
 
 returns : tie.Need-returns
 returns c =
-    let ns = c .before .before .before .before .args .numbers .now in
+    let start = c .before .before .before .before in
+    let ns = start .args .numbers .now in
     let few = few-in ns (λ w. c .shared-slice-known4 .given (wordColumn + w) .fits) in
     ((λ os. counted ns os (λ w. c .shared-slice-known4 .given (wordColumn + w) .fits)), omega (arith, few 0, few 1, few 2, few 3))
 

@@ -39,9 +39,10 @@ same-length-2 c = search needs
 
 returns : tie.Need-returns
 returns c =
+    let the-set-text = c .before .before .before .before .before .before .before .set-text in
     let s = c .before .before .before .before .before .before .before .before .before .before .before .before in
     let t = c .before .before .before .set-taken .ensures in
-    enter-use (s .args .numbers .now) _ (s .args .names .now) _ (s .args .name .now) (s .args .place) (s .args .n) _ (s .args .held) (s .pre .2) (s .pre .3) (s .pre .4) (c .before .before .before .before .before .before .before .set-text .ensures) (t .0) (t .1) (s .pre .0) (s .pre .5) (c .use-of .ensures .0)
+    enter-use (s .args .numbers .now) _ (s .args .names .now) _ (s .args .name .now) (s .args .place) (s .args .n) _ (s .args .held) (s .pre .2) (s .pre .3) (s .pre .4) (the-set-text .ensures) (t .0) (t .1) (s .pre .0) (s .pre .5) (c .use-of .ensures .0)
 
 pub enter-use-spec : {M : Type 1} → statement M
 enter-use-spec =

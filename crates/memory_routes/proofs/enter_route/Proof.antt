@@ -42,9 +42,11 @@ same-length-3 c = search needs
 
 returns-2 : tie.Need-returns-2
 returns-2 c =
+    let the-if1 = c .before .before .before .before .before .before .before .if1 in
+    let the-append-route = c .before .before .before .before .append-route in
     let m = c .before .before .before .before .before .before .before .before in
     let s = m .before .before .before .before .before in
-    add-route _ _ _ _ _ _ _ (s .pre .3) (m .route-count .ensures .0) (c .before .before .before .before .before .before .before .if1 .left) (c .before .before .before .before .append-route .ensures)
+    add-route _ _ _ _ _ _ _ (s .pre .3) (m .route-count .ensures .0) (the-if1 .left) (the-append-route .ensures)
 
 pub enter-route-spec : {M : Type 1} → statement M
 enter-route-spec =

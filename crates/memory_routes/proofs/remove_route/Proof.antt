@@ -45,9 +45,10 @@ same-length-2 c = search needs
 
 returns : tie.Need-returns
 returns c =
+    let the-close-numbers = c .before .before .before .before .before .before .close-numbers in
     let k = c .before .before .before .before .before .before .before .before in
     let s = k .before .before .before .before in
-    remove-route _ _ _ _ _ _ (s .pre .0) (k .route-count .ensures .0) (omega (arith, k .route-count .ensures .0, s .pre)) (c .before .before .before .before .before .before .close-numbers .ensures) (c .before .before .close-octets .ensures)
+    remove-route _ _ _ _ _ _ (s .pre .0) (k .route-count .ensures .0) (omega (arith, k .route-count .ensures .0, s .pre)) (the-close-numbers .ensures) (c .before .before .close-octets .ensures)
 
 pub remove-route-spec : {M : Type 1} → statement M
 remove-route-spec =

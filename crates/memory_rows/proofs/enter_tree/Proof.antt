@@ -46,9 +46,10 @@ same-length-2 c = search needs
 
 returns : tie.Need-returns
 returns c =
+    let the-clear = c .before .before .before .before .before .before .clear in
     let k = c .before .before .before .before .before .before .before .before in
     let s = k .before .before .before .before .before in
-    enter-tree _ _ _ _ _ _ (s .pre .0) (k .tree-count .ensures .0) (omega (arith, k .tree-count .ensures .0, s .pre)) (s .pre .3) (c .before .before .before .before .before .before .clear .ensures) (c .before .before .set-text .ensures)
+    enter-tree _ _ _ _ _ _ (s .pre .0) (k .tree-count .ensures .0) (omega (arith, k .tree-count .ensures .0, s .pre)) (s .pre .3) (the-clear .ensures) (c .before .before .set-text .ensures)
 
 pub enter-tree-spec : {M : Type 1} → statement M
 enter-tree-spec =

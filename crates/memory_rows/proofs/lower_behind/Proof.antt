@@ -19,7 +19,9 @@ add-loop : tie.Need-add-loop Inv-loop μ-loop
 add-loop c = omega arith
 
 lower-one-requires : tie.Need-lower-one-requires Inv-loop μ-loop
-lower-one-requires c κs = (c .before .before .loop .inv .2 .long ∙ c .before .before .before .before .pre .0, omega arith)
+lower-one-requires c κs =
+    let start = c .before .before .before .before in
+    (c .before .before .loop .inv .2 .long ∙ start .pre .0, omega arith)
 
 add-j : tie.Need-add-j Inv-loop μ-loop
 add-j c = omega arith

@@ -1,6 +1,4 @@
-use Prim.Native.Nat.{ℕ}
 use native.Mathlib.Omega.{arith}
-use mathlib.Core.List.{List}
 use borrow.Author.Needs.{needs}
 use Rattle.meaning.specs.Lists.{getD-out}
 use Rattle.meaning.specs.Card.{treeAt}

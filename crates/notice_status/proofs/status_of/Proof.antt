@@ -56,7 +56,9 @@ returns-9 : tie.Need-returns-9
 returns-9 c = let other = c .before .before .before .match .rest in status-ten _ (c .before .if2 .left) (c .if3 .taken) (other .0 .1) (other .1)
 
 returns-10 : tie.Need-returns-10
-returns-10 c = let other = c .before .before .before .before .match .rest in status-high _ (c .if4 .left) (other .0 .0 .1)
+returns-10 c =
+    let the-match = c .before .before .before .before .match in
+    let other = the-match .rest in status-high _ (c .if4 .left) (other .0 .0 .1)
 
 returns-11 : tie.Need-returns-11
 unfolding statusOf _when_else_

@@ -47,7 +47,9 @@ lay-eight-requires-2 : tie.Need-lay-eight-requires-2 Inv-loop μ-loop
 lay-eight-requires-2 c κs = search needs
 
 same-length-2 : tie.Need-same-length-2 Inv-loop μ-loop
-same-length-2 c = c .before .dst3 .given ∙ c .before .before .before .before .before .loop .inv .0
+same-length-2 c =
+    let the-loop = c .before .before .before .before .before .loop in
+    c .before .dst3 .given ∙ the-loop .inv .0
 
 returns-2 : tie.Need-returns-2 Inv-loop μ-loop
 returns-2 c =

@@ -54,7 +54,9 @@ copy-few-requires : tie.Need-copy-few-requires Inv-loop μ-loop
 copy-few-requires c κs = search needs
 
 same-length : tie.Need-same-length Inv-loop μ-loop
-same-length c = c .before .s2 .given ∙ c .before .before .before .before .before .loop .inv .1
+same-length c =
+    let the-loop = c .before .before .before .before .before .loop in
+    c .before .s2 .given ∙ the-loop .inv .1
 
 returns : tie.Need-returns Inv-loop μ-loop
 returns c =

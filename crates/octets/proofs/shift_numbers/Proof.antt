@@ -3,7 +3,6 @@ use native.Mathlib.Omega.{arith}
 use mathlib.Core.Path.{_≡_, refl, sym, ap, _∙_}
 use lib.ListN.{length, drop, getD, length-set, length-drop}
 use lib.Seq.{getD-drop}
-use borrow.Author.Needs.{needs}
 use Rattle.octets.proofs.Parts.{front, front-more, front-behind, shifted-done}
 use Rattle.octets.proofs.shift_numbers.Statement.{statement}
 use Rattle.octets.proofs.shift_numbers.Tie as tie

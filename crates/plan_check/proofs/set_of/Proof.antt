@@ -35,8 +35,9 @@ two-at-requires c κs = search needs
 
 returns : tie.Need-returns Inv-loop μ-loop
 returns c =
+    let start = c .before .before .before .before .before .before .before .before in
     let l = c .before .before .before .before in
-    let o = c .before .before .before .before .before .before .before .before .args .sets .now in
+    let o = start .args .sets .now in
     let i = l .before .loop .i in
     sym (l .before .loop .inv .1 ∙ set-hit _ i _ _ (set-there o i (l .loop-test .taken)) (sym (set-equal o (i * setSize) _ _ _ (c .before .before .before .root-at .ensures .0) (c .before .before .equal .ensures)) ∙ c .before .if1 .taken) ∙ sym (set-two o (i * setSize) _ (c .two-at .ensures .0)))
 
@@ -48,8 +49,9 @@ loop-less c = search needs
 
 loop-again : tie.Need-loop-again Inv-loop μ-loop
 loop-again c =
+    let start = c .before .before .before .before .before .before .before in
     let l = c .before .before .before in
-    let o = c .before .before .before .before .before .before .before .args .sets .now in
+    let o = start .args .sets .now in
     let i = l .before .loop .i in
     (omega arith, l .before .loop .inv .1 ∙ set-miss _ i _ _ (set-there o i (l .loop-test .taken)) (sym (set-equal o (i * setSize) _ _ _ (c .before .before .root-at .ensures .0) (c .before .equal .ensures)) ∙ c .if1 .left))
 

@@ -29,8 +29,9 @@ at-requires c κs = search needs
 
 returns : tie.Need-returns Inv-loop μ-loop
 returns c =
+    let start = c .before .before .before .before .before in
     let l = c .before .before in
-    let o = c .before .before .before .before .before .args .list .now in
+    let o = start .args .list .now in
     let i = l .before .loop .i in
     sym (l .before .loop .inv .1 ∙ all-miss _ i _ (entry-there o i (l .loop-test .taken)) isFound _ refl (not-found _ _ (entry-via o (i * entrySize) _ (c .before .at .ensures .0)) (c .if1 .taken)))
 
@@ -42,8 +43,9 @@ loop-less c = search needs
 
 loop-again : tie.Need-loop-again Inv-loop μ-loop
 loop-again c =
+    let start = c .before .before .before .before .before in
     let l = c .before .before in
-    let o = c .before .before .before .before .before .args .list .now in
+    let o = start .args .list .now in
     let i = l .before .loop .i in
     (omega arith, l .before .loop .inv .1 ∙ all-hit _ i _ (entry-there o i (l .loop-test .taken)) isFound _ refl (found _ _ (entry-via o (i * entrySize) _ (c .before .at .ensures .0)) (c .if1 .left)))
 

@@ -39,15 +39,17 @@ put-row-requires c κs = search needs
 
 same-length : tie.Need-same-length
 same-length c =
+    let the-open-row = c .before .before .before .before .before .before .open-row in
     let s = c .before .before .before .before .before .before .before .before .before .before .before .before in
-    let O = c .before .before .before .before .before .before .open-row .ensures in
+    let O = the-open-row .ensures in
     let p = c .before .before .before .before .before .before .before .before .row-place in
     put-long (p .result * entrySize) _ _ _ _ (c .before .before .put-row .ensures) (O .long) (omega (arith, s .pre .0, p .ensures .0))
 
 returns : tie.Need-returns
 returns c =
+    let the-open-row = c .before .before .before .before .before .before .open-row in
     let s = c .before .before .before .before .before .before .before .before .before .before .before .before in
-    let O = c .before .before .before .before .before .before .open-row .ensures in
+    let O = the-open-row .ensures in
     let q = c .before .before .before .before .before .before .before .before .row-place in
     let p = q .ensures in
     let u = c .before .before .put-row .ensures in

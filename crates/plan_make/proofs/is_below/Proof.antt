@@ -31,8 +31,9 @@ shared-slice-read-result-2 c = search needs
 
 returns : tie.Need-returns Inv-loop μ-loop
 returns c =
+    let start = c .before .before .before .before .before .before .before in
     let l = c .before .before .before .before .before in
-    sym (l .before .loop .inv .1 ∙ below-differ (c .before .before .before .before .before .before .before .args .a .now) (c .before .before .before .before .before .before .before .args .b .now) _ (l .loop-test .taken) (omega arith) (c .before .before .if1 .taken))
+    sym (l .before .loop .inv .1 ∙ below-differ (start .args .a .now) (start .args .b .now) _ (l .loop-test .taken) (omega arith) (c .before .before .if1 .taken))
 
 add-i : tie.Need-add-i Inv-loop μ-loop
 add-i c = search needs
@@ -42,8 +43,9 @@ loop-less c = search needs
 
 loop-again : tie.Need-loop-again Inv-loop μ-loop
 loop-again c =
+    let start = c .before .before .before .before .before in
     let l = c .before .before .before in
-    (omega arith, l .before .loop .inv .1 ∙ below-same (c .before .before .before .before .before .args .a .now) (c .before .before .before .before .before .args .b .now) _ (l .loop-test .taken) (omega arith) (c .if1 .left))
+    (omega arith, l .before .loop .inv .1 ∙ below-same (start .args .a .now) (start .args .b .now) _ (l .loop-test .taken) (omega arith) (c .if1 .left))
 
 returns-2 : tie.Need-returns-2 Inv-loop μ-loop
 returns-2 c = sym (c .before .loop .inv .1 ∙ below-end (c .before .before .args .a .now) (c .before .before .args .b .now) _ (c .loop-test .left) (omega arith))

@@ -47,13 +47,19 @@ put-front-requires c κs = search needs
 returns-2 : tie.Need-returns-2
 unfolding entriesOf
 returns-2 c =
-    let l = plan-listed _ _ _ (c .before .before .before .before .before .before .before .before .before .before .before .before .before .before .before .if1 .left) _ _ (c .before .before .before .before .before .before .before .before .before .before .before .propose .ensures .2) _ (c .before .before .before .before .before .is-plan .ensures) (c .before .before .before .before .if2 .taken) _ _ (c .put-front .ensures) in
-    ((l .0, l .1), (c .before .before .before .before .before .before .before .before .before .before .before .propose .ensures .1, l .2))
+    let the-if1 = c .before .before .before .before .before .before .before .before .before .before .before .before .before .before .before .if1 in
+    let the-propose = c .before .before .before .before .before .before .before .before .before .before .before .propose in
+    let the-is-plan = c .before .before .before .before .before .is-plan in
+    let the-if2 = c .before .before .before .before .if2 in
+    let l = plan-listed _ _ _ (the-if1 .left) _ _ (the-propose .ensures .2) _ (the-is-plan .ensures) (the-if2 .taken) _ _ (c .put-front .ensures) in
+    ((l .0, l .1), (the-propose .ensures .1, l .2))
 
 returns-3 : tie.Need-returns-3
 unfolding entriesOf
 returns-3 c =
-    let l = plan-none _ _ _ (c .before .before .before .before .before .before .before .before .before .before .before .if1 .left) _ _ (c .before .before .before .before .before .before .before .propose .ensures .2) _ (c .before .is-plan .ensures) (c .if2 .left) _ in
+    let the-if1 = c .before .before .before .before .before .before .before .before .before .before .before .if1 in
+    let the-propose = c .before .before .before .before .before .before .before .propose in
+    let l = plan-none _ _ _ (the-if1 .left) _ _ (the-propose .ensures .2) _ (c .before .is-plan .ensures) (c .if2 .left) _ in
     ((l .0, l .1), (omega arith, l .2))
 
 pub plan-spec : {M : Type 1} → statement M

@@ -23,7 +23,9 @@ route-count-requires : tie.Need-route-count-requires Inv-loop μ-loop
 route-count-requires c κs = search needs
 
 loop-holds : tie.Need-loop-holds Inv-loop μ-loop
-loop-holds c = (omega (arith, c .route-count .ensures .0), omega arith, c .before .before .before .before .before .pre .2, proposed-none _ _ _ _ _ _ (routes-end _ _ _ _ (c .route-count .ensures .0) (omega arith)))
+loop-holds c =
+    let start = c .before .before .before .before .before in
+    (omega (arith, c .route-count .ensures .0), omega arith, start .pre .2, proposed-none _ _ _ _ _ _ (routes-end _ _ _ _ (c .route-count .ensures .0) (omega arith)))
 
 sub-i : tie.Need-sub-i Inv-loop μ-loop
 sub-i c = search needs
@@ -39,7 +41,8 @@ choose-requires c κs = search needs
 
 insert-row-requires : tie.Need-insert-row-requires Inv-loop μ-loop
 insert-row-requires c κs =
-    let v = c .before .before .before .before .before .before .loop .inv in
+    let the-loop = c .before .before .before .before .before .before .loop in
+    let v = the-loop .inv in
     let k = c .choose .ensures .1 in
     (v .2, omega arith, root-short _ _ _ (c .before .before .root-name .ensures), omega arith)
 
@@ -51,11 +54,14 @@ loop-less c = search needs
 
 loop-again : tie.Need-loop-again Inv-loop μ-loop
 loop-again c =
+    let the-root-name = c .before .before .before .before .before .root-name in
+    let the-route-via = c .before .before .before .before .before .before .before .route-via in
+    let the-if1 = c .before .before .before .before .before .before .if1 in
     let l = c .before .before .before .before .before .before .before .before in
     let v = l .before .loop .inv in
     let e = l .before .before .route-count .ensures .0 in
     let w = c .before .before .insert-row .ensures in
-    (omega arith, omega arith, w .0, row-more _ _ _ _ _ _ (l .loop-test .taken) (route-there _ _ _ _ e (omega arith)) _ _ _ _ _ (route-root _ _ _ _ (c .before .before .before .before .before .root-name .ensures)) (c .before .before .before .choose .ensures .0) (c .before .before .before .before .before .before .before .route-via .ensures _) (c .before .before .before .before .before .before .if1 .taken) (w .1 _ (v .3)))
+    (omega arith, omega arith, w .0, row-more _ _ _ _ _ _ (l .loop-test .taken) (route-there _ _ _ _ e (omega arith)) _ _ _ _ _ (route-root _ _ _ _ (the-root-name .ensures)) (c .before .before .before .choose .ensures .0) (the-route-via .ensures _) (the-if1 .taken) (w .1 _ (v .3)))
 
 loop-less-2 : tie.Need-loop-less-2 Inv-loop μ-loop
 loop-less-2 c = search needs
@@ -68,7 +74,9 @@ loop-again-2 c =
     (omega arith, omega arith, v .2, row-none _ _ _ _ _ _ (l .loop-test .taken) (route-there _ _ _ _ e (omega arith)) _ _ _ (c .before .route-via .ensures _) (c .if1 .left) (v .3))
 
 same-length : tie.Need-same-length Inv-loop μ-loop
-same-length c = c .before .loop .inv .2 ∙ sym (c .before .before .before .before .before .before .before .pre .2)
+same-length c =
+    let start = c .before .before .before .before .before .before .before in
+    c .before .loop .inv .2 ∙ sym (start .pre .2)
 
 returns : tie.Need-returns Inv-loop μ-loop
 returns c =

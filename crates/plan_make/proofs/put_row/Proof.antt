@@ -38,8 +38,9 @@ same-length c = search needs
 
 returns : tie.Need-returns
 returns c =
+    let the-copy = c .before .before .before .before .before .before .copy in
     let s = c .before .before .before .before .before .before .before .before .before .before .before in
-    row-put (s .args .row .now) _ _ _ _ (s .pre .0) (s .pre .1) (c .before .before .before .before .before .before .copy .ensures) (c .before .before .put-space .ensures)
+    row-put (s .args .row .now) _ _ _ _ (s .pre .0) (s .pre .1) (the-copy .ensures) (c .before .before .put-space .ensures)
 
 pub put-row-spec : {M : Type 1} → statement M
 put-row-spec = tie.close (tie.spec cast-t5 sub-copy part-copy-start part-copy-end slice-aggregate-copy copy-requires sub-put-space part-put-space-start part-put-space-end put-space-requires same-length returns)

@@ -35,8 +35,9 @@ is-before-requires c κs = search needs
 
 returns : tie.Need-returns Inv-loop μ-loop
 returns c =
+    let start = c .before .before .before .before .before .before .before in
     let l = c .before .before .before in
-    let o = c .before .before .before .before .before .before .before .args .rows .now in
+    let o = start .args .rows .now in
     let i = l .before .loop .i in
     (omega arith, sym (l .before .loop .inv .1 ∙ place-hit _ _ i _ (row-there o _ i (l .loop-test .taken)) (sym (row-after o (i * entrySize) _ _ _ (entry-root o (i * entrySize) _ (c .before .before .root-at .ensures .0)) (c .before .is-before .ensures)) ∙ c .if1 .taken)))
 
@@ -48,8 +49,9 @@ loop-less c = search needs
 
 loop-again : tie.Need-loop-again Inv-loop μ-loop
 loop-again c =
+    let start = c .before .before .before .before .before .before .before in
     let l = c .before .before .before in
-    let o = c .before .before .before .before .before .before .before .args .rows .now in
+    let o = start .args .rows .now in
     let i = l .before .loop .i in
     (omega arith, l .before .loop .inv .1 ∙ place-miss _ _ i _ (row-there o _ i (l .loop-test .taken)) (sym (row-after o (i * entrySize) _ _ _ (entry-root o (i * entrySize) _ (c .before .before .root-at .ensures .0)) (c .before .is-before .ensures)) ∙ c .if1 .left))
 

@@ -20,7 +20,9 @@ tree-count-requires : tie.Need-tree-count-requires Inv-loop μ-loop
 tree-count-requires c κs = search needs
 
 loop-holds : tie.Need-loop-holds Inv-loop μ-loop
-loop-holds c = (omega arith, refl, working-none _ (c .before .before .before .before .pre .3))
+loop-holds c =
+    let start = c .before .before .before .before in
+    (omega arith, refl, working-none _ (start .pre .3))
 
 count-tree-requires : tie.Need-count-tree-requires Inv-loop μ-loop
 count-tree-requires c κs =
@@ -38,10 +40,12 @@ loop-less c = search needs
 
 loop-again : tie.Need-loop-again Inv-loop μ-loop
 loop-again c =
+    let the-loop = c .before .before .before .before .before .loop in
+    let the-tree-count = c .before .before .before .before .before .before .tree-count in
     let s = c .before .before .before .before .before .before .before .before .before .before in
-    let v = c .before .before .before .before .before .loop .inv in
-    let n = c .before .before .before .before .before .before .tree-count .ensures in
-    let h : c .before .before .before .before .before .loop .i < length (cardOf (s .args .numbers .now) (s .args .names .now) .trees) = rw trees-length (omega (arith, n .0)) in
+    let v = the-loop .inv in
+    let n = the-tree-count .ensures in
+    let h : the-loop .i < length (cardOf (s .args .numbers .now) (s .args .names .now) .trees) = rw trees-length (omega (arith, n .0)) in
     (omega arith, c .before .numbers .given ∙ v .1, working-more _ _ _ (v .2) _ h (rw trees-length (treeCount-le _)) (s .pre .2) (c .before .before .count-tree .ensures))
 
 same-length : tie.Need-same-length Inv-loop μ-loop

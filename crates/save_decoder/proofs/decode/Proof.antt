@@ -21,8 +21,11 @@ returns-2 c = ((λ t. absurd (never t)), (λ _. c .before .is-last .ensures .1 (
 
 read-rows-requires : tie.Need-read-rows-requires
 read-rows-requires c κs =
-    let h = c .before .before .before .before .before .is-head .ensures .0 (not-false _ (c .before .before .before .before .if1 .left)) in
-    (c .before .before .before .before .before .before .before .before .before .pre .0, c .before .before .before .before .before .before .before .before .before .pre .1, h .0, h .1, h .2, h .3)
+    let the-is-head = c .before .before .before .before .before .is-head in
+    let the-if1 = c .before .before .before .before .if1 in
+    let start = c .before .before .before .before .before .before .before .before .before in
+    let h = the-is-head .ensures .0 (not-false _ (the-if1 .left)) in
+    (start .pre .0, start .pre .1, h .0, h .1, h .2, h .3)
 
 names-once-requires : tie.Need-names-once-requires
 names-once-requires c κs = search needs
@@ -34,7 +37,9 @@ same-length-2 : tie.Need-same-length-2
 same-length-2 c = search needs
 
 returns-3 : tie.Need-returns-3
-returns-3 c = ((λ t. absurd (never t)), (λ _. names-not _ _ _ (c .before .before .before .before .before .before .before .before .read-rows .ensures .0) (sym (c .before .names-once .ensures) ∙ not-true _ (c .if3 .taken))))
+returns-3 c =
+    let the-read-rows = c .before .before .before .before .before .before .before .before .read-rows in
+    ((λ t. absurd (never t)), (λ _. names-not _ _ _ (the-read-rows .ensures .0) (sym (c .before .names-once .ensures) ∙ not-true _ (c .if3 .taken))))
 
 roots-once-requires : tie.Need-roots-once-requires
 roots-once-requires c κs = search needs
@@ -46,20 +51,29 @@ same-length-4 : tie.Need-same-length-4
 same-length-4 c = search needs
 
 returns-4 : tie.Need-returns-4
-returns-4 c = ((λ t. absurd (never t)), (λ _. roots-not _ _ _ (c .before .before .before .before .before .before .before .before .before .before .before .before .read-rows .ensures .0) (sym (c .before .roots-once .ensures) ∙ not-true _ (c .if4 .taken))))
+returns-4 c =
+    let the-read-rows = c .before .before .before .before .before .before .before .before .before .before .before .before .read-rows in
+    ((λ t. absurd (never t)), (λ _. roots-not _ _ _ (the-read-rows .ensures .0) (sym (c .before .roots-once .ensures) ∙ not-true _ (c .if4 .taken))))
 
 read-labels-requires : tie.Need-read-labels-requires
 read-labels-requires c κs =
+    let the-read-rows = c .before .before .before .before .before .before .before .before .before .before .before .before .before .before .read-rows in
+    let the-numbers = c .before .before .before .before .before .before .before .before .before .before .before .before .before .numbers in
+    let the-names = c .before .before .before .before .before .before .before .before .before .before .before .names in
+    let the-names-once = c .before .before .before .before .before .before .before .names-once in
+    let the-if3 = c .before .before .before .before .before .before .if3 in
+    let the-is-last = c .before .before .before .before .before .before .before .before .before .before .before .before .before .before .before .before .before .before .is-last in
+    let the-if2 = c .before .before .before .before .before .before .before .before .before .before .before .before .before .before .before .before .before .if2 in
     let s = c .before .before .before .before .before .before .before .before .before .before .before .before .before .before .before .before .before .before .before .before .before .before .before .before in
-    let r = c .before .before .before .before .before .before .before .before .before .before .before .before .before .before .read-rows .ensures in (
-      c .before .before .before .before .before .before .before .before .before .before .before .before .before .numbers .given ∙ s .pre .0,
-      c .before .before .before .before .before .before .before .before .before .before .before .names .given ∙ s .pre .1,
+    let r = the-read-rows .ensures in (
+      the-numbers .given ∙ s .pre .0,
+      the-names .given ∙ s .pre .1,
       r .2,
       r .1,
       r .0,
-      sym (c .before .before .before .before .before .before .before .names-once .ensures) ∙ not-false _ (c .before .before .before .before .before .before .if3 .left),
+      sym (the-names-once .ensures) ∙ not-false _ (the-if3 .left),
       sym (c .before .before .before .roots-once .ensures) ∙ not-false _ (c .before .before .if4 .left),
-      c .before .before .before .before .before .before .before .before .before .before .before .before .before .before .before .before .before .before .is-last .ensures .0 (not-false _ (c .before .before .before .before .before .before .before .before .before .before .before .before .before .before .before .before .before .if2 .left)),
+      the-is-last .ensures .0 (not-false _ (the-if2 .left)),
     )
 
 same-length-5 : tie.Need-same-length-5
@@ -70,8 +84,14 @@ same-length-6 c = search needs
 
 returns-5 : tie.Need-returns-5
 returns-5 c =
-    let once = read-once _ _ _ (c .before .before .before .before .before .before .before .before .before .before .before .before .before .before .before .before .before .before .before .read-rows .ensures .0) (sym (c .before .before .before .before .before .before .before .before .before .before .before .before .names-once .ensures) ∙ not-false _ (c .before .before .before .before .before .before .before .before .before .before .before .if3 .left)) (sym (c .before .before .before .before .before .before .before .before .roots-once .ensures) ∙ not-false _ (c .before .before .before .before .before .before .before .if4 .left)) in
-    ((λ _. (c .before .before .before .before .read-labels .ensures, once .0, once .1)), (λ t. absurd (never (sym t))))
+    let the-read-rows = c .before .before .before .before .before .before .before .before .before .before .before .before .before .before .before .before .before .before .before .read-rows in
+    let the-names-once = c .before .before .before .before .before .before .before .before .before .before .before .before .names-once in
+    let the-if3 = c .before .before .before .before .before .before .before .before .before .before .before .if3 in
+    let the-roots-once = c .before .before .before .before .before .before .before .before .roots-once in
+    let the-if4 = c .before .before .before .before .before .before .before .if4 in
+    let the-read-labels = c .before .before .before .before .read-labels in
+    let once = read-once _ _ _ (the-read-rows .ensures .0) (sym (the-names-once .ensures) ∙ not-false _ (the-if3 .left)) (sym (the-roots-once .ensures) ∙ not-false _ (the-if4 .left)) in
+    ((λ _. (the-read-labels .ensures, once .0, once .1)), (λ t. absurd (never (sym t))))
 
 pub decode-spec : {M : Type 1} → statement M
 decode-spec =

@@ -33,8 +33,10 @@ at-requires-2 c κs = search needs
 
 returns-5 : tie.Need-returns-5
 returns-5 c =
-    let b = c .before .before .before .before .before .before .before .four-at .ensures .0 in
-    let r = c .before .before .before .before .at .ensures .0 in
+    let the-four-at = c .before .before .before .before .before .before .before .four-at in
+    let the-at = c .before .before .before .before .at in
+    let b = the-four-at .ensures .0 in
+    let r = the-at .ensures .0 in
     let t = c .at2 .ensures .0 in
     ((λ e. let k = leb-true (c .at2 .result) treeLimit e in (omega arith, omega arith, omega arith, omega arith)), (λ e f. no-save f _ (λ h. omega (arith, h .trees, leb-false (c .at2 .result) 64 e))))
 

@@ -19,7 +19,9 @@ same-length : tie.Need-same-length
 same-length c = search needs
 
 returns : tie.Need-returns
-returns c = head-put _ _ _ (c .before .before .copy .ensures) (c .before .before .before .before .before .family .ensures)
+returns c =
+    let the-family = c .before .before .before .before .before .family in
+    head-put _ _ _ (c .before .before .copy .ensures) (the-family .ensures)
 
 pub put-element-head-spec : {M : Type 1} → statement M
 put-element-head-spec =

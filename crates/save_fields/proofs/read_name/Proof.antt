@@ -1,6 +1,5 @@
 -- `save_fields::read_name` meets its contract, in either form. Assumes nothing.
 use Rattle.save_fields.proofs.Read.{name-new, name-old}
-use native.Mathlib.Omega.{arith}
 use borrow.Author.Needs.{needs}
 use Rattle.save_fields.proofs.read_name.Statement.{statement}
 use Rattle.save_fields.proofs.read_name.Tie as tie
@@ -12,7 +11,9 @@ same-length : tie.Need-same-length
 same-length c = search needs
 
 returns : tie.Need-returns
-returns c = (name-new _ _ _ (c .before .before .before .before .if1 .taken) (c .before .before .read-whole .ensures .0), c .before .before .read-whole .ensures .1)
+returns c =
+    let the-if1 = c .before .before .before .before .if1 in
+    (name-new _ _ _ (the-if1 .taken) (c .before .before .read-whole .ensures .0), c .before .before .read-whole .ensures .1)
 
 read-spaces-requires : tie.Need-read-spaces-requires
 read-spaces-requires c κs = search needs
@@ -21,7 +22,9 @@ same-length-2 : tie.Need-same-length-2
 same-length-2 c = search needs
 
 returns-2 : tie.Need-returns-2
-returns-2 c = (name-old _ _ _ (c .before .before .before .before .if1 .left) (c .before .before .read-spaces .ensures .0), c .before .before .read-spaces .ensures .1)
+returns-2 c =
+    let the-if1 = c .before .before .before .before .if1 in
+    (name-old _ _ _ (the-if1 .left) (c .before .before .read-spaces .ensures .0), c .before .before .read-spaces .ensures .1)
 
 pub read-name-spec : {M : Type 1} → statement M
 read-name-spec =

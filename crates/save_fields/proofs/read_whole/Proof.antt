@@ -1,6 +1,5 @@
 -- `save_fields::read_whole` meets its contract. Assumes nothing.
 use Rattle.save_fields.proofs.Read.{whole-in}
-use native.Mathlib.Omega.{arith}
 use borrow.Author.Needs.{needs}
 use Rattle.save_fields.proofs.read_whole.Statement.{statement}
 use Rattle.save_fields.proofs.read_whole.Tie as tie
@@ -24,7 +23,10 @@ same-length : tie.Need-same-length
 same-length c = search needs
 
 returns : tie.Need-returns
-returns c = (whole-in (c .before .before .before .before .before .before .before .args .octets .now) _ (c .before .before .before .before .before .before .before .args .out .now) _ (c .before .before .before .before .before .before .before .args .at) (c .before .before .before .before .before .before .before .pre) (c .before .before .before .before .spaced .ensures .1) (c .before .before .copy-text .ensures) (c .before .before .before .before .spaced .ensures .0), c .before .before .before .before .spaced .ensures .1)
+returns c =
+    let start = c .before .before .before .before .before .before .before in
+    let the-spaced = c .before .before .before .before .spaced in
+    (whole-in (start .args .octets .now) _ (start .args .out .now) _ (start .args .at) (start .pre) (the-spaced .ensures .1) (c .before .before .copy-text .ensures) (the-spaced .ensures .0), the-spaced .ensures .1)
 
 pub read-whole-spec : {M : Type 1} → statement M
 read-whole-spec =

@@ -44,8 +44,9 @@ part-result-end-2 c = search needs
 
 returns-2 : tie.Need-returns-2
 returns-2 c =
+    let the-if1 = c .before .before .before .before .if1 in
     let s = c .before .before .before .before .before .before in
-    spaced-at (s .args .octets .now) (s .args .at) (s .args .n) _ _ _ (c .before .before .before .before .if1 .left) (c .before .before .before .at .ensures .0) (c .before .before .at-most .ensures .0) (c .before .at-most2 .ensures .0)
+    spaced-at (s .args .octets .now) (s .args .at) (s .args .n) _ _ _ (the-if1 .left) (c .before .before .before .at .ensures .0) (c .before .before .at-most .ensures .0) (c .before .at-most2 .ensures .0)
 
 pub spaced-spec : {M : Type 1} → statement M
 spaced-spec =

@@ -51,22 +51,25 @@ returns-3 c =
 
 attach-requires : tie.Need-attach-requires
 attach-requires c κs =
+    let the-tree-count = c .before .before .before .before .before .tree-count in
+    let the-if2 = c .before .before .before .before .if2 in
     let k = c .before .before .before .before .before .before .before in
     let m = k .before .before .before .before in
     let s = m .before .before .before .before .before in
-    let n = c .before .before .before .before .before .tree-count .ensures in
-    (s .pre .0, s .pre .4, m .mapped-at .ensures .3 (k .before .before .before .if1 .left), none-has (s .args .numbers .now) (s .args .names .now) (s .args .p) (s .pre .6), (omega (arith, n .0, c .before .before .before .before .if2 .left), omega (arith, n, c .before .before .before .before .if2 .left)))
+    let n = the-tree-count .ensures in
+    (s .pre .0, s .pre .4, m .mapped-at .ensures .3 (k .before .before .before .if1 .left), none-has (s .args .numbers .now) (s .args .names .now) (s .args .p) (s .pre .6), (omega (arith, n .0, the-if2 .left), omega (arith, n, the-if2 .left)))
 
 same-length-4 : tie.Need-same-length-4
 same-length-4 c = search needs
 
 returns-4 : tie.Need-returns-4
 returns-4 c =
+    let the-if3 = c .before .before .before .before .if3 in
     let l = c .before .before .before .before .before in
     let k = l .before .before .before .before .before in
     let m = k .before .before .before .before in
     let s = m .before .before .before .before .before in
-    given-now (s .args .numbers .now) (s .args .names .now) (s .args .p) _ _ (m .mapped-at .ensures .3 (k .before .before .before .if1 .left)) (k .before .label-name .ensures) (zero-on _ _ _ (k .tagged-from .ensures .0)) (s .pre .5) _ (omega (arith, l .before .before .before .tree-count .ensures .0, l .before .before .if2 .left)) (sym (l .tree-label .ensures _) ∙ c .before .before .before .before .if3 .left) (c .before .before .attach .ensures _)
+    given-now (s .args .numbers .now) (s .args .names .now) (s .args .p) _ _ (m .mapped-at .ensures .3 (k .before .before .before .if1 .left)) (k .before .label-name .ensures) (zero-on _ _ _ (k .tagged-from .ensures .0)) (s .pre .5) _ (omega (arith, l .before .before .before .tree-count .ensures .0, l .before .before .if2 .left)) (sym (l .tree-label .ensures _) ∙ the-if3 .left) (c .before .before .attach .ensures _)
 
 pub give-label-spec : {M : Type 1} → statement M
 give-label-spec =

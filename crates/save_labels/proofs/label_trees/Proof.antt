@@ -22,13 +22,16 @@ tree-tags-requires : tie.Need-tree-tags-requires Inv-loop μ-loop
 tree-tags-requires c κs = search needs
 
 loop-holds : tie.Need-loop-holds Inv-loop μ-loop
-loop-holds c = (omega arith, refl, labelled-none _ _ (c .before .before .before .before .before .before .pre .2))
+loop-holds c =
+    let start = c .before .before .before .before .before .before in
+    (omega arith, refl, labelled-none _ _ (start .pre .2))
 
 slice-aggregate-give-label : tie.Need-slice-aggregate-give-label Inv-loop μ-loop
 slice-aggregate-give-label c = search needs
 
 give-label-requires : tie.Need-give-label-requires Inv-loop μ-loop
 give-label-requires c κs =
+    let the-tree-tags = c .before .before .before .before .before .tree-tags in
     let s = c .before .before .before .before .before .before .before .before .before .before in
     let l = c .before .before .before .loop in
     let h = c .before .before .loop-test .taken in
@@ -36,7 +39,7 @@ give-label-requires c κs =
       l .inv .1 ∙ s .pre .0,
       s .pre .1,
       search needs,
-      (λ j k. c .before .before .before .before .before .tree-tags .ensures j (omega (arith, many))),
+      (λ j k. the-tree-tags .ensures j (omega (arith, many))),
       h,
       labelled-once (s .args .numbers .now) (s .args .names .now) (l .p) _ (l .inv .2) (s .pre .3),
       labelled-alone (s .args .numbers .now) (s .args .names .now) (l .p) _ (l .inv .2) h,
@@ -50,9 +53,10 @@ loop-less c = search needs
 
 loop-again : tie.Need-loop-again Inv-loop μ-loop
 loop-again c =
+    let the-loop-test = c .before .before .before .before .before .loop-test in
     let l = c .before .before .before .before .before .before .loop in
     let s = c .before .before .before .before .before .before .before .before .before .before .before .before .before in
-    (omega arith, c .before .numbers .given ∙ l .inv .1, labelled-more (s .args .numbers .now) (s .args .names .now) (l .p) _ (l .inv .2) (c .before .before .before .before .before .loop-test .taken) _ (c .before .before .give-label .ensures))
+    (omega arith, c .before .numbers .given ∙ l .inv .1, labelled-more (s .args .numbers .now) (s .args .names .now) (l .p) _ (l .inv .2) (the-loop-test .taken) _ (c .before .before .give-label .ensures))
 
 same-length : tie.Need-same-length Inv-loop μ-loop
 same-length c = c .before .loop .inv .1

@@ -2,7 +2,7 @@
 use Rattle.save_labels.proofs.Labels.{rows-unlabelled, rows-uncounted, unlabelled-kept, once-kept, base-kept, block-kept, table-whole}
 use Rattle.memory.specs.Memory.{cardOf}
 use Rattle.meaning.specs.Card.{Card}
-use mathlib.Core.Path.{_≡_, refl, sym, ap, _∙_}
+use mathlib.Core.Path.{_∙_}
 use native.Mathlib.Omega.{arith}
 use borrow.Author.Needs.{needs}
 use Rattle.save_labels.proofs.read_labels.Statement.{statement}
@@ -12,24 +12,33 @@ two-at-requires : tie.Need-two-at-requires
 two-at-requires c κs = search needs
 
 read-uses-requires : tie.Need-read-uses-requires
-read-uses-requires c κs = (c .before .before .before .before .before .before .pre .0, c .before .before .before .before .before .before .pre .1, omega (arith, c .before .before .two-at .ensures .1), c .before .before .before .before .before .before .pre .2, rows-unlabelled _ (c .before .before .before .before .before .before .args .octets .now) _ (c .before .before .before .before .before .before .pre .4))
+read-uses-requires c κs =
+    let start = c .before .before .before .before .before .before in
+    (start .pre .0, start .pre .1, omega (arith, c .before .before .two-at .ensures .1), start .pre .2, rows-unlabelled _ (start .args .octets .now) _ (start .pre .4))
 
 label-trees-requires : tie.Need-label-trees-requires
 label-trees-requires c κs =
+    let the-numbers = c .before .before .before .before .before .numbers in
+    let the-read-uses = c .before .before .before .before .before .before .read-uses in
     let s = c .before .before .before .before .before .before .before .before .before .before .before .before .before in
     let card : Card = cardOf (s .args .numbers .now) (s .args .names .now) in
-    (c .before .before .before .before .before .numbers .given ∙ s .pre .0, c .before .before .before .names .given ∙ s .pre .1, unlabelled-kept card _ _ (rows-unlabelled _ (s .args .octets .now) card (s .pre .4)) (c .before .before .before .before .before .before .read-uses .ensures), once-kept card _ _ (s .pre .5) (c .before .before .before .before .before .before .read-uses .ensures))
+    (the-numbers .given ∙ s .pre .0, c .before .before .before .names .given ∙ s .pre .1, unlabelled-kept card _ _ (rows-unlabelled _ (s .args .octets .now) card (s .pre .4)) (the-read-uses .ensures), once-kept card _ _ (s .pre .5) (the-read-uses .ensures))
 
 settle-requires : tie.Need-settle-requires
 settle-requires c κs =
+    let the-read-uses = c .before .before .before .before .before .before .before .before .before .before .read-uses in
+    let the-numbers = c .before .before .before .before .before .before .before .before .before .numbers in
     let s = c .before .before .before .before .before .before .before .before .before .before .before .before .before .before .before .before .before in
-    let base = base-kept _ (s .args .octets .now) _ _ _ _ _ _ (s .pre .4) (c .before .before .before .before .before .before .before .before .before .before .read-uses .ensures) (c .before .before .before .label-trees .ensures) in
-    (c .before .before .numbers2 .given ∙ c .before .before .before .before .before .before .before .before .before .numbers .given ∙ s .pre .0, block-kept _ _ _ _ base (s .pre .7))
+    let base = base-kept _ (s .args .octets .now) _ _ _ _ _ _ (s .pre .4) (the-read-uses .ensures) (c .before .before .before .label-trees .ensures) in
+    (c .before .before .numbers2 .given ∙ the-numbers .given ∙ s .pre .0, block-kept _ _ _ _ base (s .pre .7))
 
 work-out-all-requires : tie.Need-work-out-all-requires
 work-out-all-requires c κs =
+    let the-read-uses = c .before .before .before .before .before .before .before .before .before .before .before .before .before .before .before .read-uses in
+    let the-label-trees = c .before .before .before .before .before .before .before .before .label-trees in
+    let the-settle = c .before .before .before .before .settle in
     let s = c .before .before .before .before .before .before .before .before .before .before .before .before .before .before .before .before .before .before .before .before .before .before in
-    let rows = rows-uncounted _ (s .args .octets .now) (cardOf (s .args .numbers .now) (s .args .names .now)) _ _ _ _ _ _ (s .pre .4) (c .before .before .before .before .before .before .before .before .before .before .before .before .before .before .before .read-uses .ensures) (c .before .before .before .before .before .before .before .before .label-trees .ensures) (c .before .before .before .before .settle .ensures _) (s .pre .6) in
+    let rows = rows-uncounted _ (s .args .octets .now) (cardOf (s .args .numbers .now) (s .args .names .now)) _ _ _ _ _ _ (s .pre .4) (the-read-uses .ensures) (the-label-trees .ensures) (the-settle .ensures _) (s .pre .6) in
     (search needs, search needs, rows .0, rows .1)
 
 same-length : tie.Need-same-length

@@ -24,8 +24,9 @@ same-length c = search needs
 
 returns : tie.Need-returns
 returns c =
+    let the-four-at = c .before .before .before .before .four-at in
     let s = c .before .before .before .before .before .before .before .before in
-    use-out (s .args .numbers .now) (s .args .names .now) (s .args .octets .now) (s .args .at) _ _ _ (c .before .place-of .ensures) (c .before .before .before .before .four-at .ensures .0) (c .before .before .base .ensures .0) _ (c .if1 .taken)
+    use-out (s .args .numbers .now) (s .args .names .now) (s .args .octets .now) (s .args .at) _ _ _ (c .before .place-of .ensures) (the-four-at .ensures .0) (c .before .before .base .ensures .0) _ (c .if1 .taken)
 
 add-read-name : tie.Need-add-read-name
 add-read-name c = search needs
@@ -71,6 +72,7 @@ same-length-3 c = search needs
 
 returns-2 : tie.Need-returns-2
 returns-2 c =
+    let the-enter-use = c .before .before .before .before .enter-use in
     let at-at2 = c .before .before .before .before .before .before .before .before .before in
     let at-at = at-at2 .before in
     let at-read-name = at-at .before .before in
@@ -79,7 +81,7 @@ returns-2 c =
     let at-four-at = at-base .before .before in
     let s = at-four-at .before .before .before .before in
     let z : at-read-name .read-name .result - 0 ≡ at-read-name .read-name .result = omega arith in
-    use-put (s .args .numbers .now) (s .args .names .now) (s .args .octets .now) (s .args .at) _ _ _ (at-place-of .place-of .ensures) (at-four-at .four-at .ensures .0) (at-base .base .ensures .0) _ _ _ _ _ (c .before .before .before .before .enter-use .ensures) (ap (λ x. eqb x 1) (at-at .at .ensures .0)) (ap (λ x. x % 16) (at-at2 .at2 .ensures .0)) (rw z (at-read-name .read-name .ensures .0))
+    use-put (s .args .numbers .now) (s .args .names .now) (s .args .octets .now) (s .args .at) _ _ _ (at-place-of .place-of .ensures) (at-four-at .four-at .ensures .0) (at-base .base .ensures .0) _ _ _ _ _ (the-enter-use .ensures) (ap (λ x. eqb x 1) (at-at .at .ensures .0)) (ap (λ x. x % 16) (at-at2 .at2 .ensures .0)) (rw z (at-read-name .read-name .ensures .0))
 
 pub read-use-spec : {M : Type 1} → statement M
 read-use-spec =

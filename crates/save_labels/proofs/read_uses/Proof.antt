@@ -7,7 +7,7 @@ use Rattle.meaning_save.specs.Save.{formOf, usesRead}
 use Rattle.meaning.specs.Card.{withLabels}
 use lib.ListN.{drop, length}
 use Prim.Native.Nat.{_+_, _*_, _-_, _≤_}
-use mathlib.Core.Path.{_≡_, refl, sym, ap, _∙_}
+use mathlib.Core.Path.{_≡_, refl, _∙_}
 use native.Mathlib.Omega.{arith}
 use Rattle.save_labels.proofs.read_uses.Statement.{statement}
 use Rattle.save_labels.proofs.read_uses.Tie as tie
@@ -30,7 +30,9 @@ read-use-requires c κs =
     (v .1 ∙ s .pre .0, v .2 ∙ s .pre .1, omega (arith, v .5), unlabelled-kept (cardOf (s .args .numbers .now) (s .args .names .now)) _ _ (s .pre .4) (v .3))
 
 add-extent-at : tie.Need-add-extent-at Inv-loop μ-loop
-add-extent-at c = omega (arith, c .before .before .before .before .before .before .before .before .loop .inv .5)
+add-extent-at c =
+    let the-loop = c .before .before .before .before .before .before .before .before .loop in
+    omega (arith, the-loop .inv .5)
 
 extent-at-requires : tie.Need-extent-at-requires Inv-loop μ-loop
 extent-at-requires c κs = search needs
@@ -39,7 +41,9 @@ add-at : tie.Need-add-at Inv-loop μ-loop
 add-at c = omega (arith, c .extent-at .ensures .1)
 
 add-at-2 : tie.Need-add-at-2 Inv-loop μ-loop
-add-at-2 c = omega (arith, c .extent-at .ensures .1, c .before .before .before .before .before .before .before .before .before .loop .inv .5)
+add-at-2 c =
+    let the-loop = c .before .before .before .before .before .before .before .before .before .loop in
+    omega (arith, c .extent-at .ensures .1, the-loop .inv .5)
 
 add-i : tie.Need-add-i Inv-loop μ-loop
 add-i c = search needs
@@ -49,11 +53,13 @@ loop-less c = search needs
 
 loop-again : tie.Need-loop-again Inv-loop μ-loop
 loop-again c =
+    let the-numbers = c .before .before .before .before .numbers in
+    let the-read-use = c .before .before .before .before .before .read-use in
     let s = c .before .before .before .before .before .before .before .before .before .before .before .before .before in
     let l = c .before .before .before .before .before .before .before .before .before .loop in
     let v = l .inv in
     let e = c .extent-at .ensures in
-    (omega arith, c .before .before .before .before .numbers .given ∙ v .1, c .before .before .names .given ∙ v .2, labels-more _ (cardOf (s .args .numbers .now) (s .args .names .now)) (s .args .octets .now) (s .args .from) (l .i) (l .at) _ _ (v .3) (v .4) (c .before .before .before .before .before .read-use .ensures), label-behind _ (cardOf (s .args .numbers .now) (s .args .names .now)) (s .args .octets .now) (s .args .from) (l .i) (l .at) _ (e .0) (v .4), omega (arith, v .5, e .1))
+    (omega arith, the-numbers .given ∙ v .1, c .before .before .names .given ∙ v .2, labels-more _ (cardOf (s .args .numbers .now) (s .args .names .now)) (s .args .octets .now) (s .args .from) (l .i) (l .at) _ _ (v .3) (v .4) (the-read-use .ensures), label-behind _ (cardOf (s .args .numbers .now) (s .args .names .now)) (s .args .octets .now) (s .args .from) (l .i) (l .at) _ (e .0) (v .4), omega (arith, v .5, e .1))
 
 same-length : tie.Need-same-length Inv-loop μ-loop
 same-length c = c .before .loop .inv .1
@@ -63,8 +69,9 @@ same-length-2 c = c .before .loop .inv .2
 
 returns : tie.Need-returns Inv-loop μ-loop
 returns c =
+    let start = c .before .before .before .before .before in
     let v = c .before .loop .inv in
-    let done : c .before .loop .i ≡ c .before .before .before .before .before .args .n = omega arith in
+    let done : c .before .loop .i ≡ start .args .n = omega arith in
     rw (← done) (v .3)
 
 pub read-uses-spec : {M : Type 1} → statement M

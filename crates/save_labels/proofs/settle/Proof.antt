@@ -14,7 +14,10 @@ same-length : tie.Need-same-length
 same-length c = search needs
 
 returns : tie.Need-returns
-returns c = λ os. settled-is (c .before .before .before .before .before .before .before .before .args .numbers .now) os _ (c .before .before .before .before .before .before .before .before .args .octets .now) _ _ (c .before .before .set-turn .ensures os) (c .before .before .before .before .turn-after .ensures os)
+returns c =
+    let start = c .before .before .before .before .before .before .before .before in
+    let the-turn-after = c .before .before .before .before .turn-after in
+    λ os. settled-is (start .args .numbers .now) os _ (start .args .octets .now) _ _ (c .before .before .set-turn .ensures os) (the-turn-after .ensures os)
 
 pub settle-spec : {M : Type 1} → statement M
 settle-spec = tie.close (tie.spec turn-after-requires set-turn-requires same-length returns)

@@ -17,15 +17,18 @@ four-at-requires : tie.Need-four-at-requires
 four-at-requires c κs = search needs
 
 returns-2 : tie.Need-returns-2
-returns-2 c = λ os. turn-none _ (c .before .before .before .before .before .args .octets .now) _ _ _ (not-false _ (c .before .before .if1 .left)) (c .before .four-at .ensures .0) (c .if2 .taken)
+returns-2 c =
+    let start = c .before .before .before .before .before in
+    λ os. turn-none _ (start .args .octets .now) _ _ _ (not-false _ (c .before .before .if1 .left)) (c .before .four-at .ensures .0) (c .if2 .taken)
 
 base-requires : tie.Need-base-requires
 base-requires c κs = search needs
 
 sub-result : tie.Need-sub-result
 sub-result c =
+    let start = c .before .before .before .before .before .before in
     let last = c .before .before .four-at .ensures .0 in
-    let p = c .before .before .before .before .before .before .pre .1 (not-false _ (c .before .before .before .if1 .left)) (λ z. c .before .if2 .left (last ∙ z)) in
+    let p = start .pre .1 (not-false _ (c .before .before .before .if1 .left)) (λ z. c .before .if2 .left (last ∙ z)) in
     omega (arith, p .0, last, c .base .ensures .0)
 
 add-result : tie.Need-add-result

@@ -10,7 +10,9 @@ is-taken-requires : tie.Need-is-taken-requires
 is-taken-requires c κs = search needs
 
 returns : tie.Need-returns
-returns c = moves-none _ _ _ (c .before .before .before .before .before .before .before .args .octets .now) (c .before .before .before .before .before .before .before .args .out .now) (sym (c .before .is-taken .ensures .0) ∙ not-true _ (c .if1 .taken))
+returns c =
+    let start = c .before .before .before .before .before .before .before in
+    moves-none _ _ _ (start .args .octets .now) (start .args .out .now) (sym (c .before .is-taken .ensures .0) ∙ not-true _ (c .if1 .taken))
 
 save-core-requires : tie.Need-save-core-requires
 save-core-requires c κs = search needs
@@ -20,9 +22,12 @@ same-length c = search needs
 
 returns-2 : tie.Need-returns-2
 returns-2 c =
-    let t = c .before .before .before .before .before .before .before .before .is-taken .ensures in
-    let e = not-false _ (c .before .before .before .before .before .before .before .if1 .left) in
-    moves-saved _ _ _ (c .before .before .before .before .before .before .before .before .before .before .before .before .before .before .args .octets .now) _ _ _ (c .before .before .before .before .before .before .before .before .before .before .before .before .before .before .args .out .now) _ (sym (t .0) ∙ e) (t .1 e) (c .before .before .save-core .ensures)
+    let the-is-taken = c .before .before .before .before .before .before .before .before .is-taken in
+    let the-if1 = c .before .before .before .before .before .before .before .if1 in
+    let start = c .before .before .before .before .before .before .before .before .before .before .before .before .before .before in
+    let t = the-is-taken .ensures in
+    let e = not-false _ (the-if1 .left) in
+    moves-saved _ _ _ (start .args .octets .now) _ _ _ (start .args .out .now) _ (sym (t .0) ∙ e) (t .1 e) (c .before .before .save-core .ensures)
 
 pub move-core-spec : {M : Type 1} → statement M
 move-core-spec =

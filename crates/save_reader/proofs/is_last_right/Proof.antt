@@ -14,7 +14,9 @@ free-labels-requires : tie.Need-free-labels-requires
 free-labels-requires c κs = search needs
 
 returns-2 : tie.Need-returns-2
-returns-2 c = λ os. right-none (c .before .before .before .before .args .numbers .now) os _ (c .before .before .turn .ensures .0 os) _ (c .before .if1 .left) (c .free-labels .ensures .0 os)
+returns-2 c =
+    let start = c .before .before .before .before in
+    λ os. right-none (start .args .numbers .now) os _ (c .before .before .turn .ensures .0 os) _ (c .before .if1 .left) (c .free-labels .ensures .0 os)
 
 pub is-last-right-spec : {M : Type 1} → statement M
 is-last-right-spec = tie.close (tie.spec turn-requires returns free-labels-requires returns-2)

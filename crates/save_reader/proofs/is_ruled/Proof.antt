@@ -16,7 +16,9 @@ is-last-right-requires : tie.Need-is-last-right-requires
 is-last-right-requires c κs = search needs
 
 returns-2 : tie.Need-returns-2
-returns-2 c = ruled-new _ _ (c .before .if2 .taken) (sym (c .before .before .before .keeps-rules .ensures) ∙ not-false _ (c .before .before .if1 .left)) _ (c .is-last-right .ensures (c .before .before .before .before .before .before .args .names .now))
+returns-2 c =
+    let start = c .before .before .before .before .before .before in
+    ruled-new _ _ (c .before .if2 .taken) (sym (c .before .before .before .keeps-rules .ensures) ∙ not-false _ (c .before .before .if1 .left)) _ (c .is-last-right .ensures (start .args .names .now))
 
 returns-3 : tie.Need-returns-3
 returns-3 c = ruled-old _ _ (c .if2 .left) (sym (c .before .before .keeps-rules .ensures) ∙ not-false _ (c .before .if1 .left))

@@ -10,7 +10,9 @@ use Rattle.save_reader.proofs.is_saved_as.Statement.{statement}
 use Rattle.save_reader.proofs.is_saved_as.Tie as tie
 
 write-save-requires : tie.Need-write-save-requires
-write-save-requires c κs = let s = c .before .before .before .before .before in (s .pre .0, s .pre .1, fits-spare _ _ _ (s .pre .3) (s .pre .2))
+write-save-requires c κs =
+    let the-before = c .before .before .before .before .before in
+    let s = the-before in (s .pre .0, s .pre .1, fits-spare _ _ _ (s .pre .3) (s .pre .2))
 
 sub-equal : tie.Need-sub-equal
 sub-equal c = search needs
@@ -32,8 +34,9 @@ same-length-1 c = search needs
 
 returns : tie.Need-returns
 returns c =
+    let the-write-save = c .before .before .before .before .before .write-save in
     let s = c .before .before .before .before .before .before .before .before .before .before .before in
-    let w = c .before .before .before .before .before .write-save .ensures in
+    let w = the-write-save .ensures in
     c .equal .ensures ∙ ap (λ x. same x (s .args .octets .now)) (over-front _ _ _ _ (w .0) (w .1))
 
 pub is-saved-as-spec : {M : Type 1} → statement M

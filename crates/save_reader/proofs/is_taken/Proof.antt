@@ -16,11 +16,14 @@ same-length-2 : tie.Need-same-length-2
 same-length-2 c = search needs
 
 returns : tie.Need-returns
-returns c = (sym (c .before .before .before .before .before .decode .ensures .1 (not-true _ (c .if1 .taken))), (λ t. absurd (never t)))
+returns c =
+    let the-decode = c .before .before .before .before .before .decode in
+    (sym (the-decode .ensures .1 (not-true _ (c .if1 .taken))), (λ t. absurd (never t)))
 
 is-ruled-requires : tie.Need-is-ruled-requires
 is-ruled-requires c κs =
-    let d = c .before .before .before .before .before .before .before .decode .ensures .0 (not-false _ (c .before .before .if1 .left)) in
+    let the-decode = c .before .before .before .before .before .before .before .decode in
+    let d = the-decode .ensures .0 (not-false _ (c .before .before .if1 .left)) in
     (search needs, search needs, rw (d .0) (d .1), rw (d .0) (d .2))
 
 same-length-3 : tie.Need-same-length-3
@@ -31,14 +34,18 @@ same-length-4 c = search needs
 
 returns-2 : tie.Need-returns-2
 returns-2 c =
+    let the-if1 = c .before .before .before .before .if1 in
     let at-decode = c .before .before .before .before .before .before .before .before .before in
-    let d = at-decode .decode .ensures .0 (not-false _ (c .before .before .before .before .if1 .left)) .0 in
+    let d = at-decode .decode .ensures .0 (not-false _ (the-if1 .left)) .0 in
     (sym (not-taken _ _ _ d (sym (c .before .is-ruled .ensures) ∙ not-true _ (c .if2 .taken))), (λ t. absurd (never t)))
 
 is-saved-as-requires : tie.Need-is-saved-as-requires
 is-saved-as-requires c κs =
-    let d = c .before .before .before .before .before .before .before .before .before .before .before .before .decode .ensures .0 (not-false _ (c .before .before .before .before .before .before .before .if1 .left)) .0 in
-    (search needs, search needs, search needs, read-keeps _ _ _ d (sym (c .before .before .before .before .is-ruled .ensures) ∙ not-false _ (c .before .before .before .if2 .left)))
+    let the-decode = c .before .before .before .before .before .before .before .before .before .before .before .before .decode in
+    let the-if1 = c .before .before .before .before .before .before .before .if1 in
+    let the-is-ruled = c .before .before .before .before .is-ruled in
+    let d = the-decode .ensures .0 (not-false _ (the-if1 .left)) .0 in
+    (search needs, search needs, search needs, read-keeps _ _ _ d (sym (the-is-ruled .ensures) ∙ not-false _ (c .before .before .before .if2 .left)))
 
 same-length-5 : tie.Need-same-length-5
 same-length-5 c = search needs
@@ -51,8 +58,12 @@ same-length-7 c = search needs
 
 returns-3 : tie.Need-returns-3
 returns-3 c =
-    let d = c .before .before .before .before .before .before .before .before .before .before .before .before .before .before .before .decode .ensures .0 (not-false _ (c .before .before .before .before .before .before .before .before .before .before .if1 .left)) .0 in
-    (taken _ _ _ _ d (sym (c .before .before .before .before .before .before .before .is-ruled .ensures) ∙ not-false _ (c .before .before .before .before .before .before .if2 .left)) (c .before .before .is-saved-as .ensures), (λ _. d))
+    let the-decode = c .before .before .before .before .before .before .before .before .before .before .before .before .before .before .before .decode in
+    let the-if1 = c .before .before .before .before .before .before .before .before .before .before .if1 in
+    let the-is-ruled = c .before .before .before .before .before .before .before .is-ruled in
+    let the-if2 = c .before .before .before .before .before .before .if2 in
+    let d = the-decode .ensures .0 (not-false _ (the-if1 .left)) .0 in
+    (taken _ _ _ _ d (sym (the-is-ruled .ensures) ∙ not-false _ (the-if2 .left)) (c .before .before .is-saved-as .ensures), (λ _. d))
 
 pub is-taken-spec : {M : Type 1} → statement M
 is-taken-spec =

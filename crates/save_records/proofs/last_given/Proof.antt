@@ -23,7 +23,9 @@ sub-result : tie.Need-sub-result
 sub-result c = search needs
 
 returns-2 : tie.Need-returns-2
-returns-2 c = λ os. last-some (c .before .before .before .before .args .numbers .now) os _ _ (c .base .ensures .0) (c .before .before .turn .ensures .0 os) (c .before .if1 .left)
+returns-2 c =
+    let start = c .before .before .before .before in
+    λ os. last-some (start .args .numbers .now) os _ _ (c .base .ensures .0) (c .before .before .turn .ensures .0 os) (c .before .if1 .left)
 
 pub last-given-spec : {M : Type 1} → statement M
 last-given-spec =

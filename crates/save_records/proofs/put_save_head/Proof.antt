@@ -110,8 +110,17 @@ same-length c = search needs
 returns : tie.Need-returns
 unfolding marked four two
 returns c =
-    let ns = c .before .before .before .before .before .before .before .before .before .before .before .before .before .before .before .before .args .numbers .now in
-    λ os. c .before .before .copy .ensures ∙ head-is _ ns os _ _ _ _ _ _ _ _ (c .before .before .before .before .before .before .before .before .before .head-kind .ensures) (c .before .before .before .before .before .before .before .before .before .before .before .before .before .base .ensures .0) (c .before .before .before .before .before .before .before .before .before .before .before .before .next-id .ensures os) (c .before .before .before .before .before .before .before .before .route-count .ensures .0) (c .before .before .before .before .before .before .before .tree-count .ensures .0) (c .before .before .before .before .before .before .before .before .before .before .free-labels .ensures .0 os) (c .before .before .before .before .before .before .before .before .before .before .before .last-given .ensures os) (c .before .before .before .before .before .before .head-size .ensures .0)
+    let start = c .before .before .before .before .before .before .before .before .before .before .before .before .before .before .before .before in
+    let the-head-kind = c .before .before .before .before .before .before .before .before .before .head-kind in
+    let the-base = c .before .before .before .before .before .before .before .before .before .before .before .before .before .base in
+    let the-next-id = c .before .before .before .before .before .before .before .before .before .before .before .before .next-id in
+    let the-route-count = c .before .before .before .before .before .before .before .before .route-count in
+    let the-tree-count = c .before .before .before .before .before .before .before .tree-count in
+    let the-free-labels = c .before .before .before .before .before .before .before .before .before .before .free-labels in
+    let the-last-given = c .before .before .before .before .before .before .before .before .before .before .before .last-given in
+    let the-head-size = c .before .before .before .before .before .before .head-size in
+    let ns = start .args .numbers .now in
+    λ os. c .before .before .copy .ensures ∙ head-is _ ns os _ _ _ _ _ _ _ _ (the-head-kind .ensures) (the-base .ensures .0) (the-next-id .ensures os) (the-route-count .ensures .0) (the-tree-count .ensures .0) (the-free-labels .ensures .0 os) (the-last-given .ensures os) (the-head-size .ensures .0)
 
 pub put-save-head-spec : {M : Type 1} → statement M
 put-save-head-spec =

@@ -64,8 +64,10 @@ same-length c = search needs
 returns : tie.Need-returns
 unfolding marked four
 returns c =
+    let the-copy = c .before .before .before .before .before .before .copy in
+    let the-use-kind = c .before .before .before .before .before .before .before .before .before .use-kind in
     let s = c .before .before .before .before .before .before .before .before .before .before .before .before in
-    state-put _ (s .args .label) (s .args .state) (s .args .neighbour) _ (s .args .name .now) (s .args .out .now) _ _ refl (s .pre .0) (c .before .before .before .before .before .before .copy .ensures ∙ ap (λ (k : ℕ). marked k (four (s .args .label) ++ (s .args .state ∷ s .args .neighbour ∷ []))) (c .before .before .before .before .before .before .before .before .before .use-kind .ensures)) (c .before .before .put-name .ensures)
+    state-put _ (s .args .label) (s .args .state) (s .args .neighbour) _ (s .args .name .now) (s .args .out .now) _ _ refl (s .pre .0) (the-copy .ensures ∙ ap (λ (k : ℕ). marked k (four (s .args .label) ++ (s .args .state ∷ s .args .neighbour ∷ []))) (the-use-kind .ensures)) (c .before .before .put-name .ensures)
 
 pub put-state-spec : {M : Type 1} → statement M
 put-state-spec =

@@ -45,7 +45,11 @@ same-length : tie.Need-same-length
 same-length c = search needs
 
 returns : tie.Need-returns
-returns c = tree-name-put _ _ _ (c .before .before .before .before .before .before .before .before .before .before .before .before .args .out .now) _ _ refl (c .before .before .before .before .before .before .before .before .before .before .before .before .pre) (c .before .before .before .before .before .before .copy .ensures ∙ ap (λ (k : ℕ). 0x4C ∷ 0x53 ∷ k ∷ []) (c .before .before .before .before .before .before .before .before .before .tree-kind .ensures)) (c .before .before .put-name .ensures)
+returns c =
+    let start = c .before .before .before .before .before .before .before .before .before .before .before .before in
+    let the-copy = c .before .before .before .before .before .before .copy in
+    let the-tree-kind = c .before .before .before .before .before .before .before .before .before .tree-kind in
+    tree-name-put _ _ _ (start .args .out .now) _ _ refl (start .pre) (the-copy .ensures ∙ ap (λ (k : ℕ). 0x4C ∷ 0x53 ∷ k ∷ []) (the-tree-kind .ensures)) (c .before .before .put-name .ensures)
 
 pub put-tree-name-spec : {M : Type 1} → statement M
 put-tree-name-spec =

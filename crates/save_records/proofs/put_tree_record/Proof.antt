@@ -31,32 +31,49 @@ part-put-tree-name-start : tie.Need-part-put-tree-name-start
 part-put-tree-name-start c = search needs
 
 part-put-tree-name-end : tie.Need-part-put-tree-name-end
-part-put-tree-name-end c = omega (arith, (c .name-size .ensures .0 ∙ ap (nameSize _) (c .before .tree-name .ensures .0 (c .before .before .before .before .before .args .numbers .now) (c .before .before .before .before .before .pre .3 .0))), c .before .before .before .before .before .pre .2)
+part-put-tree-name-end c =
+    let start = c .before .before .before .before .before in
+    omega (arith, (c .name-size .ensures .0 ∙ ap (nameSize _) (c .before .tree-name .ensures .0 (start .args .numbers .now) (start .pre .3 .0))), start .pre .2)
 
 put-tree-name-requires : tie.Need-put-tree-name-requires
 put-tree-name-requires c κs = search needs
 
 sub-put-tree-rest : tie.Need-sub-put-tree-rest
-sub-put-tree-rest c = omega (arith, (c .before .before .before .before .name-size .ensures .0 ∙ ap (nameSize _) (c .before .before .before .before .before .tree-name .ensures .0 (c .before .before .before .before .before .before .before .before .before .args .numbers .now) (c .before .before .before .before .before .before .before .before .before .pre .3 .0))), c .before .before .before .before .before .before .before .before .before .pre .2)
+sub-put-tree-rest c =
+    let the-name-size = c .before .before .before .before .name-size in
+    let the-tree-name = c .before .before .before .before .before .tree-name in
+    let start = c .before .before .before .before .before .before .before .before .before in
+    omega (arith, (the-name-size .ensures .0 ∙ ap (nameSize _) (the-tree-name .ensures .0 (start .args .numbers .now) (start .pre .3 .0))), start .pre .2)
 
 part-put-tree-rest-start : tie.Need-part-put-tree-rest-start
-part-put-tree-rest-start c = omega (arith, (c .before .before .before .before .name-size .ensures .0 ∙ ap (nameSize _) (c .before .before .before .before .before .tree-name .ensures .0 (c .before .before .before .before .before .before .before .before .before .args .numbers .now) (c .before .before .before .before .before .before .before .before .before .pre .3 .0))), c .before .before .before .before .before .before .before .before .before .pre .2)
+part-put-tree-rest-start c =
+    let the-name-size = c .before .before .before .before .name-size in
+    let the-tree-name = c .before .before .before .before .before .tree-name in
+    let start = c .before .before .before .before .before .before .before .before .before in
+    omega (arith, (the-name-size .ensures .0 ∙ ap (nameSize _) (the-tree-name .ensures .0 (start .args .numbers .now) (start .pre .3 .0))), start .pre .2)
 
 part-put-tree-rest-end : tie.Need-part-put-tree-rest-end
 part-put-tree-rest-end c = search needs
 
 put-tree-rest-requires : tie.Need-put-tree-rest-requires
-put-tree-rest-requires c κs = (search needs, omega (arith, (c .before .before .before .before .before .name-size .ensures .0 ∙ ap (nameSize _) (c .before .before .before .before .before .before .tree-name .ensures .0 (c .before .before .before .before .before .before .before .before .before .before .args .numbers .now) (c .before .before .before .before .before .before .before .before .before .before .pre .3 .0))), c .before .before .before .before .before .before .before .before .before .before .pre .2), search needs)
+put-tree-rest-requires c κs =
+    let the-name-size = c .before .before .before .before .before .name-size in
+    let the-tree-name = c .before .before .before .before .before .before .tree-name in
+    let start = c .before .before .before .before .before .before .before .before .before .before in
+    (search needs, omega (arith, (the-name-size .ensures .0 ∙ ap (nameSize _) (the-tree-name .ensures .0 (start .args .numbers .now) (start .pre .3 .0))), start .pre .2), search needs)
 
 same-length : tie.Need-same-length
 same-length c = search needs
 
 returns : tie.Need-returns
 returns c =
+    let the-tree-name = c .before .before .before .before .before .before .before .before .before .tree-name in
+    let the-name-size = c .before .before .before .before .before .before .before .before .name-size in
+    let the-put-tree-name = c .before .before .before .before .before .before .put-tree-name in
     let s = c .before .before .before .before .before .before .before .before .before .before .before .before .before in
     let ns = s .args .numbers .now in
     let os = s .args .names .now in
-    tree-put _ (treeAt (s .args .i) (cardOf ns os)) _ _ _ (s .args .out .now) _ _ (s .pre .2) (branches-length ns os (s .args .i) (s .pre .3 .0)) (c .before .before .before .before .before .before .before .before .before .tree-name .ensures .0 ns (s .pre .3 .0)) (c .before .before .before .before .before .before .before .before .name-size .ensures .0) refl (c .before .before .before .before .before .before .put-tree-name .ensures) (c .before .before .put-tree-rest .ensures os)
+    tree-put _ (treeAt (s .args .i) (cardOf ns os)) _ _ _ (s .args .out .now) _ _ (s .pre .2) (branches-length ns os (s .args .i) (s .pre .3 .0)) (the-tree-name .ensures .0 ns (s .pre .3 .0)) (the-name-size .ensures .0) refl (the-put-tree-name .ensures) (c .before .before .put-tree-rest .ensures os)
 
 pub put-tree-record-spec : {M : Type 1} → statement M
 put-tree-record-spec =

@@ -52,9 +52,11 @@ same-length c = search needs
 
 returns : tie.Need-returns
 returns c =
+    let the-leaf-octet = c .before .before .before .before .before .before .before .before .before .leaf-octet in
+    let the-copy = c .before .before .before .before .before .before .copy in
     let s = c .before .before .before .before .before .before .before .before .before .before .before .before in
     let ns = s .args .numbers .now in
-    λ os. tree-rest-put (treeAt (s .args .i) (cardOf ns os)) (s .args .out .now) _ _ _ (s .pre .1) (branches-length ns os (s .args .i) (s .pre .2 .0)) (c .before .before .before .before .before .before .before .before .before .leaf-octet .ensures os) (c .before .before .before .before .before .before .copy .ensures) (c .before .before .put-fours .ensures os)
+    λ os. tree-rest-put (treeAt (s .args .i) (cardOf ns os)) (s .args .out .now) _ _ _ (s .pre .1) (branches-length ns os (s .args .i) (s .pre .2 .0)) (the-leaf-octet .ensures os) (the-copy .ensures) (c .before .before .put-fours .ensures os)
 
 pub put-tree-rest-spec : {M : Type 1} → statement M
 put-tree-rest-spec =

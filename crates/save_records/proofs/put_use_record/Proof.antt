@@ -35,13 +35,17 @@ label-name-requires : tie.Need-label-name-requires
 label-name-requires c κs = search needs
 
 put-state-requires : tie.Need-put-state-requires
-put-state-requires c κs = (c .before .before .before .before .before .before .before .before .before .pre .4 ∙ ap (λ (a : List ℕ). useBeside + nameSize (formOf (c .before .before .before .before .before .before .before .before .before .args .second)) a) (sym (c .label-name .ensures)), search needs)
+put-state-requires c κs =
+    let start = c .before .before .before .before .before .before .before .before .before in
+    (start .pre .4 ∙ ap (λ (a : List ℕ). useBeside + nameSize (formOf (start .args .second)) a) (sym (c .label-name .ensures)), search needs)
 
 label-name-requires-2 : tie.Need-label-name-requires-2
 label-name-requires-2 c κs = search needs
 
 put-state-requires-2 : tie.Need-put-state-requires-2
-put-state-requires-2 c κs = (c .before .before .before .before .before .before .before .before .pre .4 ∙ ap (λ (a : List ℕ). useBeside + nameSize (formOf (c .before .before .before .before .before .before .before .before .args .second)) a) (sym (c .label-name2 .ensures)), search needs)
+put-state-requires-2 c κs =
+    let start = c .before .before .before .before .before .before .before .before in
+    (start .pre .4 ∙ ap (λ (a : List ℕ). useBeside + nameSize (formOf (start .args .second)) a) (sym (c .label-name2 .ensures)), search needs)
 
 same-length : tie.Need-same-length
 same-length c = search needs

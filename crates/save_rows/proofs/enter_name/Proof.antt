@@ -31,9 +31,10 @@ same-length-2 c = search needs
 
 returns : tie.Need-returns
 returns c =
+    let the-enter-tree = c .before .before .before .before .enter-tree in
     let at-read-name = c .before .before .before .before .before .before .before .before .before .before in
     let z : at-read-name .read-name .result - 0 ≡ at-read-name .read-name .result = omega arith in
-    rw (← at-read-name .read-name .ensures .0, ← z) (c .before .before .before .before .enter-tree .ensures)
+    rw (← at-read-name .read-name .ensures .0, ← z) (the-enter-tree .ensures)
 
 pub enter-name-spec : {M : Type 1} → statement M
 enter-name-spec =

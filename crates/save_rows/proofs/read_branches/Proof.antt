@@ -42,10 +42,12 @@ loop-less c = search needs
 
 loop-again : tie.Need-loop-again Inv-loop μ-loop
 loop-again c =
+    let the-loop-test = c .before .before .before .before .before .loop-test in
+    let the-four-at = c .before .before .before .before .four-at in
     let at-loop = c .before .before .before .before .before .before in
     let s = at-loop .before .before .before in
     let v = at-loop .loop .inv in
-    (omega arith, c .before .numbers .given ∙ v .1, (λ os. branched-more (s .args .numbers .now) os (s .args .octets .now) (s .args .at) (s .args .i) (s .pre .2 .0) _ _ _ _ (c .before .before .before .before .before .loop-test .taken) (v .2 os) (c .before .before .before .before .four-at .ensures .0) (c .before .before .set-branch .ensures os)))
+    (omega arith, c .before .numbers .given ∙ v .1, (λ os. branched-more (s .args .numbers .now) os (s .args .octets .now) (s .args .at) (s .args .i) (s .pre .2 .0) _ _ _ _ (the-loop-test .taken) (v .2 os) (the-four-at .ensures .0) (c .before .before .set-branch .ensures os)))
 
 same-length : tie.Need-same-length Inv-loop μ-loop
 same-length c = c .before .loop .inv .1

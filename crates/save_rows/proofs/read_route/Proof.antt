@@ -26,10 +26,11 @@ same-length-2 c = search needs
 
 returns : tie.Need-returns
 returns c =
+    let the-append-route = c .before .before .before .before .append-route in
     let at-at = c .before .before .before .before .before .before .before in
     let at-spaced = at-at .before in
     let s = at-spaced .before .before .before .before in
-    rw (← route-read (s .args .octets .now) _ (s .args .at) _ (at-spaced .spaced .ensures .0) (at-at .at .ensures .0)) (c .before .before .before .before .append-route .ensures)
+    rw (← route-read (s .args .octets .now) _ (s .args .at) _ (at-spaced .spaced .ensures .0) (at-at .at .ensures .0)) (the-append-route .ensures)
 
 pub read-route-spec : {M : Type 1} → statement M
 read-route-spec =

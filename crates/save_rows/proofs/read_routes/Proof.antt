@@ -39,10 +39,11 @@ loop-less c = search needs
 
 loop-again : tie.Need-loop-again Inv-loop μ-loop
 loop-again c =
+    let the-read-route = c .before .before .before .before .read-route in
     let at-loop = c .before .before .before .before .before .before .before .before in
     let s = at-loop .before .before .before .before in
     let v = at-loop .loop .inv in
-    (omega arith, c .before .before .before .numbers .given ∙ v .1, c .before .names .given ∙ v .2, routes-more (cardOf (s .args .numbers .now) (s .args .names .now)) (s .args .octets .now) (s .args .at) _ _ _ _ _ (v .3) (c .before .before .before .before .read-route .ensures))
+    (omega arith, c .before .before .before .numbers .given ∙ v .1, c .before .names .given ∙ v .2, routes-more (cardOf (s .args .numbers .now) (s .args .names .now)) (s .args .octets .now) (s .args .at) _ _ _ _ _ (v .3) (the-read-route .ensures))
 
 same-length : tie.Need-same-length Inv-loop μ-loop
 same-length c = c .before .loop .inv .1
@@ -52,8 +53,9 @@ same-length-2 c = c .before .loop .inv .2
 
 returns : tie.Need-returns Inv-loop μ-loop
 returns c =
+    let start = c .before .before .before .before .before in
     let v = c .before .loop .inv in
-    let e : c .before .loop .i ≡ c .before .before .before .before .before .args .n = omega arith in
+    let e : c .before .loop .i ≡ start .args .n = omega arith in
     rw (← e) (v .3)
 
 pub read-routes-spec : {M : Type 1} → statement M

@@ -30,9 +30,12 @@ at-requires c κs = search needs
 
 set-leaf-requires : tie.Need-set-leaf-requires
 set-leaf-requires c κs =
+    let the-tree-count = c .before .before .before .before .before .before .before .before .before .tree-count in
+    let the-numbers = c .before .before .before .before .before .numbers in
+    let the-enter-name = c .before .before .before .before .before .before .enter-name in
     let s = c .before .before .before .before .before .before .before .before .before .before .before .before .before .before in
-    let n = c .before .before .before .before .before .before .before .before .before .tree-count .ensures .0 in
-    (c .before .before .before .before .before .numbers .given ∙ s .pre .0, (omega (arith, entered (s .args .numbers .now) (s .args .names .now) _ _ _ (c .before .before .before .before .before .before .enter-name .ensures)), omega (arith, s .pre .2)))
+    let n = the-tree-count .ensures .0 in
+    (the-numbers .given ∙ s .pre .0, (omega (arith, entered (s .args .numbers .now) (s .args .names .now) _ _ _ (the-enter-name .ensures)), omega (arith, s .pre .2)))
 
 add-read-branches : tie.Need-add-read-branches
 add-read-branches c = search needs
@@ -42,9 +45,12 @@ add-read-branches-2 c = search needs
 
 read-branches-requires : tie.Need-read-branches-requires
 read-branches-requires c κs =
+    let the-tree-count = c .before .before .before .before .before .before .before .before .before .before .before .before .before .tree-count in
+    let the-numbers = c .before .before .before .before .before .before .before .before .before .numbers in
+    let the-enter-name = c .before .before .before .before .before .before .before .before .before .before .enter-name in
     let s = c .before .before .before .before .before .before .before .before .before .before .before .before .before .before .before .before .before .before in
-    let n = c .before .before .before .before .before .before .before .before .before .before .before .before .before .tree-count .ensures .0 in
-    (c .before .before .numbers2 .given ∙ c .before .before .before .before .before .before .before .before .before .numbers .given ∙ s .pre .0, omega (arith, s .pre .3, s .pre .5), (omega (arith, entered (s .args .numbers .now) (s .args .names .now) _ _ _ (c .before .before .before .before .before .before .before .before .before .before .enter-name .ensures), changed _ _ (s .args .names .now) _ _ (c .before .before .before .set-leaf .ensures (s .args .names .now))), omega (arith, s .pre .2)))
+    let n = the-tree-count .ensures .0 in
+    (c .before .before .numbers2 .given ∙ the-numbers .given ∙ s .pre .0, omega (arith, s .pre .3, s .pre .5), (omega (arith, entered (s .args .numbers .now) (s .args .names .now) _ _ _ (the-enter-name .ensures), changed _ _ (s .args .names .now) _ _ (c .before .before .before .set-leaf .ensures (s .args .names .now))), omega (arith, s .pre .2)))
 
 same-length : tie.Need-same-length
 same-length c = search needs
@@ -54,8 +60,12 @@ same-length-2 c = search needs
 
 returns : tie.Need-returns
 returns c =
+    let the-tree-count = c .before .before .before .before .before .before .before .before .before .before .before .before .before .before .before .before .tree-count in
+    let the-enter-name = c .before .before .before .before .before .before .before .before .before .before .before .before .before .enter-name in
+    let the-set-leaf = c .before .before .before .before .before .before .set-leaf in
+    let the-at = c .before .before .before .before .before .before .before .before .at in
     let s = c .before .before .before .before .before .before .before .before .before .before .before .before .before .before .before .before .before .before .before .before .before in
-    tree-made _ (s .args .octets .now) (s .args .at) (s .args .e) (s .pre .4) (cardOf (s .args .numbers .now) (s .args .names .now)) _ _ _ _ _ (c .before .before .before .before .before .before .before .before .before .before .before .before .before .before .before .before .tree-count .ensures .0 ∙ sym (trees-length _ _)) (c .before .before .before .before .before .before .before .before .before .before .before .before .before .enter-name .ensures) (c .before .before .before .before .before .before .set-leaf .ensures _) (ap (λ x. not (eqb x 0)) (c .before .before .before .before .before .before .before .before .at .ensures .0)) (c .before .before .read-branches .ensures _)
+    tree-made _ (s .args .octets .now) (s .args .at) (s .args .e) (s .pre .4) (cardOf (s .args .numbers .now) (s .args .names .now)) _ _ _ _ _ (the-tree-count .ensures .0 ∙ sym (trees-length _ _)) (the-enter-name .ensures) (the-set-leaf .ensures _) (ap (λ x. not (eqb x 0)) (the-at .ensures .0)) (c .before .before .read-branches .ensures _)
 
 pub read-tree-spec : {M : Type 1} → statement M
 read-tree-spec =

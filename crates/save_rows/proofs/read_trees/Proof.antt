@@ -6,7 +6,7 @@ use Rattle.meaning_save.specs.Save.{formOf, treesRead, treesEnd}
 use Rattle.meaning.specs.Card.{withTrees}
 use lib.ListN.{drop, length}
 use Prim.Native.Nat.{_+_, _*_, _-_, _≤_}
-use mathlib.Core.Path.{_≡_, refl, sym, ap, _∙_}
+use mathlib.Core.Path.{_≡_, refl, _∙_}
 use native.Mathlib.Omega.{arith}
 use Rattle.save_rows.proofs.read_trees.Statement.{statement}
 use Rattle.save_rows.proofs.read_trees.Tie as tie
@@ -30,15 +30,21 @@ extent-at-requires c κs = search needs
 
 read-tree-requires : tie.Need-read-tree-requires Inv-loop μ-loop
 read-tree-requires c κs =
+    let the-loop = c .before .before .before .before .loop in
     let s = c .before .before .before .before .before .before .before .before in
-    let v = c .before .before .before .before .loop .inv in
+    let v = the-loop .inv in
     (v .1 ∙ s .pre .0, v .2 ∙ s .pre .1, omega (arith, trees-room _ (cardOf (s .args .numbers .now) (s .args .names .now)) (s .args .octets .now) (s .args .from) _ _ _ (v .3)), omega (arith, v .5), c .before .before .extent-at .ensures .0, c .before .before .extent-at .ensures .1)
 
 add-at : tie.Need-add-at Inv-loop μ-loop
-add-at c = omega (arith, c .before .before .before .before .before .before .before .extent-at .ensures .1)
+add-at c =
+    let the-extent-at = c .before .before .before .before .before .before .before .extent-at in
+    omega (arith, the-extent-at .ensures .1)
 
 add-at-2 : tie.Need-add-at-2 Inv-loop μ-loop
-add-at-2 c = omega (arith, c .before .before .before .before .before .before .before .extent-at .ensures .1, c .before .before .before .before .before .before .before .before .before .loop .inv .5)
+add-at-2 c =
+    let the-extent-at = c .before .before .before .before .before .before .before .extent-at in
+    let the-loop = c .before .before .before .before .before .before .before .before .before .loop in
+    omega (arith, the-extent-at .ensures .1, the-loop .inv .5)
 
 add-i : tie.Need-add-i Inv-loop μ-loop
 add-i c = search needs
@@ -48,11 +54,13 @@ loop-less c = search needs
 
 loop-again : tie.Need-loop-again Inv-loop μ-loop
 loop-again c =
+    let the-extent-at = c .before .before .before .before .before .before .before .extent-at in
+    let the-read-tree = c .before .before .before .before .read-tree in
     let s = c .before .before .before .before .before .before .before .before .before .before .before .before .before in
     let l = c .before .before .before .before .before .before .before .before .before .loop in
     let v = l .inv in
-    let e = c .before .before .before .before .before .before .before .extent-at .ensures in
-    (omega arith, c .before .before .before .numbers .given ∙ v .1, c .before .names .given ∙ v .2, trees-more _ (cardOf (s .args .numbers .now) (s .args .names .now)) (s .args .octets .now) (s .args .from) (l .i) (l .at) _ _ _ _ (v .3) (v .4) (c .before .before .before .before .read-tree .ensures), tree-behind _ (s .args .octets .now) (l .at) _ (e .0) (l .i) (s .args .from) (v .4), omega (arith, v .5, e .1))
+    let e = the-extent-at .ensures in
+    (omega arith, c .before .before .before .numbers .given ∙ v .1, c .before .names .given ∙ v .2, trees-more _ (cardOf (s .args .numbers .now) (s .args .names .now)) (s .args .octets .now) (s .args .from) (l .i) (l .at) _ _ _ _ (v .3) (v .4) (the-read-tree .ensures), tree-behind _ (s .args .octets .now) (l .at) _ (e .0) (l .i) (s .args .from) (v .4), omega (arith, v .5, e .1))
 
 same-length : tie.Need-same-length Inv-loop μ-loop
 same-length c = c .before .loop .inv .1
@@ -62,8 +70,9 @@ same-length-2 c = c .before .loop .inv .2
 
 returns : tie.Need-returns Inv-loop μ-loop
 returns c =
+    let start = c .before .before .before .before .before in
     let v = c .before .loop .inv in
-    let done : c .before .loop .i ≡ c .before .before .before .before .before .args .n = omega arith in
+    let done : c .before .loop .i ≡ start .args .n = omega arith in
     rw (← done) (v .3, v .4, v .5)
 
 pub read-trees-spec : {M : Type 1} → statement M

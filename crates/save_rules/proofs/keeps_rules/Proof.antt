@@ -24,13 +24,14 @@ held-right-requires c κs = search needs
 
 returns : tie.Need-returns
 returns c =
+    let the-trees-good = c .before .before .before .before .trees-good in
     let r = c .before .before .before .before .before in
     let s = r .before .before .before in
     kept _ (s .args .names .now) _ _ _ _ _ _
     (s .pre .2)
     (s .pre .3)
     (r .routes-good .ensures)
-    (c .before .before .before .before .trees-good .ensures)
+    (the-trees-good .ensures)
     (c .before .before .before .uses-good .ensures)
     (c .before .before .all-carried .ensures _ (s .pre .2))
     (c .before .own-labels .ensures)

@@ -1,6 +1,6 @@
 use mathlib.Core.Path.{ap, _∙_}
 use borrow.Author.Needs.{needs}
-use Rattle.meaning_save.specs.Save.{formOf, isShort, isShortTree}
+use Rattle.meaning_save.specs.Save.{isShort, isShortTree}
 use Rattle.save_spaces.proofs.is_short_tree.Statement.{statement}
 use Rattle.save_spaces.proofs.is_short_tree.Tie as tie
 

@@ -1,6 +1,6 @@
 use mathlib.Core.Path.{sym, ap, _∙_}
 use borrow.Author.Needs.{needs}
-use Rattle.meaning_save.specs.Save.{formOf, isShort}
+use Rattle.meaning_save.specs.Save.{isShort}
 use Rattle.save_spaces.proofs.Spaces.{free-short, used-short}
 use Rattle.save_spaces.proofs.is_short_use.Statement.{statement}
 use Rattle.save_spaces.proofs.is_short_use.Tie as tie

@@ -13,7 +13,9 @@ shared-slice-read-if1 : tie.Need-shared-slice-read-if1
 shared-slice-read-if1 c = search needs
 
 returns : tie.Need-returns
-returns c = let s = c .before .before .before .before .before in sym (tag-tells (s .args .name .now) _ _ _ (s .pre .3) (s .pre .4) (c .if1 .taken))
+returns c =
+    let the-before = c .before .before .before .before .before in
+    let s = the-before in sym (tag-tells (s .args .name .now) _ _ _ (s .pre .3) (s .pre .4) (c .if1 .taken))
 
 tree-name-requires : tie.Need-tree-name-requires
 tree-name-requires c κs = search needs
@@ -22,7 +24,9 @@ equal-requires : tie.Need-equal-requires
 equal-requires c κs = search needs
 
 returns-2 : tie.Need-returns-2
-returns-2 c = c .equal .ensures ∙ ap (λ x. same x (c .before .before .before .before .before .before .before .args .name .now)) (c .before .tree-name .ensures .2)
+returns-2 c =
+    let start = c .before .before .before .before .before .before .before in
+    c .equal .ensures ∙ ap (λ x. same x (start .args .name .now)) (c .before .tree-name .ensures .2)
 
 pub is-named-spec : {M : Type 1} → statement M
 is-named-spec =

@@ -42,8 +42,10 @@ tree-name-requires c κs = search needs
 
 tagged-from-requires : tie.Need-tagged-from-requires Inv-loop μ-loop
 tagged-from-requires c κs =
-    let n = c .before .before .before .before .tree-count .ensures in
-    (search needs, search needs, search needs, c .before .before .before .before .before .before .tree-tags .ensures, omega (arith, n .0, c .before .before .loop-test .taken))
+    let the-tree-count = c .before .before .before .before .tree-count in
+    let the-tree-tags = c .before .before .before .before .before .before .tree-tags in
+    let n = the-tree-count .ensures in
+    (search needs, search needs, search needs, the-tree-tags .ensures, omega (arith, n .0, c .before .before .loop-test .taken))
 
 returns : tie.Need-returns Inv-loop μ-loop
 returns c =

@@ -27,7 +27,9 @@ tag-requires : tie.Need-tag-requires Inv-loop μ-loop
 tag-requires c κs = search needs
 
 loop-holds : tie.Need-loop-holds Inv-loop μ-loop
-loop-holds c = (omega (arith, c .before .before .before .before .before .before .pre .4, c .before .tree-count .ensures .0), trees-from _ _ _ _ _ (c .before .tree-count .ensures .0))
+loop-holds c =
+    let start = c .before .before .before .before .before .before in
+    (omega (arith, start .pre .4, c .before .tree-count .ensures .0), trees-from _ _ _ _ _ (c .before .tree-count .ensures .0))
 
 is-named-requires : tie.Need-is-named-requires Inv-loop μ-loop
 is-named-requires c κs =

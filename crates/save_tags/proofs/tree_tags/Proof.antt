@@ -1,7 +1,7 @@
 -- `save_tags::tree_tags` meets its contract: the invariant is that the first i names are tagged. Assumes nothing.
 use Prim.Native.Nat.{_-_, _≤_}
 use native.Mathlib.Omega.{arith}
-use mathlib.Core.Path.{_≡_, refl, sym, ap, _∙_}
+use mathlib.Core.Path.{_≡_, refl, ap, _∙_}
 use lib.ListN.{length, length-set}
 use borrow.Author.Needs.{needs}
 use Rattle.save_tags.specs.Tags.{tagOf, Tagged}
@@ -32,9 +32,10 @@ mul-tags c = search needs
 
 slice-write-tags : tie.Need-slice-write-tags Inv-loop μ-loop
 slice-write-tags c =
+    let the-tree-count = c .before .before .before .before .tree-count in
     let l = c .before .before .before .loop in
     let s = c .before .before .before .before .before .before .before .before in
-    omega (arith, l .inv .1, s .pre .2, c .before .before .before .before .tree-count .ensures)
+    omega (arith, l .inv .1, s .pre .2, the-tree-count .ensures)
 
 add-i : tie.Need-add-i Inv-loop μ-loop
 add-i c = search needs
@@ -44,9 +45,10 @@ loop-less c = search needs
 
 loop-again : tie.Need-loop-again Inv-loop μ-loop
 loop-again c =
+    let the-tree-count = c .before .before .before .before .tree-count in
     let l = c .before .before .before .loop in
     let s = c .before .before .before .before .before .before .before .before in
-    (omega arith, simp length-set (l .inv .1), tagged-more (l .tags) (s .args .names .now) (l .i) _ (l .inv .2) (omega (arith, l .inv .1, s .pre .2, c .before .before .before .before .tree-count .ensures)) (c .tag .ensures ∙ ap tagOf (c .before .tree-name .ensures .2)))
+    (omega arith, simp length-set (l .inv .1), tagged-more (l .tags) (s .args .names .now) (l .i) _ (l .inv .2) (omega (arith, l .inv .1, s .pre .2, the-tree-count .ensures)) (c .tag .ensures ∙ ap tagOf (c .before .tree-name .ensures .2)))
 
 same-length : tie.Need-same-length Inv-loop μ-loop
 same-length c = c .before .loop .inv .1

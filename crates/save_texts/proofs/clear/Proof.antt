@@ -1,7 +1,7 @@
 -- `save_texts::clear` meets its contract: zeros from the front. Assumes nothing.
-use Prim.Native.Nat.{ℕ, _+_, _-_, _≤_, _<_}
+use Prim.Native.Nat.{_-_, _≤_, _<_}
 use native.Mathlib.Omega.{arith}
-use mathlib.Core.Path.{_≡_, refl, sym, ap, _∙_}
+use mathlib.Core.Path.{_≡_, refl, sym}
 use lib.ListN.{length, length-set, replicate, length-replicate, getD-replicate}
 use Rattle.octets.proofs.Parts.{front, front-more, copy-done}
 use Rattle.save_texts.proofs.clear.Statement.{statement}

@@ -23,8 +23,9 @@ part-result-end c = search needs
 
 returns : tie.Need-returns
 returns c =
+    let start = c .before .before .before .before in
     let n = c .before .before .root-length in
-    opaque-none (c .before .before .before .before .args .name .now) (n .result) (n .ensures .0) (omega arith)
+    opaque-none (start .args .name .now) (n .result) (n .ensures .0) (omega arith)
 
 sub-result-2 : tie.Need-sub-result-2
 sub-result-2 c = search needs

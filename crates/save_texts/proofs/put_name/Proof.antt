@@ -22,7 +22,9 @@ returns c =
     name-new _ _ _ _ (p .before .before .before .if1 .taken) (p .before .before .fitting .ensures .0) (p .put-space .ensures)
 
 put-spaces-requires : tie.Need-put-spaces-requires
-put-spaces-requires c κs = room-old _ _ _ (c .before .if1 .left) (c .before .before .before .before .pre)
+put-spaces-requires c κs =
+    let start = c .before .before .before .before in
+    room-old _ _ _ (c .before .if1 .left) (start .pre)
 
 same-length-2 : tie.Need-same-length-2
 same-length-2 c = search needs

@@ -1,6 +1,5 @@
 -- `save_texts::put_padded` meets its contract: zeros, and the text over their front. Assumes nothing.
 use borrow.Author.Needs.{needs}
-use native.Mathlib.Omega.{arith}
 use Rattle.save_texts.proofs.Texts.{padded-put}
 use Rattle.save_texts.proofs.put_padded.Statement.{statement}
 use Rattle.save_texts.proofs.put_padded.Tie as tie

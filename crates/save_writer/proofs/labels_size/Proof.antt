@@ -6,7 +6,7 @@ use Rattle.meaning.specs.Card.{labelCount}
 use lib.ListN.{length}
 use Prim.Native.Nat.{_+_, _*_, _-_, _≤_}
 use Rattle.save_writer.proofs.Saved.{labelRow, labels-rows, sum-none, sum-more, sum-done}
-use mathlib.Core.Path.{_≡_, refl, sym, ap, _∙_}
+use mathlib.Core.Path.{_≡_}
 use native.Mathlib.Omega.{arith}
 use Rattle.save_writer.proofs.labels_size.Statement.{statement}
 use Rattle.save_writer.proofs.labels_size.Tie as tie

@@ -20,7 +20,9 @@ route-count-requires : tie.Need-route-count-requires Inv-loop μ-loop
 route-count-requires c κs = search needs
 
 loop-holds : tie.Need-loop-holds Inv-loop μ-loop
-loop-holds c = let a = c .before .before .before .before .args in rows-none (routes-lot (a .numbers .now) (a .names .now) (a .from) (a .out .now) (c .before .before .before .before .pre .2))
+loop-holds c =
+    let start = c .before .before .before .before in
+    let a = start .args in rows-none (routes-lot (a .numbers .now) (a .names .now) (a .from) (a .out .now) (start .pre .2))
 
 add-e : tie.Need-add-e Inv-loop μ-loop
 add-e c =

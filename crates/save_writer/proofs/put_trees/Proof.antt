@@ -6,7 +6,7 @@ use Rattle.memory.specs.Memory.{treeCount}
 use Rattle.meaning_save.specs.Save.{formOf, treeSaved}
 use Prim.Native.Nat.{_-_, _<_}
 use Rattle.save_writer.proofs.Saved.{treeRow, trees-lot, tree-size}
-use mathlib.Core.Path.{_≡_, refl, sym, ap, _∙_}
+use mathlib.Core.Path.{sym, ap, _∙_}
 use native.Mathlib.Omega.{arith}
 use Rattle.save_writer.proofs.put_trees.Statement.{statement}
 use Rattle.save_writer.proofs.put_trees.Tie as tie
@@ -21,7 +21,9 @@ tree-count-requires : tie.Need-tree-count-requires Inv-loop μ-loop
 tree-count-requires c κs = search needs
 
 loop-holds : tie.Need-loop-holds Inv-loop μ-loop
-loop-holds c = let a = c .before .before .before .before .args in rows-none (trees-lot (formOf (a .second)) (a .numbers .now) (a .names .now) (a .from) (a .out .now) (c .before .before .before .before .pre .2))
+loop-holds c =
+    let start = c .before .before .before .before in
+    let a = start .args in rows-none (trees-lot (formOf (a .second)) (a .numbers .now) (a .names .now) (a .from) (a .out .now) (start .pre .2))
 
 tree-size-requires : tie.Need-tree-size-requires Inv-loop μ-loop
 tree-size-requires c κs = (search needs, omega arith)
@@ -54,11 +56,12 @@ part-put-tree-record-end c =
 
 put-tree-record-requires : tie.Need-put-tree-record-requires Inv-loop μ-loop
 put-tree-record-requires c κs =
+    let the-tree-count = c .before .before .before .before .tree-count in
     let s = c .before .before .before .before .before .before .before .before in
     let a = s .args in
     let l = c .before .before .before .loop in
     let lot = trees-lot (formOf (a .second)) (a .numbers .now) (a .names .now) (a .from) (a .out .now) (s .pre .2) in
-    let lt : l .i < treeCount (a .numbers .now) = omega (arith, c .before .before .before .before .tree-count .ensures .0) in
+    let lt : l .i < treeCount (a .numbers .now) = omega (arith, the-tree-count .ensures .0) in
     let k = tree-size (formOf (a .second)) (a .numbers .now) (a .names .now) (l .i) lt in
     (search needs, search needs, omega (arith, c .before .tree-size .ensures .0 (a .numbers .now) lt), (lt, omega arith))
 
@@ -70,13 +73,15 @@ loop-less c = search needs
 
 loop-again : tie.Need-loop-again Inv-loop μ-loop
 loop-again c =
+    let the-tree-count = c .before .before .before .before .before .before .before .tree-count in
+    let the-tree-size = c .before .before .before .before .tree-size in
     let s = c .before .before .before .before .before .before .before .before .before .before .before in
     let a = s .args in
     let l = c .before .before .before .before .before .before .loop in
     let lot = trees-lot (formOf (a .second)) (a .numbers .now) (a .names .now) (a .from) (a .out .now) (s .pre .2) in
-    let lt : l .i < treeCount (a .numbers .now) = omega (arith, c .before .before .before .before .before .before .before .tree-count .ensures .0) in
+    let lt : l .i < treeCount (a .numbers .now) = omega (arith, the-tree-count .ensures .0) in
     let k = tree-size (formOf (a .second)) (a .numbers .now) (a .names .now) (l .i) lt in
-    rows-lent lot (l .i) (l .at) (l .out) (l .inv) _ _ lt (c .before .before .put-tree-record .ensures ∙ ap (treeSaved (formOf (a .second))) (tree-at (a .numbers .now) (a .names .now) (l .i) lt)) (k ∙ sym (c .before .before .before .before .tree-size .ensures .0 (a .numbers .now) lt))
+    rows-lent lot (l .i) (l .at) (l .out) (l .inv) _ _ lt (c .before .before .put-tree-record .ensures ∙ ap (treeSaved (formOf (a .second))) (tree-at (a .numbers .now) (a .names .now) (l .i) lt)) (k ∙ sym (the-tree-size .ensures .0 (a .numbers .now) lt))
 
 same-length : tie.Need-same-length Inv-loop μ-loop
 same-length c = c .before .loop .inv .1

@@ -21,19 +21,27 @@ saved-size-requires c κs = search needs
 
 returns-2 : tie.Need-returns-2
 returns-2 c =
+    let the-fits-save = c .before .before .before .before .before .fits-save in
+    let the-if1 = c .before .before .before .before .if1 in
     let s = c .before .before .before .before .before .before .before .before .before in
-    does-short _ (cardOf (s .args .numbers .now) (s .args .names .now)) (s .args .out .now) _ (c .before .saved-size .ensures .0) (sym (c .before .before .before .before .before .fits-save .ensures) ∙ not-false _ (c .before .before .before .before .if1 .left)) (c .if2 .taken)
+    does-short _ (cardOf (s .args .numbers .now) (s .args .names .now)) (s .args .out .now) _ (c .before .saved-size .ensures .0) (sym (the-fits-save .ensures) ∙ not-false _ (the-if1 .left)) (c .if2 .taken)
 
 write-save-requires : tie.Need-write-save-requires
-write-save-requires c κs = (search needs, search needs, omega (arith, c .before .before .before .before .saved-size .ensures .0))
+write-save-requires c κs =
+    let the-saved-size = c .before .before .before .before .saved-size in
+    (search needs, search needs, omega (arith, the-saved-size .ensures .0))
 
 same-length : tie.Need-same-length
 same-length c = search needs
 
 returns-3 : tie.Need-returns-3
 returns-3 c =
+    let the-saved-size = c .before .before .before .before .before .before .before .saved-size in
+    let the-fits-save = c .before .before .before .before .before .before .before .before .before .before .before .fits-save in
+    let the-if1 = c .before .before .before .before .before .before .before .before .before .before .if1 in
+    let the-if2 = c .before .before .before .before .before .before .if2 in
     let s = c .before .before .before .before .before .before .before .before .before .before .before .before .before .before .before in
-    does-save _ (cardOf (s .args .numbers .now) (s .args .names .now)) (s .args .out .now) _ (c .before .before .before .before .before .before .before .saved-size .ensures .0) (sym (c .before .before .before .before .before .before .before .before .before .before .before .fits-save .ensures) ∙ not-false _ (c .before .before .before .before .before .before .before .before .before .before .if1 .left)) (c .before .before .before .before .before .before .if2 .left) _ _ (c .before .before .write-save .ensures)
+    does-save _ (cardOf (s .args .numbers .now) (s .args .names .now)) (s .args .out .now) _ (the-saved-size .ensures .0) (sym (the-fits-save .ensures) ∙ not-false _ (the-if1 .left)) (the-if2 .left) _ _ (c .before .before .write-save .ensures)
 
 pub save-core-spec : {M : Type 1} → statement M
 save-core-spec =

@@ -6,7 +6,7 @@ use Rattle.meaning_save.specs.Save.{new, formOf, treeBeside, nameMost}
 use lib.ListN.{length}
 use Prim.Native.Nat.{_+_, _*_, _-_, _≤_, _<_}
 use Rattle.save_writer.proofs.Saved.{treeRow, trees-rows, tree-size, sum-none, sum-more, sum-done}
-use mathlib.Core.Path.{_≡_, refl, sym, ap, _∙_}
+use mathlib.Core.Path.{_≡_, sym, _∙_}
 use native.Mathlib.Omega.{arith}
 use Rattle.save_writer.proofs.trees_size.Statement.{statement}
 use Rattle.save_writer.proofs.trees_size.Tie as tie

@@ -18,29 +18,43 @@ part-put-save-head-start : tie.Need-part-put-save-head-start
 part-put-save-head-start c = search needs
 
 part-put-save-head-end : tie.Need-part-put-save-head-end
-part-put-save-head-end c = omega (arith, parts-length (formOf (c .before .before .before .before .args .second)) (c .before .before .before .before .args .numbers .now) (c .before .before .before .before .args .names .now), c .head-size .ensures .0, c .before .before .before .before .pre .2)
+part-put-save-head-end c =
+    let start = c .before .before .before .before in
+    omega (arith, parts-length (formOf (start .args .second)) (start .args .numbers .now) (start .args .names .now), c .head-size .ensures .0, start .pre .2)
 
 put-save-head-requires : tie.Need-put-save-head-requires
 put-save-head-requires c κs = search needs
 
 put-routes-requires : tie.Need-put-routes-requires
-put-routes-requires c κs = (search needs, search needs, omega (arith, parts-length (formOf (c .before .before .before .before .before .before .before .before .before .args .second)) (c .before .before .before .before .before .before .before .before .before .args .numbers .now) (c .before .before .before .before .before .before .before .before .before .args .names .now), c .before .before .before .before .before .head-size .ensures .0, c .before .before .before .before .before .before .before .before .before .pre .2))
+put-routes-requires c κs =
+    let start = c .before .before .before .before .before .before .before .before .before in
+    let the-head-size = c .before .before .before .before .before .head-size in
+    (search needs, search needs, omega (arith, parts-length (formOf (start .args .second)) (start .args .numbers .now) (start .args .names .now), the-head-size .ensures .0, start .pre .2))
 
 put-trees-requires : tie.Need-put-trees-requires
-put-trees-requires c κs = (search needs, search needs, omega (arith, parts-length (formOf (c .before .before .before .before .before .before .before .before .before .before .before .before .before .args .second)) (c .before .before .before .before .before .before .before .before .before .before .before .before .before .args .numbers .now) (c .before .before .before .before .before .before .before .before .before .before .before .before .before .args .names .now), c .before .before .before .before .before .before .before .before .before .head-size .ensures .0, c .before .before .before .before .before .before .before .before .before .before .before .before .before .pre .2))
+put-trees-requires c κs =
+    let start = c .before .before .before .before .before .before .before .before .before .before .before .before .before in
+    let the-head-size = c .before .before .before .before .before .before .before .before .before .head-size in
+    (search needs, search needs, omega (arith, parts-length (formOf (start .args .second)) (start .args .numbers .now) (start .args .names .now), the-head-size .ensures .0, start .pre .2))
 
 put-labels-requires : tie.Need-put-labels-requires
-put-labels-requires c κs = (search needs, search needs, omega (arith, parts-length (formOf (c .before .before .before .before .before .before .before .before .before .before .before .before .before .before .before .before .before .args .second)) (c .before .before .before .before .before .before .before .before .before .before .before .before .before .before .before .before .before .args .numbers .now) (c .before .before .before .before .before .before .before .before .before .before .before .before .before .before .before .before .before .args .names .now), c .before .before .before .before .before .before .before .before .before .before .before .before .before .head-size .ensures .0, c .before .before .before .before .before .before .before .before .before .before .before .before .before .before .before .before .before .pre .2))
+put-labels-requires c κs =
+    let start = c .before .before .before .before .before .before .before .before .before .before .before .before .before .before .before .before .before in
+    let the-head-size = c .before .before .before .before .before .before .before .before .before .before .before .before .before .head-size in
+    (search needs, search needs, omega (arith, parts-length (formOf (start .args .second)) (start .args .numbers .now) (start .args .names .now), the-head-size .ensures .0, start .pre .2))
 
 same-length : tie.Need-same-length
 same-length c = search needs
 
 returns : tie.Need-returns
 returns c =
+    let the-put-save-head = c .before .before .before .before .before .before .before .before .before .before .before .before .before .before .put-save-head in
+    let the-put-routes = c .before .before .before .before .before .before .before .before .before .before .put-routes in
+    let the-put-trees = c .before .before .before .before .before .before .put-trees in
     let s = c .before .before .before .before .before .before .before .before .before .before .before .before .before .before .before .before .before .before .before .before in
     let h = c .before .before .before .before .before .before .before .before .before .before .before .before .before .before .before .before .head-size in
     let whole : h .result - 0 ≡ h .result = omega arith in
-    parts-laid (formOf (s .args .second)) (s .args .numbers .now) (s .args .names .now) (s .args .out .now) (s .pre .2) _ _ _ _ _ _ _ _ _ (h .ensures .0) whole (c .before .before .before .before .before .before .before .before .before .before .before .before .before .before .put-save-head .ensures (s .args .names .now)) (c .before .before .before .before .before .before .before .before .before .before .put-routes .ensures) (c .before .before .before .before .before .before .put-trees .ensures) (c .before .before .put-labels .ensures)
+    parts-laid (formOf (s .args .second)) (s .args .numbers .now) (s .args .names .now) (s .args .out .now) (s .pre .2) _ _ _ _ _ _ _ _ _ (h .ensures .0) whole (the-put-save-head .ensures (s .args .names .now)) (the-put-routes .ensures) (the-put-trees .ensures) (c .before .before .put-labels .ensures)
 
 pub write-save-spec : {M : Type 1} → statement M
 write-save-spec =

@@ -29,7 +29,9 @@ part-result-end : tie.Need-part-result-end
 part-result-end c = search needs
 
 returns : tie.Need-returns
-returns c = eight-none _ _ (c .before .before .before .before .root-length .ensures .0) _ _ (c .before .before .before .at .ensures .0) (c .before .before .before-inner .ensures .0) (c .before .if1 .taken)
+returns c =
+    let the-root-length = c .before .before .before .before .root-length in
+    eight-none _ _ (the-root-length .ensures .0) _ _ (c .before .before .before .at .ensures .0) (c .before .before .before-inner .ensures .0) (c .before .if1 .taken)
 
 sub-if2 : tie.Need-sub-if2
 sub-if2 c = search needs
@@ -44,7 +46,10 @@ part-result-end-2 : tie.Need-part-result-end-2
 part-result-end-2 c = search needs
 
 returns-2 : tie.Need-returns-2
-returns-2 c = eight-short _ _ (c .before .before .before .before .before .root-length .ensures .0) _ _ (c .before .before .before .before .at .ensures .0) (c .before .before .before .before-inner .ensures .0) (c .before .if2 .taken)
+returns-2 c =
+    let the-root-length = c .before .before .before .before .before .root-length in
+    let the-at = c .before .before .before .before .at in
+    eight-short _ _ (the-root-length .ensures .0) _ _ (the-at .ensures .0) (c .before .before .before .before-inner .ensures .0) (c .before .if2 .taken)
 
 add-end : tie.Need-add-end
 add-end c = search needs
@@ -59,7 +64,10 @@ part-result-end-3 : tie.Need-part-result-end-3
 part-result-end-3 c = search needs
 
 returns-3 : tie.Need-returns-3
-returns-3 c = eight-all _ _ (c .before .before .before .before .before .root-length .ensures .0) _ _ (c .before .before .before .before .at .ensures .0) (c .before .before .before .before-inner .ensures .0)
+returns-3 c =
+    let the-root-length = c .before .before .before .before .before .root-length in
+    let the-at = c .before .before .before .before .at in
+    eight-all _ _ (the-root-length .ensures .0) _ _ (the-at .ensures .0) (c .before .before .before .before-inner .ensures .0)
 
 pub eight-of-spec : {M : Type 1} → statement M
 eight-of-spec =

@@ -35,7 +35,9 @@ add-if2-2 : tie.Need-add-if2-2
 add-if2-2 c = search needs
 
 returns-2 : tie.Need-returns-2
-returns-2 c = not-alone _ _ (c .before .before .before .before .before .root-length .ensures .0) _ (c .before .two-at .ensures .0) (c .if2 .taken)
+returns-2 c =
+    let the-root-length = c .before .before .before .before .before .root-length in
+    not-alone _ _ (the-root-length .ensures .0) _ (c .before .two-at .ensures .0) (c .if2 .taken)
 
 add-start : tie.Need-add-start
 add-start c = search needs
@@ -47,7 +49,10 @@ add-start-2 : tie.Need-add-start-2
 add-start-2 c = search needs
 
 returns-3 : tie.Need-returns-3
-returns-3 c = too-short _ _ (c .before .before .before .before .before .before .before .root-length .ensures .0) _ _ (c .before .before .before .before .before .before .at .ensures .0) (c .before .before-inner .ensures .0) (c .if3 .taken)
+returns-3 c =
+    let the-root-length = c .before .before .before .before .before .before .before .root-length in
+    let the-at = c .before .before .before .before .before .before .at in
+    too-short _ _ (the-root-length .ensures .0) _ _ (the-at .ensures .0) (c .before .before-inner .ensures .0) (c .if3 .taken)
 
 sub-element-refusal : tie.Need-sub-element-refusal
 sub-element-refusal c = search needs
@@ -62,17 +67,22 @@ element-refusal-requires : tie.Need-element-refusal-requires
 element-refusal-requires c κs = search needs
 
 returns-4 : tie.Need-returns-4
-returns-4 c = inner-refused _ _ (c .before .before .before .before .before .before .before .before .before .before .root-length .ensures .0) _ _ (c .before .before .before .before .before .before .before .before .before .at .ensures .0) (c .before .before .before .before .before-inner .ensures .0) _ (c .before .element-refusal .ensures) (c .if4 .taken)
+returns-4 c =
+    let the-root-length = c .before .before .before .before .before .before .before .before .before .before .root-length in
+    let the-at = c .before .before .before .before .before .before .before .before .before .at in
+    let the-before-inner = c .before .before .before .before .before-inner in
+    inner-refused _ _ (the-root-length .ensures .0) _ _ (the-at .ensures .0) (the-before-inner .ensures .0) _ (c .before .element-refusal .ensures) (c .if4 .taken)
 
 returns-5 : tie.Need-returns-5
 returns-5 c =
+    let the-if2 = c .before .before .before .before .before .if2 in
     let at-if1 = c .before .before .before .before .before .before .before in
     let the-root-length = at-if1 .before .before .before .root-length in
     let the-at = at-if1 .before .before .at in
     let kind = sym (at-if1 .before .holds .ensures) ∙ not-false _ (at-if1 .if1 .left) in
     let the-two-at = c .before .before .before .before .before .before .two-at in
     let the-before-inner = c .before .before .before .before .before-inner in
-    inner-there _ _ (the-root-length .ensures .0) _ _ (the-at .ensures .0) (the-before-inner .ensures .0) _ _ kind (the-two-at .ensures .0) (c .before .before .before .before .before .if2 .left) (c .before .element-refusal .ensures) (c .if4 .left) (omega arith)
+    inner-there _ _ (the-root-length .ensures .0) _ _ (the-at .ensures .0) (the-before-inner .ensures .0) _ _ kind (the-two-at .ensures .0) (the-if2 .left) (c .before .element-refusal .ensures) (c .if4 .left) (omega arith)
 
 pub inner-start-spec : {M : Type 1} → statement M
 inner-start-spec =

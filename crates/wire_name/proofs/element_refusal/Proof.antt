@@ -40,17 +40,20 @@ add-if4-2 c = search needs
 
 returns-4 : tie.Need-returns-4
 returns-4 c =
-    let k = opaque-at _ _ _ (c .before .before .before .before .before .root-length .ensures .0) (c .before .two-at .ensures .0) in
+    let the-root-length = c .before .before .before .before .before .root-length in
+    let k = opaque-at _ _ _ (the-root-length .ensures .0) (c .before .two-at .ensures .0) in
     sym (element-fill _ (λ h. omega arith))
 
 returns-5 : tie.Need-returns-5
 returns-5 c =
-    let k = opaque-at _ _ _ (c .before .before .before .before .before .before .root-length .ensures .0) (c .before .before .two-at .ensures .0) in
+    let the-root-length = c .before .before .before .before .before .before .root-length in
+    let k = opaque-at _ _ _ (the-root-length .ensures .0) (c .before .before .two-at .ensures .0) in
     sym (element-7 _ (element-whole _ (omega arith) (omega arith) (omega arith) (omega arith)) (opaque-none _ _ (opaque-length _ (omega arith)) (omega arith)))
 
 returns-6 : tie.Need-returns-6
 returns-6 c =
-    let k = opaque-at _ _ _ (c .before .before .before .before .before .before .before .root-length .ensures .0) (c .before .before .before .two-at .ensures .0) in
+    let the-root-length = c .before .before .before .before .before .before .before .root-length in
+    let k = opaque-at _ _ _ (the-root-length .ensures .0) (c .before .before .before .two-at .ensures .0) in
     sym (element-7 _ (element-whole _ (omega arith) (omega arith) (omega arith) (omega arith)) (opaque-long _ _ (opaque-length _ (omega arith)) (omega arith)))
 
 add-is-filled : tie.Need-add-is-filled
@@ -61,14 +64,18 @@ is-filled-requires c κs = search needs
 
 returns-7 : tie.Need-returns-7
 returns-7 c =
-    let root = c .before .before .before .before .before .before .before .before .before .root-length .ensures .0 in
-    let k = opaque-at _ _ _ root (c .before .before .before .before .before .two-at .ensures .0) in
+    let the-root-length = c .before .before .before .before .before .before .before .before .before .root-length in
+    let the-two-at = c .before .before .before .before .before .two-at in
+    let root = the-root-length .ensures .0 in
+    let k = opaque-at _ _ _ root (the-two-at .ensures .0) in
     sym (element-0 _ (element-whole _ (omega arith) (omega arith) (omega arith) (omega arith)) (opaque-right _ _ (opaque-length _ (omega arith)) (omega arith) (omega arith)) (filled-in _ _ _ _ root (c .before .is-filled .ensures) (c .if7 .taken)))
 
 returns-8 : tie.Need-returns-8
 returns-8 c =
-    let root = c .before .before .before .before .before .before .before .before .before .root-length .ensures .0 in
-    let k = opaque-at _ _ _ root (c .before .before .before .before .before .two-at .ensures .0) in
+    let the-root-length = c .before .before .before .before .before .before .before .before .before .root-length in
+    let the-two-at = c .before .before .before .before .before .two-at in
+    let root = the-root-length .ensures .0 in
+    let k = opaque-at _ _ _ root (the-two-at .ensures .0) in
     sym (element-18 _ (element-whole _ (omega arith) (omega arith) (omega arith) (omega arith)) (opaque-right _ _ (opaque-length _ (omega arith)) (omega arith) (omega arith)) (filled-in _ _ _ _ root (c .before .is-filled .ensures) (c .if7 .left)))
 
 pub element-refusal-spec : {M : Type 1} → statement M

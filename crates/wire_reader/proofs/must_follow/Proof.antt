@@ -31,22 +31,25 @@ enum-known-kind c = search needs
 
 returns : tie.Need-returns Inv-loop μ-loop
 returns c =
+    let the-tlv-from = c .before .before .before .before .tlv-from in
     let l = c .before .before .before .before .before in
     let m = l .before .before .args .message .now in
-    let p = sym (c .before .before .before .before .tlv-from .ensures) ∙ c .before .before .kind .given .1 in
+    let p = sym (the-tlv-from .ensures) ∙ c .before .before .kind .given .1 in
     sym (l .loop .inv .1 ∙ must-here m (l .loop .at) _ _ _ p (l .loop .inv .0) (c .if1 .taken))
 
 loop-less : tie.Need-loop-less Inv-loop μ-loop
 loop-less c =
+    let the-tlv-from = c .before .before .before .before .tlv-from in
     let l = c .before .before .before .before .before in
-    let w = whole-within (l .before .before .args .message .now) (l .loop .at) _ _ _ (sym (c .before .before .before .before .tlv-from .ensures) ∙ c .before .before .kind .given .1) in
+    let w = whole-within (l .before .before .args .message .now) (l .loop .at) _ _ _ (sym (the-tlv-from .ensures) ∙ c .before .before .kind .given .1) in
     omega arith
 
 loop-again : tie.Need-loop-again Inv-loop μ-loop
 loop-again c =
+    let the-tlv-from = c .before .before .before .before .tlv-from in
     let l = c .before .before .before .before .before in
     let m = l .before .before .args .message .now in
-    let p = sym (c .before .before .before .before .tlv-from .ensures) ∙ c .before .before .kind .given .1 in
+    let p = sym (the-tlv-from .ensures) ∙ c .before .before .kind .given .1 in
     (sym (overrun-on m (l .loop .at) _ _ _ p) ∙ l .loop .inv .0, l .loop .inv .1 ∙ must-on m (l .loop .at) _ _ _ p (l .loop .inv .0) (c .if1 .left))
 
 enum-told : tie.Need-enum-told Inv-loop μ-loop

@@ -42,8 +42,9 @@ label-in-requires c κs = search needs
 
 returns-2 : tie.Need-returns-2
 returns-2 c =
+    let the-element-refusal = c .before .before .before .before .element-refusal in
     let s = c .before .before .before .before .before .before .before in
-    let named = sym (c .before .before .before .before .element-refusal .ensures) ∙ c .before .before .before .if1 .left in
+    let named = sym (the-element-refusal .ensures) ∙ c .before .before .before .if1 .left in
     (label-refused (now (s .args .message)) (s .args .fec) (s .args .end) (s .pre) named (sym (c .if2 .taken) ∙ c .before .label-in .ensures), omega arith)
 
 must-follow-requires : tie.Need-must-follow-requires
@@ -51,8 +52,10 @@ must-follow-requires c κs = search needs
 
 returns-3 : tie.Need-returns-3
 returns-3 c =
+    let the-element-refusal = c .before .before .before .before .before .before .element-refusal in
+    let the-if1 = c .before .before .before .before .before .if1 in
     let s = c .before .before .before .before .before .before .before .before .before in
-    let named = sym (c .before .before .before .before .before .before .element-refusal .ensures) ∙ c .before .before .before .before .before .if1 .left in
+    let named = sym (the-element-refusal .ensures) ∙ the-if1 .left in
     (must-refused (now (s .args .message)) (s .args .fec) (s .args .end) (s .pre) named _ (c .before .before .before .label-in .ensures) (c .before .before .if2 .left) (sym (c .before .must-follow .ensures) ∙ c .if3 .taken), omega arith)
 
 two-at-requires : tie.Need-two-at-requires
@@ -60,10 +63,13 @@ two-at-requires c κs = search needs
 
 returns-4 : tie.Need-returns-4
 returns-4 c =
+    let the-element-refusal = c .before .before .before .before .before .before .before .element-refusal in
+    let the-if1 = c .before .before .before .before .before .before .if1 in
+    let the-label-in = c .before .before .before .before .label-in in
     let s = c .before .before .before .before .before .before .before .before .before .before in
     let m = now (s .args .message) in
-    let named = sym (c .before .before .before .before .before .before .before .element-refusal .ensures) ∙ c .before .before .before .before .before .before .if1 .left in
-    let labelled = c .before .before .before .before .label-in .ensures in (
+    let named = sym (the-element-refusal .ensures) ∙ the-if1 .left in
+    let labelled = the-label-in .ensures in (
       not-refused m (s .args .fec) (s .args .end) (s .pre) named _ labelled (c .before .before .before .if2 .left) (sym (c .before .before .must-follow .ensures) ∙ c .before .if3 .left),
       message-says m (s .args .fec) (s .args .end) (s .pre) named _ labelled (c .before .before .before .if2 .left) _ (c .two-at .ensures .0),
       refl,

@@ -19,7 +19,8 @@ value-end-requires c κs = search needs
 
 returns-2 : tie.Need-returns-2
 returns-2 c =
-    let m = now (c .before .before .before .before .before .args .message) in
+    let start = c .before .before .before .before .before in
+    let m = now (start .args .message) in
     (sym (no-fec m (sym (c .before .before .before .head-refusal .ensures) ∙ c .before .before .if1 .left) (sym (c .if2 .taken) ∙ c .before .value-end .ensures)), omega arith)
 
 value-end-requires-2 : tie.Need-value-end-requires-2
@@ -27,13 +28,19 @@ value-end-requires-2 c κs = search needs
 
 returns-3 : tie.Need-returns-3
 returns-3 c =
-    let m = now (c .before .before .before .before .before .before .before .args .message) in
-    (sym (no-label m (sym (c .before .before .before .before .before .head-refusal .ensures) ∙ c .before .before .before .before .if1 .left) _ (c .before .before .before .value-end .ensures) (c .before .before .if2 .left) (sym (c .if3 .taken) ∙ c .before .value-end2 .ensures)), omega arith)
+    let start = c .before .before .before .before .before .before .before in
+    let the-head-refusal = c .before .before .before .before .before .head-refusal in
+    let the-if1 = c .before .before .before .before .if1 in
+    let m = now (start .args .message) in
+    (sym (no-label m (sym (the-head-refusal .ensures) ∙ the-if1 .left) _ (c .before .before .before .value-end .ensures) (c .before .before .if2 .left) (sym (c .if3 .taken) ∙ c .before .value-end2 .ensures)), omega arith)
 
 read-body-requires : tie.Need-read-body-requires
 read-body-requires c κs =
-    let m = now (c .before .before .before .before .before .before .before .args .message) in
-    ordered m (sym (c .before .before .before .before .before .head-refusal .ensures) ∙ c .before .before .before .before .if1 .left) _ (c .before .before .before .value-end .ensures) (c .before .before .if2 .left) _ (c .before .value-end2 .ensures) (c .if3 .left)
+    let start = c .before .before .before .before .before .before .before in
+    let the-head-refusal = c .before .before .before .before .before .head-refusal in
+    let the-if1 = c .before .before .before .before .if1 in
+    let m = now (start .args .message) in
+    ordered m (sym (the-head-refusal .ensures) ∙ the-if1 .left) _ (c .before .before .before .value-end .ensures) (c .before .before .if2 .left) _ (c .before .value-end2 .ensures) (c .if3 .left)
 
 returns-4 : tie.Need-returns-4
 returns-4 c = search needs

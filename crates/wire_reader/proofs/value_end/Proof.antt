@@ -16,8 +16,9 @@ enum-known-found c = search needs
 
 returns : tie.Need-returns
 returns c =
+    let the-tlv-from = c .before .before .before .before .tlv-from in
     let a = c .before .before .before .before .before .before .args in
-    end-here (now (a .message)) (a .at) _ _ _ (sym (c .before .before .before .before .tlv-from .ensures) ∙ c .before .before .found .given .1) (a .kind) (c .if1 .taken)
+    end-here (now (a .message)) (a .at) _ _ _ (sym (the-tlv-from .ensures) ∙ c .before .before .found .given .1) (a .kind) (c .if1 .taken)
 
 enum-told : tie.Need-enum-told
 enum-told c = search needs
@@ -27,14 +28,19 @@ enum-told-2 c = search needs
 
 returns-2 : tie.Need-returns-2
 returns-2 c =
+    let the-tlv-from = c .before .before .before .before .tlv-from in
     let a = c .before .before .before .before .before .before .args in
-    end-other (now (a .message)) (a .at) _ _ _ (sym (c .before .before .before .before .tlv-from .ensures) ∙ c .before .before .found .given .1) (a .kind) (c .if1 .left)
+    end-other (now (a .message)) (a .at) _ _ _ (sym (the-tlv-from .ensures) ∙ c .before .before .found .given .1) (a .kind) (c .if1 .left)
 
 returns-3 : tie.Need-returns-3
-returns-3 c = sym (ap (endOf (c .before .before .before .before .args .kind)) (sym (c .before .before .tlv-from .ensures) ∙ c .enum-told .given .1))
+returns-3 c =
+    let start = c .before .before .before .before in
+    sym (ap (endOf (start .args .kind)) (sym (c .before .before .tlv-from .ensures) ∙ c .enum-told .given .1))
 
 returns-4 : tie.Need-returns-4
-returns-4 c = sym (ap (endOf (c .before .before .before .before .args .kind)) (sym (c .before .before .tlv-from .ensures) ∙ c .enum-told2 .given .1))
+returns-4 c =
+    let start = c .before .before .before .before in
+    sym (ap (endOf (start .args .kind)) (sym (c .before .before .tlv-from .ensures) ∙ c .enum-told2 .given .1))
 
 pub value-end-spec : {M : Type 1} → statement M
 value-end-spec =

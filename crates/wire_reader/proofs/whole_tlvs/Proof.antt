@@ -28,12 +28,16 @@ enum-known-next c = search needs
 
 loop-less : tie.Need-loop-less Inv-loop μ-loop
 loop-less c =
-    let m = c .before .before .before .before .before .before .args .message .now in
-    let w = whole-within m (c .before .before .before .before .loop .at) _ _ _ (sym (c .before .before .before .tlv-from .ensures) ∙ c .before .next .given .1) in
+    let start = c .before .before .before .before .before .before in
+    let the-loop = c .before .before .before .before .loop in
+    let m = start .args .message .now in
+    let w = whole-within m (the-loop .at) _ _ _ (sym (c .before .before .before .tlv-from .ensures) ∙ c .before .next .given .1) in
     omega arith
 
 loop-again : tie.Need-loop-again Inv-loop μ-loop
-loop-again c = c .before .before .before .before .loop .inv ∙ overrun-on _ _ _ _ _ (sym (c .before .before .before .tlv-from .ensures) ∙ c .before .next .given .1)
+loop-again c =
+    let the-loop = c .before .before .before .before .loop in
+    the-loop .inv ∙ overrun-on _ _ _ _ _ (sym (c .before .before .before .tlv-from .ensures) ∙ c .before .next .given .1)
 
 enum-told : tie.Need-enum-told Inv-loop μ-loop
 enum-told c = search needs

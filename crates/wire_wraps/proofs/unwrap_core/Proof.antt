@@ -23,7 +23,9 @@ part-copy-start : tie.Need-part-copy-start
 part-copy-start c = search needs
 
 part-copy-end : tie.Need-part-copy-end
-part-copy-end c = unwrap-room _ (c .before .before .before .before .before .args .out .now) _ (c .before .before .unwrap-refusal .ensures) (c .before .if1 .left) _ (c .inner-start .ensures .0)
+part-copy-end c =
+    let start = c .before .before .before .before .before in
+    unwrap-room _ (start .args .out .now) _ (c .before .before .unwrap-refusal .ensures) (c .before .if1 .left) _ (c .inner-start .ensures .0)
 
 sub-copy-2 : tie.Need-sub-copy-2
 sub-copy-2 c = search needs

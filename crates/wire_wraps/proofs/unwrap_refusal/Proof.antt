@@ -20,10 +20,14 @@ sub-if3 : tie.Need-sub-if3
 sub-if3 c = search needs
 
 returns-3 : tie.Need-returns-3
-returns-3 c = unwrap-16 _ _ _ (c .before .before .before .before .element-refusal .ensures) (c .before .before .before .if1 .left) _ (c .before .before .inner-start .ensures .0) (c .before .if2 .left) (c .if3 .taken)
+returns-3 c =
+    let the-element-refusal = c .before .before .before .before .element-refusal in
+    unwrap-16 _ _ _ (the-element-refusal .ensures) (c .before .before .before .if1 .left) _ (c .before .before .inner-start .ensures .0) (c .before .if2 .left) (c .if3 .taken)
 
 returns-4 : tie.Need-returns-4
-returns-4 c = unwrap-0 _ _ _ (c .before .before .before .before .element-refusal .ensures) (c .before .before .before .if1 .left) _ (c .before .before .inner-start .ensures .0) (c .before .if2 .left) (c .if3 .left)
+returns-4 c =
+    let the-element-refusal = c .before .before .before .before .element-refusal in
+    unwrap-0 _ _ _ (the-element-refusal .ensures) (c .before .before .before .if1 .left) _ (c .before .before .inner-start .ensures .0) (c .before .if2 .left) (c .if3 .left)
 
 pub unwrap-refusal-spec : {M : Type 1} → statement M
 unwrap-refusal-spec =

@@ -22,14 +22,19 @@ add-result-2 c = search needs
 
 add-result-3 : tie.Need-add-result-3
 add-result-3 c =
-    let room = c .before .before .before .before .before .wrap-refusal .ensures .1 (c .before .before .before .before .if1 .left) in
+    let the-wrap-refusal = c .before .before .before .before .before .wrap-refusal in
+    let the-if1 = c .before .before .before .before .if1 in
+    let room = the-wrap-refusal .ensures .1 (the-if1 .left) in
     record { fits = omega (arith, room .held, room .rooted) }
 
 same-length : tie.Need-same-length
 same-length c = search needs
 
 returns-2 : tie.Need-returns-2
-returns-2 c = wrap-done _ _ _ _ _ (c .before .before .before .before .before .wrap-refusal .ensures .0) (c .before .before .before .before .if1 .left) _ (c .before .before .put-wrapped .ensures)
+returns-2 c =
+    let the-wrap-refusal = c .before .before .before .before .before .wrap-refusal in
+    let the-if1 = c .before .before .before .before .if1 in
+    wrap-done _ _ _ _ _ (the-wrap-refusal .ensures .0) (the-if1 .left) _ (c .before .before .put-wrapped .ensures)
 
 pub wrap-core-spec : {M : Type 1} → statement M
 wrap-core-spec =
