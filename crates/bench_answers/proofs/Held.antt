@@ -15,7 +15,8 @@ use Rattle.bench_orders.specs.Tells.{meant, Lies, InLine}
 use Rattle.bench_orders.specs.declared.Order.{Order}
 use Rattle.bench_orders.proofs.Order.{the-type}
 use Rattle.bench_lines.specs.Text.{eventLine, textSpace}
-use Rattle.bench_replies.specs.Reply.{told, eventRoom, replyTo, Says, WritesRecords}
+use Rattle.bench_replies.specs.Kinds.{Kind, kindOf}
+use Rattle.bench_replies.specs.Reply.{told, eventRoom, replyTo, Says}
 use Rattle.bench_replies.proofs.Reply.{event-fits, notice-fits, says-told}
 use Rattle.bench_answers.specs.Held.{noHex, hexIn, heldIn, noCall, callOf, wordOf}
 
@@ -78,31 +79,31 @@ unfolding heldIn
 word-held l o w s e h = h ∙ ap (λ (x : Word). octetsOf (part (x .start) (x .end) l)) e
 
 -- the reply to an order that writes records tells of its call
-reply-called : (number room : ℕ) (c : Card) (l : List ℕ) (o : Order) → WritesRecords o → replyTo number room c (meant l o) ≡ told (wordOf o) (callOf (eventRoom room) c o (heldIn l o)) room
+reply-called : (number room : ℕ) (c : Card) (l : List ℕ) (o : Order) → kindOf o ≡ Kind.records → replyTo number room c (meant l o) ≡ told (wordOf o) (callOf (eventRoom room) c o (heldIn l o)) room
 unfolding replyTo meant wordOf callOf heldIn hexIn
-reply-called number room c l Order.Blank w = absurd w
-reply-called number room c l Order.Bad w = absurd w
-reply-called number room c l (Order.Start n) w = absurd w
-reply-called number room c l (Order.Room n) w = absurd w
+reply-called number room c l Order.Blank w = cc
+reply-called number room c l Order.Bad w = cc
+reply-called number room c l (Order.Start n) w = cc
+reply-called number room c l (Order.Room n) w = cc
 reply-called number room c l (Order.Take n s e) w = refl
 reply-called number room c l (Order.Join s e) w = refl
 reply-called number room c l (Order.Leave s e) w = refl
 reply-called number room c l (Order.Route s e n) w = refl
-reply-called number room c l (Order.Label n) w = absurd w
-reply-called number room c l (Order.Tree s e) w = absurd w
-reply-called number room c l Order.Free w = absurd w
+reply-called number room c l (Order.Label n) w = cc
+reply-called number room c l (Order.Tree s e) w = cc
+reply-called number room c l Order.Free w = cc
 reply-called number room c l (Order.Notice n k s e) w = refl
-reply-called number room c l (Order.Save b) w = absurd w
-reply-called number room c l (Order.Restore b s e) w = absurd w
+reply-called number room c l (Order.Save b) w = cc
+reply-called number room c l (Order.Restore b s e) w = cc
 reply-called number room c l (Order.Lost n) w = refl
-reply-called number room c l (Order.Move b s e) w = absurd w
-reply-called number room c l (Order.Layers s e) w = absurd w
-reply-called number room c l (Order.Wrap r d s e) w = absurd w
-reply-called number room c l (Order.Unwrap s e) w = absurd w
-reply-called number room c l (Order.Plan n s e) w = absurd w
-reply-called number room c l (Order.Vet n p s e) w = absurd w
+reply-called number room c l (Order.Move b s e) w = cc
+reply-called number room c l (Order.Layers s e) w = cc
+reply-called number room c l (Order.Wrap r d s e) w = cc
+reply-called number room c l (Order.Unwrap s e) w = cc
+reply-called number room c l (Order.Plan n s e) w = cc
+reply-called number room c l (Order.Vet n p s e) w = cc
 
-pub says-called : (number room : ℕ) (c : Card) {d : Card} (l : List ℕ) (o : Order) {h a r n : ℕ} {s text before after : List ℕ} → WritesRecords o → h ≡ eventRoom room → s ≡ heldIn l o → Does (callOf h c o s) a n before after d → r ≤ textSpace → take r text ≡ eventLine (wordOf o) a (take n after) → Says (replyTo number room c (meant l o)) r text d
+pub says-called : (number room : ℕ) (c : Card) {d : Card} (l : List ℕ) (o : Order) {h a r n : ℕ} {s text before after : List ℕ} → kindOf o ≡ Kind.records → h ≡ eventRoom room → s ≡ heldIn l o → Does (callOf h c o s) a n before after d → r ≤ textSpace → take r text ≡ eventLine (wordOf o) a (take n after) → Says (replyTo number room c (meant l o)) r text d
 says-called number room c l o {text = text} w eh es does short line =
     rw (reply-called number room c l o w)
     (says-told (λ m. callOf m c o (heldIn l o)) (wordOf o) text room _ eh (rw es at (handed _ _ _ _ _ _ does)) short line)

@@ -11,8 +11,8 @@ ghost use Rattle.memory.specs.Memory.{cardOf};
 ghost use Rattle.bench_words.specs.Words.{octetsOf};
 ghost use Rattle.bench_verbs.specs.Line.{Said, orderOf};
 ghost use Rattle.bench_orders.specs.Tells.{meant, InLine};
-ghost use Rattle.bench_replies.specs.Reply.{eventRoom, replyTo, Says, Answers, WritesRecords};
-ghost use Rattle.bench_answers.specs.Counts.{Counts};
+ghost use Rattle.bench_replies.specs.Kinds.{Kind, kindOf};
+ghost use Rattle.bench_replies.specs.Reply.{eventRoom, replyTo, Says, Answers};
 ghost use Rattle.bench_answers.specs.Held.{hexIn, heldIn, callOf, wordOf};
 use bench_orders::Order;
 use bench_words::Word;
@@ -89,7 +89,7 @@ fn call(
     out: &mut [u8],
     answer: &mut u32,
 ) -> usize
-    requires { ⌜ WritesRecords order ⌝ }
+    requires { ⌜ kindOf order ≡ Kind.records ⌝ }
     ensures { λ r. ⌜ Does (callOf (length (now (out .entry))) (cardOf (now (numbers .entry)) (now (names .entry))) order (now (octets .entry)))
         (now (answer .exit)) r (now (out .entry)) (now (out .exit)) (cardOf (now (numbers .exit)) (now (names .exit))) ⌝ }
 {
@@ -112,7 +112,7 @@ fn call(
 
 // The line of an order that writes records: no other comes here.
 fn put_told(text: &mut [u8], order: Order, answer: u32, records: &[u8]) -> usize
-    requires { ⌜ WritesRecords order × (length (now records) ≤ saveLimit new) × (textSpace ≤ length (now text)) ⌝ }
+    requires { ⌜ (kindOf order ≡ Kind.records) × (length (now records) ≤ saveLimit new) × (textSpace ≤ length (now text)) ⌝ }
     ensures { λ r. ⌜ (take r (now (text .exit)) ≡ eventLine (wordOf order) answer (now (records .entry))) × (r ≤ textSpace) ⌝ }
 {
     match order {
@@ -134,7 +134,7 @@ fn tell_call(
     out: &mut [u8],
     text: &mut [u8],
 ) -> usize
-    requires { ⌜ WritesRecords order × (length (now out) ≤ sentLimit) × (textSpace ≤ length (now text)) ⌝ }
+    requires { ⌜ (kindOf order ≡ Kind.records) × (length (now out) ≤ sentLimit) × (textSpace ≤ length (now text)) ⌝ }
     ensures { λ r. ⌜ ((number room : ℕ) (l : List ℕ) → length (now (out .entry)) ≡ eventRoom room → now (octets .entry) ≡ heldIn l order
         → Says (replyTo number room (cardOf (now (numbers .entry)) (now (names .entry))) (meant l order))
         r (now (text .exit)) (cardOf (now (numbers .exit)) (now (names .exit)))) ⌝ }
@@ -153,7 +153,7 @@ fn on_event(
     room: u32,
     text: &mut [u8],
 ) -> usize
-    requires { ⌜ InLine (now line) order × WritesRecords order × (textSpace ≤ length (now text)) ⌝ }
+    requires { ⌜ InLine (now line) order × (kindOf order ≡ Kind.records) × (textSpace ≤ length (now text)) ⌝ }
     ensures { λ r. ⌜ ((number : ℕ) → Says (replyTo number room (cardOf (now (numbers .entry)) (now (names .entry))) (meant (now (line .entry)) order))
         r (now (text .exit)) (cardOf (now (numbers .exit)) (now (names .exit)))) ⌝ }
 {
@@ -182,7 +182,7 @@ fn on_counted(
     number: u64,
     text: &mut [u8],
 ) -> usize
-    requires { ⌜ Counts order × (textSpace ≤ length (now text)) ⌝ }
+    requires { ⌜ (kindOf order ≡ Kind.count) × (textSpace ≤ length (now text)) ⌝ }
     ensures { λ r. ⌜ ((room : ℕ) (l os : List ℕ) → Says (replyTo number room (cardOf (now (numbers .entry)) os) (meant l order))
         r (now (text .exit)) (cardOf (now (numbers .exit)) os)) ⌝ }
 {

@@ -8,9 +8,9 @@ ghost use Rattle.bench_words.specs.Words.{octetsOf};
 ghost use Rattle.bench_verbs.specs.Line.{Said};
 ghost use Rattle.bench_orders.specs.Tells.{meant, InLine};
 ghost use Rattle.bench_lines.specs.Text.{Adds, textSpace};
+ghost use Rattle.bench_replies.specs.Kinds.{Kind, kindOf};
 ghost use Rattle.bench_replies.specs.Reply.{replyTo, Says};
 ghost use Rattle.bench_replies.specs.PlanText.{saidLine, moveText, moveSpace, movesText, movesSpace, movesLine, planLine, verdictLine};
-ghost use Rattle.bench_plans.specs.Planned.{OnPlans};
 use bench_orders::Order;
 use meaning_plan::ENTRY_SIZE;
 use meaning_plan::LIST_LIMIT;
@@ -164,7 +164,7 @@ pub fn on_planned(
     order: Order,
     text: &mut [u8],
 ) -> usize
-    requires { ⌜ InLine (now line) order × OnPlans order × (textSpace ≤ length (now text)) ⌝ }
+    requires { ⌜ InLine (now line) order × (kindOf order ≡ Kind.plans) × (textSpace ≤ length (now text)) ⌝ }
     ensures { λ r. ⌜ (let c = cardOf (now (numbers .entry)) (now (names .entry)) in
         ((number room : ℕ) → Says (replyTo number room c (meant (now (line .entry)) order)) r (now (text .exit)) c)) ⌝ }
 {

@@ -20,7 +20,7 @@ use Rattle.bench_orders.specs.Tells.{meant, Lies, SaveLies, InLine}
 use Rattle.bench_orders.specs.declared.Order.{Order}
 use Rattle.bench_orders.proofs.Order.{the-type}
 use Rattle.bench_lines.specs.Text.{countLine, eventLine, feedLine, textSpace}
-use Rattle.bench_replies.specs.Reply.{only, counted, told, shifted, eventRoom, replyTo, Says, WritesRecords}
+use Rattle.bench_replies.specs.Reply.{only, counted, told, shifted, eventRoom, replyTo, Says}
 
 -- ---- octets that are no longer than the room
 
@@ -99,52 +99,6 @@ says-fed word text c room r h k e = says-only _ text c room r k (e ∙ ap (feedL
 
 pub lies : (l : List ℕ) (r o : Order) → InLine l r → r ≡ o → InLine l o
 lies l r o h e = rw e at h
-
-pub not-written : (o : Order) → OneOf (0 ∷ 1 ∷ 2 ∷ 3 ∷ 8 ∷ 9 ∷ 10 ∷ 12 ∷ 13 ∷ 15 ∷ 16 ∷ 17 ∷ 18 ∷ 19 ∷ 20 ∷ []) (tagOf the-type o) → WritesRecords o → ⊥
-not-written Order.Blank h w = w
-not-written Order.Bad h w = w
-not-written (Order.Start n) h w = w
-not-written (Order.Room n) h w = w
-not-written (Order.Take n s e) h w = miss (0 ∷ 1 ∷ 2 ∷ 3 ∷ 8 ∷ 9 ∷ 10 ∷ 12 ∷ 13 ∷ 15 ∷ 16 ∷ 17 ∷ 18 ∷ 19 ∷ 20 ∷ []) 4 tt h
-not-written (Order.Join s e) h w = miss (0 ∷ 1 ∷ 2 ∷ 3 ∷ 8 ∷ 9 ∷ 10 ∷ 12 ∷ 13 ∷ 15 ∷ 16 ∷ 17 ∷ 18 ∷ 19 ∷ 20 ∷ []) 5 tt h
-not-written (Order.Leave s e) h w = miss (0 ∷ 1 ∷ 2 ∷ 3 ∷ 8 ∷ 9 ∷ 10 ∷ 12 ∷ 13 ∷ 15 ∷ 16 ∷ 17 ∷ 18 ∷ 19 ∷ 20 ∷ []) 6 tt h
-not-written (Order.Route s e n) h w = miss (0 ∷ 1 ∷ 2 ∷ 3 ∷ 8 ∷ 9 ∷ 10 ∷ 12 ∷ 13 ∷ 15 ∷ 16 ∷ 17 ∷ 18 ∷ 19 ∷ 20 ∷ []) 7 tt h
-not-written (Order.Label n) h w = w
-not-written (Order.Tree s e) h w = w
-not-written Order.Free h w = w
-not-written (Order.Notice n k s e) h w = miss (0 ∷ 1 ∷ 2 ∷ 3 ∷ 8 ∷ 9 ∷ 10 ∷ 12 ∷ 13 ∷ 15 ∷ 16 ∷ 17 ∷ 18 ∷ 19 ∷ 20 ∷ []) 11 tt h
-not-written (Order.Save b) h w = w
-not-written (Order.Restore b s e) h w = w
-not-written (Order.Lost n) h w = miss (0 ∷ 1 ∷ 2 ∷ 3 ∷ 8 ∷ 9 ∷ 10 ∷ 12 ∷ 13 ∷ 15 ∷ 16 ∷ 17 ∷ 18 ∷ 19 ∷ 20 ∷ []) 14 tt h
-not-written (Order.Move b s e) h w = w
-not-written (Order.Layers s e) h w = w
-not-written (Order.Wrap r d s e) h w = w
-not-written (Order.Unwrap s e) h w = w
-not-written (Order.Plan n s e) h w = w
-not-written (Order.Vet n p s e) h w = w
-
-pub written : (o : Order) → OneOf (4 ∷ 5 ∷ 6 ∷ 7 ∷ 11 ∷ 14 ∷ []) (tagOf the-type o) → WritesRecords o
-written Order.Blank h = miss (4 ∷ 5 ∷ 6 ∷ 7 ∷ 11 ∷ 14 ∷ []) 0 tt h
-written Order.Bad h = miss (4 ∷ 5 ∷ 6 ∷ 7 ∷ 11 ∷ 14 ∷ []) 1 tt h
-written (Order.Start n) h = miss (4 ∷ 5 ∷ 6 ∷ 7 ∷ 11 ∷ 14 ∷ []) 2 tt h
-written (Order.Room n) h = miss (4 ∷ 5 ∷ 6 ∷ 7 ∷ 11 ∷ 14 ∷ []) 3 tt h
-written (Order.Take n s f) h = tt
-written (Order.Join s f) h = tt
-written (Order.Leave s f) h = tt
-written (Order.Route s f n) h = tt
-written (Order.Label n) h = miss (4 ∷ 5 ∷ 6 ∷ 7 ∷ 11 ∷ 14 ∷ []) 8 tt h
-written (Order.Tree s f) h = miss (4 ∷ 5 ∷ 6 ∷ 7 ∷ 11 ∷ 14 ∷ []) 9 tt h
-written Order.Free h = miss (4 ∷ 5 ∷ 6 ∷ 7 ∷ 11 ∷ 14 ∷ []) 10 tt h
-written (Order.Notice n k s f) h = tt
-written (Order.Save b) h = miss (4 ∷ 5 ∷ 6 ∷ 7 ∷ 11 ∷ 14 ∷ []) 12 tt h
-written (Order.Restore b s f) h = miss (4 ∷ 5 ∷ 6 ∷ 7 ∷ 11 ∷ 14 ∷ []) 13 tt h
-written (Order.Lost n) h = tt
-written (Order.Move b s f) h = miss (4 ∷ 5 ∷ 6 ∷ 7 ∷ 11 ∷ 14 ∷ []) 15 tt h
-written (Order.Layers s f) h = miss (4 ∷ 5 ∷ 6 ∷ 7 ∷ 11 ∷ 14 ∷ []) 16 tt h
-written (Order.Wrap r d s f) h = miss (4 ∷ 5 ∷ 6 ∷ 7 ∷ 11 ∷ 14 ∷ []) 17 tt h
-written (Order.Unwrap s f) h = miss (4 ∷ 5 ∷ 6 ∷ 7 ∷ 11 ∷ 14 ∷ []) 18 tt h
-written (Order.Plan n s f) h = miss (4 ∷ 5 ∷ 6 ∷ 7 ∷ 11 ∷ 14 ∷ []) 19 tt h
-written (Order.Vet n p s f) h = miss (4 ∷ 5 ∷ 6 ∷ 7 ∷ 11 ∷ 14 ∷ []) 20 tt h
 
 pub room-stays : (number room : ℕ) (c : Card) (l : List ℕ) (o : Order) → OneOf (0 ∷ 1 ∷ 2 ∷ 4 ∷ 5 ∷ 6 ∷ 7 ∷ 8 ∷ 9 ∷ 10 ∷ 11 ∷ 12 ∷ 13 ∷ 14 ∷ 15 ∷ 16 ∷ 17 ∷ 18 ∷ 19 ∷ 20 ∷ []) (tagOf the-type o) → room ≡ replyTo number room c (meant l o) .room
 unfolding meant replyTo only counted told shifted

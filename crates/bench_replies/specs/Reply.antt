@@ -15,7 +15,6 @@ use Rattle.bench_words.specs.Words.{ascii}
 use Rattle.bench_verbs.specs.Line.{Said}
 use Rattle.bench_lines.specs.Text.{countLine, eventLine, feedLine, textSpace}
 use Rattle.bench_layers.specs.LayerText.{layersLine, wrapLine, unwrapLine}
-use Rattle.bench_orders.specs.declared.Order.{Order}
 use Rattle.bench_replies.specs.PlanText.{planLine, verdictLine}
 
 -- room: how many octets of output later events and saves are lent
@@ -106,27 +105,3 @@ pub record Says (reply : Reply) (r : ℕ) (text : List ℕ) (card : Card) : Type
 pub record Answers (reply : Reply) (r : ℕ) (text : List ℕ) (card : Card) (room : ℕ) : Type 0 where
   pub says : Says reply r text card
   pub next : room ≡ reply .room
-
--- the orders that write records, but for saves
-abbrev pub WritesRecords : Order → Type 0
-WritesRecords Order.Blank = ⊥
-WritesRecords Order.Bad = ⊥
-WritesRecords (Order.Start n) = ⊥
-WritesRecords (Order.Room n) = ⊥
-WritesRecords (Order.Take n s e) = Unit
-WritesRecords (Order.Join s e) = Unit
-WritesRecords (Order.Leave s e) = Unit
-WritesRecords (Order.Route s e n) = Unit
-WritesRecords (Order.Label n) = ⊥
-WritesRecords (Order.Tree s e) = ⊥
-WritesRecords Order.Free = ⊥
-WritesRecords (Order.Notice n k s e) = Unit
-WritesRecords (Order.Save b) = ⊥
-WritesRecords (Order.Restore b s e) = ⊥
-WritesRecords (Order.Lost n) = Unit
-WritesRecords (Order.Move b s e) = ⊥
-WritesRecords (Order.Layers s e) = ⊥
-WritesRecords (Order.Wrap r d s e) = ⊥
-WritesRecords (Order.Unwrap s e) = ⊥
-WritesRecords (Order.Plan n s e) = ⊥
-WritesRecords (Order.Vet n p s e) = ⊥

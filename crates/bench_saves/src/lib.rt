@@ -10,8 +10,8 @@ ghost use Rattle.memory.specs.Memory.{cardOf};
 ghost use Rattle.bench_words.specs.Words.{octetsOf};
 ghost use Rattle.bench_verbs.specs.Line.{Said};
 ghost use Rattle.bench_orders.specs.Tells.{meant, InLine};
+ghost use Rattle.bench_replies.specs.Kinds.{Kind, kindOf};
 ghost use Rattle.bench_replies.specs.Reply.{saveWord, restoreWord, replyTo, Says};
-ghost use Rattle.bench_saves.specs.Saved.{OnSaves};
 use bench_orders::OLD_SAVE_LIMIT;
 use bench_orders::Order;
 use meaning::SAVE_LIMIT;
@@ -182,7 +182,7 @@ pub fn on_saved(
     room: u32,
     text: &mut [u8],
 ) -> usize
-    requires { ⌜ InLine (now line) order × OnSaves order × (textSpace ≤ length (now text)) ⌝ }
+    requires { ⌜ InLine (now line) order × (kindOf order ≡ Kind.saves) × (textSpace ≤ length (now text)) ⌝ }
     ensures { λ r. ⌜ ((number : ℕ) → Says (replyTo number room (cardOf (now (numbers .entry)) (now (names .entry))) (meant (now (line .entry)) order))
         r (now (text .exit)) (cardOf (now (numbers .exit)) (now (names .exit)))) ⌝ }
 {

@@ -1,2 +1,1 @@
-pub mod Layered
 pub mod Told

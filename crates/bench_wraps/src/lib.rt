@@ -11,8 +11,8 @@ ghost use Rattle.bench_words.specs.Words.{octetsOf};
 ghost use Rattle.bench_verbs.specs.Line.{Said};
 ghost use Rattle.bench_orders.specs.Tells.{meant, Lies, InLine};
 ghost use Rattle.bench_orders.specs.declared.Order.{Order};
+ghost use Rattle.bench_replies.specs.Kinds.{Kind, kindOf};
 ghost use Rattle.bench_replies.specs.Reply.{replyTo, Says};
-ghost use Rattle.bench_wraps.specs.Layered.{OnLayers};
 use bench_orders::Order;
 use bench_words::Word;
 use meaning::NAME_LIMIT;
@@ -112,7 +112,7 @@ fn wrap_words(
 
 // An order on layers: no other comes here.
 pub fn on_layered(line: &[u8], order: Order, room: u32, text: &mut [u8]) -> usize
-    requires { ⌜ InLine (now line) order × OnLayers order × (textSpace ≤ length (now text)) ⌝ }
+    requires { ⌜ InLine (now line) order × (kindOf order ≡ Kind.layers) × (textSpace ≤ length (now text)) ⌝ }
     ensures { λ r. ⌜ ((number : ℕ) (c : Card) → Says (replyTo number room c (meant (now (line .entry)) order)) r (now (text .exit)) c) ⌝ }
 {
     match order {

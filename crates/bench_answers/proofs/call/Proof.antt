@@ -1,5 +1,6 @@
 -- `bench_answers::call` meets its contract, by the order's variant. Assumes nothing.
-use Rattle.bench_replies.proofs.Reply.{not-written}
+use Rattle.bench_replies.specs.Kinds.{Kind}
+use Rattle.bench_replies.proofs.Arms.{of-others}
 use Rattle.bench_answers.specs.Held.{callOf}
 use borrow.Author.Needs.{needs}
 use Rattle.bench_answers.proofs.call.Statement.{statement}
@@ -84,7 +85,7 @@ unfolding callOf
 returns-6 c = rw (c .before .before .before .before .before .before .before .before .order4 .given .1) (c .before .before .lost-core .ensures)
 
 returns-7 : tie.Need-returns-7
-returns-7 c = absurd (not-written (c .before .before .before .args .order) (c .match .keys7) (c .before .before .before .pre))
+returns-7 c = absurd (of-others Kind.records (c .before .before .before .args .order) (c .match .keys7) (c .before .before .before .pre))
 
 pub call-spec : {M : Type 1} → statement M
 call-spec =

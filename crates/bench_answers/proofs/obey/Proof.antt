@@ -1,11 +1,9 @@
 -- `bench_answers::obey` meets its contract, by the order's variant. Assumes nothing.
 use Rattle.bench_orders.specs.Tells.{meant}
 use Rattle.bench_replies.specs.Reply.{only, replyTo}
-use Rattle.bench_replies.proofs.Reply.{lies, short, written, says-only}
-use Rattle.bench_answers.proofs.Counts.{counts}
-use Rattle.bench_saves.proofs.Saved.{saved}
-use Rattle.bench_wraps.proofs.Layered.{layered}
-use Rattle.bench_plans.proofs.Planned.{planned}
+use Rattle.bench_replies.specs.Kinds.{Kind}
+use Rattle.bench_replies.proofs.Arms.{of-kind}
+use Rattle.bench_replies.proofs.Reply.{lies, short, says-only}
 use mathlib.Core.List.{[]}
 use mathlib.Core.Path.{refl}
 use native.Mathlib.Omega.{arith}
@@ -19,7 +17,7 @@ enum-told c = search needs
 on-counted-requires : tie.Need-on-counted-requires
 on-counted-requires c κs =
     let start = c .before .before .before .before .before in
-    (counts (start .args .order) (c .before .before .match .keys2), start .pre .1)
+    (of-kind Kind.count (start .args .order) (c .before .before .match .keys2), start .pre .1)
 
 enum-known-order : tie.Need-enum-known-order
 enum-known-order c = search needs
@@ -47,22 +45,22 @@ on-tree-requires c κs =
 on-saved-requires : tie.Need-on-saved-requires
 on-saved-requires c κs =
     let start = c .before .before .before .before .before .before in
-    (start .pre .0, saved (start .args .order) (c .before .before .before .match .keys5), start .pre .1)
+    (start .pre .0, of-kind Kind.saves (start .args .order) (c .before .before .before .match .keys5), start .pre .1)
 
 on-layered-requires : tie.Need-on-layered-requires
 on-layered-requires c κs =
     let start = c .before .before .before .before in
-    (start .pre .0, layered (start .args .order) (c .before .match .keys6), start .pre .1)
+    (start .pre .0, of-kind Kind.layers (start .args .order) (c .before .match .keys6), start .pre .1)
 
 on-planned-requires : tie.Need-on-planned-requires
 on-planned-requires c κs =
     let start = c .before .before .before .before .before .before in
-    (start .pre .0, planned (start .args .order) (c .before .before .before .match .keys7), start .pre .1)
+    (start .pre .0, of-kind Kind.plans (start .args .order) (c .before .before .before .match .keys7), start .pre .1)
 
 on-event-requires : tie.Need-on-event-requires
 on-event-requires c κs =
     let start = c .before .before .before .before .before .before in
-    (start .pre .0, written (start .args .order) (c .before .before .before .match .keys8), start .pre .1)
+    (start .pre .0, of-kind Kind.records (start .args .order) (c .before .before .before .match .keys8), start .pre .1)
 
 returns : tie.Need-returns
 unfolding meant replyTo only

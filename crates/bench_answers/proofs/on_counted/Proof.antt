@@ -3,9 +3,10 @@ use Rattle.bench_orders.specs.Tells.{meant}
 use Rattle.bench_words.specs.Words.{ascii}
 use Rattle.bench_lines.specs.Text.{countLine}
 use Rattle.meaning.specs.Events.{start}
+use Rattle.bench_replies.specs.Kinds.{Kind}
 use Rattle.bench_replies.specs.Reply.{only, counted, replyTo}
+use Rattle.bench_replies.proofs.Arms.{of-others}
 use Rattle.bench_replies.proofs.Reply.{says-only, says-counted}
-use Rattle.bench_answers.proofs.Counts.{not-counts}
 use mathlib.Core.Path.{ap, _∙_}
 use native.Mathlib.Omega.{arith}
 use borrow.Author.Needs.{needs}
@@ -92,7 +93,7 @@ unfolding meant replyTo only ascii
 returns-4 c = λ room l os. rw (c .before .before .before .before .before .before .before .enum-told2 .given .1) (says-only _ _ _ _ _ (omega arith) (c .before .before .put-count4 .ensures .0 ∙ ap (countLine (ascii "free")) (c .before .before .before .free-labels .ensures os)))
 
 returns-5 : tie.Need-returns-5
-returns-5 c = λ room l os. absurd (not-counts (c .before .before .args .order) (c .match .keys5) (c .before .before .pre .0))
+returns-5 c = λ room l os. absurd (of-others Kind.count (c .before .before .args .order) (c .match .keys5) (c .before .before .pre .0))
 
 pub on-counted-spec : {M : Type 1} → statement M
 on-counted-spec =

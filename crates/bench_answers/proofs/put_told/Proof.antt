@@ -1,6 +1,7 @@
 -- `bench_answers::put_told` meets its contract, by the order's variant. Assumes nothing.
 use Rattle.bench_words.specs.Words.{ascii}
-use Rattle.bench_replies.proofs.Reply.{not-written}
+use Rattle.bench_replies.specs.Kinds.{Kind}
+use Rattle.bench_replies.proofs.Arms.{of-others}
 use Rattle.bench_answers.specs.Held.{wordOf}
 use borrow.Author.Needs.{needs}
 use Rattle.bench_answers.proofs.put_told.Statement.{statement}
@@ -103,7 +104,7 @@ unfolding wordOf ascii
 returns-6 c = rw (c .before .before .before .before .before .enum-told6 .given .1) (c .before .before .put-event6 .ensures .0, c .before .before .put-event6 .ensures .1)
 
 returns-7 : tie.Need-returns-7
-returns-7 c = absurd (not-written (c .before .before .before .args .order) (c .match .keys7) (c .before .before .before .pre .0))
+returns-7 c = absurd (of-others Kind.records (c .before .before .before .args .order) (c .match .keys7) (c .before .before .before .pre .0))
 
 pub put-told-spec : {M : Type 1} → statement M
 put-told-spec =

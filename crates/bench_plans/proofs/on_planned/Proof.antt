@@ -1,7 +1,8 @@
 -- `bench_plans::on_planned` meets its contract, by the order's variant. Assumes nothing.
 use Rattle.bench_orders.specs.Tells.{meant}
+use Rattle.bench_replies.specs.Kinds.{Kind}
+use Rattle.bench_replies.proofs.Arms.{of-others}
 use Rattle.bench_replies.proofs.Reply.{lies, short}
-use Rattle.bench_plans.proofs.Planned.{not-planned}
 use borrow.Author.Needs.{needs}
 use Rattle.bench_plans.proofs.on_planned.Statement.{statement}
 use Rattle.bench_plans.proofs.on_planned.Tie as tie
@@ -65,7 +66,7 @@ unfolding meant
 returns-2 c = λ number room. rw (c .before .before .before .before .before .before .before .order2 .given .1) (c .before .before .on-vet .ensures number room)
 
 returns-3 : tie.Need-returns-3
-returns-3 c = λ number room. absurd (not-planned (c .before .before .before .args .order) (c .match .keys3) (c .before .before .before .pre .1))
+returns-3 c = λ number room. absurd (of-others Kind.plans (c .before .before .before .args .order) (c .match .keys3) (c .before .before .before .pre .1))
 
 pub on-planned-spec : {M : Type 1} → statement M
 on-planned-spec =

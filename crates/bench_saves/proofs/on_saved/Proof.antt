@@ -1,8 +1,9 @@
 -- `bench_saves::on_saved` meets its contract, by the order's variant. Assumes nothing.
 use Rattle.bench_orders.specs.Tells.{meant}
+use Rattle.bench_replies.specs.Kinds.{Kind}
+use Rattle.bench_replies.proofs.Arms.{of-others}
 use Rattle.bench_replies.proofs.Reply.{lies}
 use Rattle.bench_saves.proofs.Saves.{lies-most}
-use Rattle.bench_saves.proofs.Saved.{not-saved}
 use borrow.Author.Needs.{needs}
 use Rattle.bench_saves.proofs.on_saved.Statement.{statement}
 use Rattle.bench_saves.proofs.on_saved.Tie as tie
@@ -69,7 +70,7 @@ unfolding meant
 returns-3 c = λ number. rw (c .before .before .before .before .before .before .order3 .given .1) (c .before .before .on-move .ensures number _)
 
 returns-4 : tie.Need-returns-4
-returns-4 c = λ number. absurd (not-saved (c .before .before .before .args .order) (c .match .keys4) (c .before .before .before .pre .1))
+returns-4 c = λ number. absurd (of-others Kind.saves (c .before .before .before .args .order) (c .match .keys4) (c .before .before .before .pre .1))
 
 pub on-saved-spec : {M : Type 1} → statement M
 on-saved-spec =

@@ -1,7 +1,8 @@
 -- `bench_wraps::on_layered` meets its contract, by the order's variant. Assumes nothing.
 use Rattle.bench_orders.specs.Tells.{meant}
+use Rattle.bench_replies.specs.Kinds.{Kind}
+use Rattle.bench_replies.proofs.Arms.{of-others}
 use Rattle.bench_replies.proofs.Reply.{lies, short}
-use Rattle.bench_wraps.proofs.Layered.{not-layered}
 use borrow.Author.Needs.{needs}
 use Rattle.bench_wraps.proofs.on_layered.Statement.{statement}
 use Rattle.bench_wraps.proofs.on_layered.Tie as tie
@@ -70,7 +71,7 @@ unfolding meant
 returns-3 c = λ number d. rw (c .before .before .before .before .before .before .order3 .given .1) (c .before .before .on-unwrap .ensures number d)
 
 returns-4 : tie.Need-returns-4
-returns-4 c = λ number d. absurd (not-layered (c .before .before .before .args .order) (c .match .keys4) (c .before .before .before .pre .1))
+returns-4 c = λ number d. absurd (of-others Kind.layers (c .before .before .before .args .order) (c .match .keys4) (c .before .before .before .pre .1))
 
 pub on-layered-spec : {M : Type 1} → statement M
 on-layered-spec =
