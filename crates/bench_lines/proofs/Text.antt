@@ -6,11 +6,13 @@ use mathlib.Core.Path.{_≡_, refl, sym, ap, _∙_}
 use mathlib.Core.List.{List, [], _∷_, _++_, append-assoc}
 use lib.ListN.{length, take, drop, getD, length-append}
 use lib.Seq.{length-take-le, take-append-add, take-at, take-suc}
-use borrow.Author.Tests.{lt-ltb}
+use lib.Dec.{eqb}
+use borrow.Author.Tests.{lt-ltb, eqb-true, eqb-false}
+use Rattle.meaning.specs.Octets.{pick}
 use Rattle.meaning.specs.Lists.{append-nil, by-test}
 use Rattle.meaning.specs.Card.{Branch, isBranch, branchesFrom}
-use Rattle.bench_words.specs.Words.{ascii, numeral, hexOf, Puts}
-use Rattle.bench_lines.specs.Text.{recordsText, branchText, branchesText, orNothing, Adds}
+use Rattle.bench_words.specs.Words.{numeral, hexOf, Puts}
+use Rattle.bench_lines.specs.Text.{recordsText, branchAs, branchesAs, orElse, Adds}
 
 pub adds-none : (t : List ℕ) (at : ℕ) → Adds [] t t at at
 adds-none t at = record { count = omega arith; text = sym (append-nil (take at t)) }
@@ -48,11 +50,6 @@ records-some (o ∷ os) e = refl
 
 -- ---- branches
 
-branches-after : (xs ys : List Branch) → branchesText (xs ++ ys) ≡ branchesText xs ++ branchesText ys
-unfolding branchesText
-branches-after [] ys = refl
-branches-after (b ∷ xs) ys = rw (branches-after xs ys) (sym (append-assoc (branchText b) (branchesText xs) (branchesText ys)))
-
 pub branches-snoc : (n : ℕ) (xs : List ℕ) (label : ℕ) → branchesFrom n (xs ++ (label ∷ [])) ≡ branchesFrom n xs ++ branchesFrom (n + length xs) (label ∷ [])
 unfolding branchesFrom
 branches-snoc n [] label = let e : n ≡ n + 0 = omega arith in ap (λ (m : ℕ). branchesFrom m (label ∷ [])) e
@@ -61,39 +58,42 @@ branches-snoc n (x ∷ xs) label =
     let later : branchesFrom (suc n) (xs ++ (label ∷ [])) ≡ branchesFrom (suc n) xs ++ branchesFrom (n + suc (length xs)) (label ∷ []) = rw e at (branches-snoc (suc n) xs label) in
     by-test (isBranch x) (λ t. rw (t, later)) (λ t. rw (t, later))
 
-pub branches-more : (l : List ℕ) (i : ℕ) → i < length l → branchesText (branchesFrom 0 (take i l)) ++ branchesText (branchesFrom i (getD l i 0 ∷ [])) ≡ branchesText (branchesFrom 0 (take (i + 1) l))
-branches-more l i h =
-    let e : 0 + length (take i l) ≡ i = rw (length-take-le i l (omega arith)) (omega arith) in
-    sym (rw (add-one i, take-suc l i 0 h) (ap branchesText (branches-snoc 0 (take i l) (getD l i 0) ∙ rw e) ∙ branches-after (branchesFrom 0 (take i l)) (branchesFrom i (getD l i 0 ∷ []))))
+module _ (before between : List ℕ) where
+  branches-after : (xs ys : List Branch) → branchesAs before between (xs ++ ys) ≡ branchesAs before between xs ++ branchesAs before between ys
+  unfolding branchesAs
+  branches-after [] ys = refl
+  branches-after (b ∷ xs) ys = rw (branches-after xs ys) (sym (append-assoc (branchAs before between b) (branchesAs before between xs) (branchesAs before between ys)))
 
-pub branch-none : (n label : ℕ) → label ≡ 0 → branchesText (branchesFrom n (label ∷ [])) ≡ []
-unfolding branchesFrom branchesText isBranch
-branch-none n label e = rw e refl
+  pub branches-more : (l : List ℕ) (i : ℕ) → i < length l
+      → branchesAs before between (branchesFrom 0 (take i l)) ++ branchesAs before between (branchesFrom i (getD l i 0 ∷ [])) ≡ branchesAs before between (branchesFrom 0 (take (i + 1) l))
+  branches-more l i h =
+      let e : 0 + length (take i l) ≡ i = rw (length-take-le i l (omega arith)) (omega arith) in
+      sym (rw (add-one i, take-suc l i 0 h) (ap (branchesAs before between) (branches-snoc 0 (take i l) (getD l i 0) ∙ rw e) ∙ branches-after (branchesFrom 0 (take i l)) (branchesFrom i (getD l i 0 ∷ []))))
 
-pub branch-one : (n label : ℕ) → (label ≡ 0 → ⊥) → branchesText (branchesFrom n (label ∷ [])) ≡ 32 ∷ numeral n ++ (58 ∷ numeral label)
-unfolding branchesFrom branchesText branchText isBranch
-branch-one n label h = rw (lt-ltb 0 label (omega arith)) (append-nil (32 ∷ numeral n ++ (58 ∷ numeral label)))
+  pub branch-none : (n label : ℕ) → label ≡ 0 → branchesAs before between (branchesFrom n (label ∷ [])) ≡ []
+  unfolding branchesFrom branchesAs isBranch
+  branch-none n label e = rw e refl
+
+  pub branch-one : (n label : ℕ) → (label ≡ 0 → ⊥) → branchesAs before between (branchesFrom n (label ∷ [])) ≡ (before ++ numeral n) ++ (between ++ numeral label)
+  unfolding branchesFrom branchesAs branchAs isBranch
+  branch-one n label h = rw (lt-ltb 0 label (omega arith)) (append-nil (before ++ (numeral n ++ (between ++ numeral label))) ∙ sym (append-assoc before (numeral n) (between ++ numeral label)))
 
 -- ---- a feed
 
-pub feed-none : (l : List ℕ) → length l ≡ 0 → l ++ ascii " nothing" ≡ orNothing l
-unfolding orNothing
-feed-none [] e = refl
-feed-none (c ∷ l) e = absurd (omega arith)
+else-none : (none l : List ℕ) → length l ≡ 0 → l ++ none ≡ orElse none l
+unfolding orElse
+else-none none [] e = refl
+else-none none (c ∷ l) e = absurd (omega arith)
 
-pub feed-some : (l : List ℕ) → (length l ≡ 0 → ⊥) → orNothing l ≡ l
-unfolding orNothing
-feed-some [] e = absurd (e refl)
-feed-some (c ∷ l) e = refl
+else-some : (none l : List ℕ) → (length l ≡ 0 → ⊥) → l ++ [] ≡ orElse none l
+unfolding orElse
+else-some none [] e = absurd (e refl)
+else-some none (c ∷ l) e = append-nil (c ∷ l)
 
-module _ {word l m a b c d : List ℕ} {s p q : ℕ} (f : Adds word a b 0 s) (g : Adds l b c s p) (h : Adds m c d p q) where
-  pub feed-nothing : {e k : List ℕ} {u r : ℕ} → q ≡ s → Adds (ascii " nothing") d e q u → Adds (10 ∷ []) e k u r → Adds (word ++ (orNothing (l ++ m) ++ (10 ∷ []))) a k 0 r
-  feed-nothing z i j =
-      let both = adds-then g h in
-      adds-then f (adds-then (rw (feed-none (l ++ m) (omega (arith, both .count))) at (adds-then both i)) j)
-
-  pub feed-listed : {e : List ℕ} {r : ℕ} → (q ≡ s → ⊥) → Adds (10 ∷ []) d e q r → Adds (word ++ (orNothing (l ++ m) ++ (10 ∷ []))) a e 0 r
-  feed-listed z j =
-      let both = adds-then g h in
-      let some : length (l ++ m) ≡ 0 → ⊥ = λ n. z (omega (arith, both .count)) in
-      rw (feed-some (l ++ m) some) (adds-then f (adds-then both j))
+-- where nothing was added, it is said
+pub feed-adds : (none : List ℕ) {l m a b c d : List ℕ} {s p q r : ℕ} → Adds l a b s p → Adds m b c p q → Adds (pick (eqb q s) none []) c d q r → Adds (orElse none (l ++ m)) a d s r
+feed-adds none {l} {m} {s = s} {q = q} f g h =
+    let both = adds-then f g in
+    by-test (eqb q s)
+    (λ e. rw (else-none none (l ++ m) (let w = eqb-true q s e in omega (arith, both .count))) at (adds-then both (rw e at h)))
+    (λ e. rw (else-some none (l ++ m) (λ z. eqb-false q s e (omega (arith, both .count)))) at (adds-then both (rw e at h)))

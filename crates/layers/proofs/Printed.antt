@@ -8,6 +8,7 @@ use mathlib.Core.List.{List, [], _∷_, _++_, append-assoc}
 use lib.ListN.{length, take, drop, getD}
 use lib.Seq.{take-all, take-at, take-suc}
 use borrow.Author.Tests.{eq-eqb, ne-eqb}
+use Rattle.meaning.specs.Octets.{pick}
 use Rattle.meaning.specs.Lists.{append-nil}
 use Rattle.meaning.specs.Card.{Tree, Card, treeAt, bare}
 use Rattle.meaning_save.specs.Save.{Form, old, new, formOf, saveLimit, tableIn, isSave, isTree}
@@ -16,7 +17,10 @@ use Rattle.meaning_laws.specs.SaveLaws.{ruled-keeps, taken-is-save}
 use Rattle.meaning_laws.specs.SaveRules.{all-at, Rules, rules}
 use Rattle.bench_words.specs.Words.{isHexTo, octetsOf, Puts}
 use Rattle.layers.specs.TreeText.{treeLine}
-use Rattle.layers.specs.Shown.{treesText, tableText, noSave, shownOf, hexIn, shown, AllNamed}
+use Rattle.layers.specs.Shown.{treesText, tableText, noSave, shownOf, hexIn, shown, AllNamed, Shows}
+
+never : false ≡ true → ⊥
+never e = let z : _≡_ {A = ℕ} 0 1 = ap (λ (b : Bool). pick b 1 0) e in absurd (omega arith)
 
 -- ---- the lines
 
@@ -47,24 +51,28 @@ unfolding treeAt
 trees-at c r i k = all-at isTree (c .trees) (bare []) (r .trees) i k
 
 -- the names of a table that was taken pass 6, 7 and 18
-pub taken-named : (f : Form) (o : List ℕ) (c : Card) → isSave f o ≡ true → c ≡ tableIn f o → AllNamed c
+taken-named : (f : Form) (o : List ℕ) (c : Card) → isSave f o ≡ true → c ≡ tableIn f o → AllNamed c
 taken-named f o c h e =
     let t = tableIn f o in
     let all : AllNamed t = tree-named t (trees-at t (rules t (ruled-keeps f t (taken-is-save f o h .0)))) in
     rw e all
 
-module _ (o : List ℕ) where
-  pub shown-old : (c : Card) → isSave (formOf false) o ≡ true → c ≡ tableIn (formOf false) o → tableText c ≡ shownOf o
+module _ (o : List ℕ) (c : Card) where
+  pub shows-old : isSave (formOf false) o ≡ true → c ≡ tableIn (formOf false) o → Shows true (shownOf o) c
   unfolding shownOf formOf
-  shown-old c h e = rw h (ap tableText e)
+  shows-old h e = record { shows = rw h (ap tableText (sym e)); named = λ _. taken-named (formOf false) o c h e }
 
-  pub shown-new : (c : Card) → isSave (formOf false) o ≡ false → isSave (formOf true) o ≡ true → c ≡ tableIn (formOf true) o → tableText c ≡ shownOf o
+  pub shows-new : (b : Bool) → isSave (formOf false) o ≡ false → b ≡ isSave (formOf true) o → (b ≡ true → c ≡ tableIn (formOf true) o) → Shows b (shownOf o) c
   unfolding shownOf formOf
-  shown-new c h k e = rw (h, k) (ap tableText e)
+  shows-new true h k e = record { shows = rw (h, ← k) (ap tableText (sym (e refl))); named = λ _. taken-named (formOf true) o c (sym k) (e refl) }
+  shows-new false h k e = record { shows = rw (h, ← k) refl; named = λ z. taken-named (formOf true) o c (sym k ∙ z) (e z) }
 
-  pub shown-none : isSave (formOf false) o ≡ false → isSave (formOf true) o ≡ false → noSave ≡ shownOf o
-  unfolding shownOf formOf
-  shown-none h k = rw (h, k) refl
+module _ {b : Bool} {t : List ℕ} {c : Card} (s : Shows b t c) where
+  pub shown-taken : b ≡ true → tableText c ≡ t
+  shown-taken e = sym (rw e at (s .shows))
+
+  pub shown-none : b ≡ false → noSave ≡ t
+  shown-none e = sym (rw e at (s .shows))
 
 -- ---- the input
 
@@ -84,11 +92,14 @@ pub hex-open : (l : List ℕ) → (getD l (length l - 1) 0 ≡ 10 → ⊥) → t
 unfolding hexIn
 hex-open l e = rw (ne-eqb (getD l (length l - 1) 0) 10 e) (take-all (length l) l (omega arith))
 
-module _ (l w : List ℕ) (p : w ≡ hexIn l) (b : Bool) (q : b ≡ isHexTo (2 * saveLimit new) w) where
-  pub shown-hex : b ≡ true → shownOf (octetsOf w) ≡ shown l
+module _ (l w : List ℕ) (p : w ≡ hexIn l) (b : Bool) (q : b ≡ isHexTo (2 * saveLimit new) w) {card : Card} where
+  pub shows-hex : {taken : Bool} → b ≡ true → Shows taken (shownOf (octetsOf w)) card → Shows taken (shown l) card
   unfolding shown
-  shown-hex t = rw (sym p, sym q ∙ t) refl
+  shows-hex t s = rw (sym p, sym q ∙ t) s
 
-  pub shown-other : b ≡ false → noSave ≡ shown l
+  pub shows-other : b ≡ false → Shows false (shown l) card
   unfolding shown
-  shown-other t = rw (sym p, sym q ∙ t) refl
+  shows-other t = record { shows = rw (sym p, sym q ∙ t) refl; named = λ z. absurd (never z) }
+
+pub shows-decoded : {ys before after : List ℕ} {n : ℕ} {taken : Bool} {card : Card} → Puts ys before after n → Shows taken (shownOf (take n after)) card → Shows taken (shownOf ys) card
+shows-decoded p s = rw (front-is p) at s

@@ -2,6 +2,7 @@
 -- Assumes nothing.
 use Prim.Native.Nat.{ℕ, _*_, _-_, _<_}
 use mathlib.Core.Path.{_≡_}
+use mathlib.Core.Bool.{Bool, true}
 use mathlib.Core.List.{List, [], _∷_, _++_}
 use lib.ListN.{length, take, getD}
 use lib.Dec.{eqb}
@@ -44,3 +45,8 @@ shownSpace = treeLimit * lineSpace
 -- each tree's name passes 6, 7 and 18, as in every table that keeps the rules
 abbrev pub AllNamed : Card → Type 0
 AllNamed c = (i : ℕ) → i < length (c .trees) → elementRefusal (treeAt i c .name) ≡ 0
+
+-- what is shown, by whether a save was taken, and by the card that it left
+pub record Shows (taken : Bool) (text : List ℕ) (card : Card) : Type 0 where
+  pub shows : text ≡ pick taken (tableText card) noSave
+  pub named : taken ≡ true → AllNamed card

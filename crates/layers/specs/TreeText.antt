@@ -9,6 +9,7 @@ use Rattle.meaning.specs.Wire.{nameLimit}
 use Rattle.meaning.specs.Card.{Branch, Feed, Tree, Card, lookupName}
 use Rattle.meaning_layers.specs.Layers.{peel}
 use Rattle.bench_words.specs.Words.{ascii, numeral}
+use Rattle.bench_lines.specs.Text.{branchesAs, orElse, numberSpace, feedSpace}
 use Rattle.bench_layers.specs.LayerText.{peeledText}
 
 -- our own label for the tree, 0 for none
@@ -18,34 +19,23 @@ labelWords l = pick (eqb l 0) (ascii ": no label") (ascii ": label " ++ numeral 
 unfoldable pub leafWords : Bool → List ℕ
 leafWords leaf = pick leaf (ascii ", to the leaf") []
 
-unfoldable pub branchWords : Branch → List ℕ
-branchWords b = ascii ", to neighbour " ++ (numeral (b .neighbour) ++ (ascii " with label " ++ numeral (b .label)))
-
+-- `, to neighbour N with label L` for each
 unfoldable pub branchesWords : List Branch → List ℕ
-branchesWords [] = []
-branchesWords (b ∷ bs) = branchWords b ++ branchesWords bs
-
-unfoldable pub orNone : List ℕ → List ℕ
-orNone [] = ascii ", to nothing"
-orNone (c ∷ cs) = c ∷ cs
+branchesWords bs = branchesAs (ascii ", to neighbour ") (ascii " with label ") bs
 
 -- what a lookup of the tree's name gives
 unfoldable pub feedWords : Feed → List ℕ
-feedWords feed = orNone (leafWords (feed .leaf) ++ branchesWords (feed .branches))
+feedWords feed = orElse (ascii ", to nothing") (leafWords (feed .leaf) ++ branchesWords (feed .branches))
 
 unfoldable pub treeLine : Card → Tree → List ℕ
 treeLine c t = peeledText (peel (t .name)) ++ (labelWords (t .label) ++ (feedWords (lookupName (t .name) c) ++ (10 ∷ [])))
 
--- ---- the space of such a line: three octets of text for each of the name's, `: label ` and a number, and what it leads to
+-- ---- the space of such a line
 
+-- `: label ` and a number
 abbrev pub labelSpace : ℕ
-labelSpace = 28
+labelSpace = 8 + numberSpace
 
-abbrev pub branchSpace : ℕ
-branchSpace = 67
-
-abbrev pub feedSpace : ℕ
-feedSpace = 1097
-
+-- three octets of text for each of the name's, the label, what the tree leads to, and the line's end
 abbrev pub lineSpace : ℕ
-lineSpace = 3 * nameLimit + 1126
+lineSpace = 3 * nameLimit + labelSpace + feedSpace + 1

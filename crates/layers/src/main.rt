@@ -4,15 +4,17 @@ ghost use mathlib.Core.List.{[], _∷_, _++_};
 ghost use Prim.Native.Nat.{_+_, _*_, _≤_, _<_};
 ghost use lib.ListN.{length, take};
 ghost use Rattle.meaning.specs.Wire.{elementRefusal};
-ghost use Rattle.meaning.specs.Card.{branchesFrom, lookupName, treeAt, neighbourCount};
+ghost use Rattle.meaning.specs.Card.{lookupName, treeAt};
 ghost use Rattle.meaning.specs.Calls.{feedIn};
 ghost use Rattle.meaning_save.specs.Save.{new, saveLimit};
 ghost use Rattle.memory.specs.Sizes.{Numbers, Names};
 ghost use Rattle.memory.specs.Memory.{cardOf, StandsAt};
 ghost use Rattle.bench_words.specs.Words.{octetsOf};
-ghost use Rattle.bench_lines.specs.Text.{Adds};
-ghost use Rattle.layers.specs.TreeText.{labelWords, leafWords, branchesWords, feedWords, treeLine, labelSpace, branchSpace, feedSpace, lineSpace};
-ghost use Rattle.layers.specs.Shown.{tableText, noSave, shownOf, hexIn, shown, shownSpace, AllNamed};
+ghost use Rattle.bench_lines.specs.Text.{Adds, feedSpace};
+ghost use Rattle.layers.specs.TreeText.{labelWords, feedWords, treeLine, labelSpace, lineSpace};
+ghost use Rattle.layers.specs.Shown.{tableText, noSave, shownOf, hexIn, shown, shownSpace, AllNamed, Shows};
+use bench_lines::FEED_SPACE;
+use bench_lines::NUMBER_SPACE;
 use libc::STDIN_FILENO;
 use libc::STDOUT_FILENO;
 use meaning::NAME_LIMIT;
@@ -24,7 +26,9 @@ use memory::NUMBER_COUNT;
 use memory::OCTET_COUNT;
 
 // The space of a line, as `lineSpace` in specs/TreeText.antt.
-const LINE_SPACE: usize = 3 * NAME_LIMIT + 1126;
+const LABEL_SPACE: usize = 8 + NUMBER_SPACE;
+
+const LINE_SPACE: usize = 3 * NAME_LIMIT + LABEL_SPACE + FEED_SPACE + 1;
 
 // The space of all lines, as `shownSpace` in specs/Shown.antt.
 const SHOWN_SPACE: usize = TREE_LIMIT * LINE_SPACE;
@@ -42,56 +46,7 @@ fn add_label(text: &mut [u8], at: usize, label: u64) -> usize
     if label == 0 {
         return bench_lines::add(text, at, b": no label");
     }
-    let at = bench_lines::add(text, at, b": label ");
-    bench_lines::add_number(text, at, label)
-}
-
-// A branch, or nothing where there is no label.
-fn add_branch(text: &mut [u8], at: usize, neighbour: usize, label: u64) -> usize
-    requires { ⌜ at + branchSpace ≤ length (now text) ⌝ }
-    ensures { λ r. ⌜ Adds (branchesWords (branchesFrom neighbour (label ∷ []))) (now (text .entry)) (now (text .exit)) at r ⌝ }
-    ensures { λ r. ⌜ r ≤ at + branchSpace ⌝ }
-{
-    if label == 0 {
-        return at;
-    }
-    let at = bench_lines::add(text, at, b", to neighbour ");
-    let at = bench_lines::add_number(text, at, neighbour as u64);
-    let at = bench_lines::add(text, at, b" with label ");
-    bench_lines::add_number(text, at, label)
-}
-
-fn add_branches(text: &mut [u8], from: usize, branches: &[u64]) -> usize
-    requires { ⌜ (length (now branches) ≤ neighbourCount) × (from + 1072 ≤ length (now text)) ⌝ }
-    ensures { λ r. ⌜ Adds (branchesWords (branchesFrom 0 (now (branches .entry)))) (now (text .entry)) (now (text .exit)) from r ⌝ }
-    ensures { λ r. ⌜ r ≤ from + 1072 ⌝ }
-{
-    let mut at = from;
-    let mut i = 0;
-    while i < branches.len() {
-        at = add_branch(text, at, i, branches[i]);
-        i += 1;
-    }
-    at
-}
-
-fn add_sixteen(text: &mut [u8], at: usize, branches: &[u64; NEIGHBOUR_COUNT]) -> usize
-    requires { ⌜ at + 1072 ≤ length (now text) ⌝ }
-    ensures { λ r. ⌜ Adds (branchesWords (branchesFrom 0 (now (branches .entry)))) (now (text .entry)) (now (text .exit)) at r ⌝ }
-    ensures { λ r. ⌜ r ≤ at + 1072 ⌝ }
-{
-    add_branches(text, at, branches)
-}
-
-fn add_leaf(text: &mut [u8], at: usize, leaf: bool) -> usize
-    requires { ⌜ at + 13 ≤ length (now text) ⌝ }
-    ensures { λ r. ⌜ Adds (leafWords leaf) (now (text .entry)) (now (text .exit)) at r ⌝ }
-    ensures { λ r. ⌜ r ≤ at + 13 ⌝ }
-{
-    if leaf {
-        return bench_lines::add(text, at, b", to the leaf");
-    }
-    at
+    bench_lines::add_named(text, at, b": label ", label)
 }
 
 fn add_feed(text: &mut [u8], start: usize, leaf: bool, branches: &[u64; NEIGHBOUR_COUNT]) -> usize
@@ -99,12 +54,9 @@ fn add_feed(text: &mut [u8], start: usize, leaf: bool, branches: &[u64; NEIGHBOU
     ensures { λ r. ⌜ Adds (feedWords (feedIn (now (branches .entry)) leaf)) (now (text .entry)) (now (text .exit)) start r ⌝ }
     ensures { λ r. ⌜ r ≤ start + feedSpace ⌝ }
 {
-    let at = add_leaf(text, start, leaf);
-    let at = add_sixteen(text, at, branches);
-    if at == start {
-        return bench_lines::add(text, at, b", to nothing");
-    }
-    at
+    let at = bench_lines::add_if(text, start, leaf, b", to the leaf");
+    let at = bench_lines::add_sixteen(text, at, b", to neighbour ", b" with label ", branches);
+    bench_lines::add_if(text, at, at == start, b", to nothing")
 }
 
 // What the tree of that name leads to, and the line's end.
@@ -159,25 +111,15 @@ fn put_refused(text: &mut [u8]) -> usize
     bench_lines::put_count(text, b"refused", 19)
 }
 
-// The trees of a save of either form. The memory that is lent may hold anything before and after.
-fn put_shown(
-    octets: &[u8],
-    numbers: &mut [u64],
-    names: &mut [u8],
-    spare: &mut [u8],
-    text: &mut [u8],
-) -> usize
-    requires { ⌜ Numbers (now numbers) × Names (now names) × (saveLimit new ≤ length (now spare)) × (shownSpace ≤ length (now text)) ⌝ }
-    ensures { λ r. ⌜ take r (now (text .exit)) ≡ shownOf (now (octets .entry)) ⌝ }
-    ensures { λ r. ⌜ r ≤ shownSpace ⌝ }
+// Whether the octets are a save of either form, and its card in the memory where they are. What is lent may hold anything before.
+fn is_taken(octets: &[u8], numbers: &mut [u64], names: &mut [u8], spare: &mut [u8]) -> bool
+    requires { ⌜ Numbers (now numbers) × Names (now names) × (saveLimit new ≤ length (now spare)) ⌝ }
+    ensures { λ r. ⌜ Shows r (shownOf (now (octets .entry))) (cardOf (now (numbers .exit)) (now (names .exit))) ⌝ }
 {
     if save_reader::is_taken(octets, false, numbers, names, spare) {
-        return put_trees(text, numbers, names);
+        return true;
     }
-    if save_reader::is_taken(octets, true, numbers, names, spare) {
-        return put_trees(text, numbers, names);
-    }
-    put_refused(text)
+    save_reader::is_taken(octets, true, numbers, names, spare)
 }
 
 // Where the HEX ends.
@@ -194,22 +136,37 @@ fn hex_end(input: &[u8]) -> usize
     n
 }
 
-// The octets that HEX of no more digits than the longest save's stands for, shown.
-fn put_hex(
+// The same of octets in HEX of no more digits than the longest save's.
+fn is_taken_hex(
     hex: &[u8],
     octets: &mut [u8],
     numbers: &mut [u64],
     names: &mut [u8],
     spare: &mut [u8],
-    text: &mut [u8],
-) -> usize
-    requires { ⌜ (length (now hex) ≤ 2 * saveLimit new) × (saveLimit new ≤ length (now octets)) × Numbers (now numbers) × Names (now names)
-        × (saveLimit new ≤ length (now spare)) × (shownSpace ≤ length (now text)) ⌝ }
-    ensures { λ r. ⌜ take r (now (text .exit)) ≡ shownOf (octetsOf (now (hex .entry))) ⌝ }
-    ensures { λ r. ⌜ r ≤ shownSpace ⌝ }
+) -> bool
+    requires { ⌜ (length (now hex) ≤ 2 * saveLimit new) × (saveLimit new ≤ length (now octets)) × Numbers (now numbers) × Names (now names) × (saveLimit new ≤ length (now spare)) ⌝ }
+    ensures { λ r. ⌜ Shows r (shownOf (octetsOf (now (hex .entry)))) (cardOf (now (numbers .exit)) (now (names .exit))) ⌝ }
 {
     let n = bench_words::decode_hex(hex, octets);
-    put_shown(&octets[..n], numbers, names, spare, text)
+    is_taken(&octets[..n], numbers, names, spare)
+}
+
+// The same of an input.
+fn is_taken_input(
+    input: &[u8],
+    octets: &mut [u8],
+    numbers: &mut [u64],
+    names: &mut [u8],
+    spare: &mut [u8],
+) -> bool
+    requires { ⌜ (saveLimit new ≤ length (now octets)) × Numbers (now numbers) × Names (now names) × (saveLimit new ≤ length (now spare)) ⌝ }
+    ensures { λ r. ⌜ Shows r (shown (now (input .entry))) (cardOf (now (numbers .exit)) (now (names .exit))) ⌝ }
+{
+    let n = hex_end(input);
+    if bench_words::is_hex_to(&input[..n], SAVE_DIGITS) {
+        return is_taken_hex(&input[..n], octets, numbers, names, spare);
+    }
+    false
 }
 
 // What is printed for an input. All that is lent may hold anything before, and but for the text anything after.
@@ -224,9 +181,8 @@ fn show(
     ensures { λ r. ⌜ take r (now (text .exit)) ≡ shown (now (input .entry)) ⌝ }
     ensures { λ r. ⌜ r ≤ shownSpace ⌝ }
 {
-    let n = hex_end(input);
-    if bench_words::is_hex_to(&input[..n], SAVE_DIGITS) {
-        return put_hex(&input[..n], octets, numbers, names, spare, text);
+    if is_taken_input(input, octets, numbers, names, spare) {
+        return put_trees(text, numbers, names);
     }
     put_refused(text)
 }
@@ -245,13 +201,26 @@ fn print(text: &[u8; SHOWN_SPACE], end: usize)
     write(text, end);
 }
 
+// Each has a function because the proof of `main` would work out its octets one by one.
+fn blank_input() -> [u8; INPUT_SPACE] {
+    [0; INPUT_SPACE]
+}
+
+fn blank_save() -> [u8; SAVE_LIMIT] {
+    [0; SAVE_LIMIT]
+}
+
+fn blank_text() -> [u8; SHOWN_SPACE] {
+    [0; SHOWN_SPACE]
+}
+
 fn main() {
-    let mut input = [0u8; INPUT_SPACE];
-    let mut octets = [0u8; SAVE_LIMIT];
+    let mut input = blank_input();
+    let mut octets = blank_save();
     let mut numbers = [0u64; NUMBER_COUNT];
     let mut names = [0u8; OCTET_COUNT];
-    let mut spare = [0u8; SAVE_LIMIT];
-    let mut text = [0u8; SHOWN_SPACE];
+    let mut spare = blank_save();
+    let mut text = blank_text();
     let n = io::read_full(STDIN_FILENO, &mut input);
     let end = show(
         &input[..n],

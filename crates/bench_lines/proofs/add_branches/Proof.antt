@@ -5,19 +5,19 @@ use lib.ListN.{length, take}
 use lib.Seq.{take-all}
 use borrow.Author.Needs.{needs}
 use Rattle.bench_lines.proofs.Text.{adds-none, adds-then, branches-more}
-use Rattle.bench_lines.specs.Text.{branchesText, Adds}
+use Rattle.bench_lines.specs.Text.{branchSpace, branchesAs, Adds}
 use Rattle.meaning.specs.Card.{branchesFrom}
 use Rattle.bench_lines.proofs.add_branches.Statement.{statement}
 use Rattle.bench_lines.proofs.add_branches.Tie as tie
 
 abbrev Inv-loop : tie.InvT-loop
-Inv-loop text₀ from branches at₀ i₀ text at i = (i ≤ length branches) × (length text ≡ length text₀) × (at ≤ from + 42 * i) × Adds (branchesText (branchesFrom 0 (take i branches))) text₀ text from at
+Inv-loop text₀ from before between branches at₀ i₀ text at i = (i ≤ length branches) × (length text ≡ length text₀) × (at ≤ from + branchSpace * i) × Adds (branchesAs before between (branchesFrom 0 (take i branches))) text₀ text from at
 
 abbrev μ-loop : tie.MeasureT-loop
-μ-loop text₀ from branches at₀ i₀ text at i = length branches - i
+μ-loop text₀ from before between branches at₀ i₀ text at i = length branches - i
 
 loop-holds : tie.Need-loop-holds Inv-loop μ-loop
-loop-holds c = (omega arith, refl, omega arith, unfold branchesFrom branchesText in (adds-none (c .before .before .args .text .now) (c .before .before .args .from)))
+loop-holds c = (omega arith, refl, omega arith, unfold branchesFrom branchesAs in (adds-none (c .before .before .before .before .args .text .now) (c .before .before .before .before .args .from)))
 
 mul-add-branch : tie.Need-mul-add-branch Inv-loop μ-loop
 mul-add-branch c = search needs
@@ -37,12 +37,12 @@ loop-less c = search needs
 loop-again : tie.Need-loop-again Inv-loop μ-loop
 loop-again c =
     let at-loop = c .before .before .before .before .before .before in
-    let start = at-loop .before .before .before in
+    let start = at-loop .before .before .before .before .before in
     let h : at-loop .loop .i < length (start .args .branches .now) = omega arith in (
       omega arith,
       omega arith,
       omega arith,
-      rw (sym (branches-more (start .args .branches .now) (at-loop .loop .i) h)) (adds-then (at-loop .loop .inv .3) (c .before .before .add-branch .ensures .0)),
+      rw (sym (branches-more (start .args .before .now) (start .args .between .now) (start .args .branches .now) (at-loop .loop .i) h)) (adds-then (at-loop .loop .inv .3) (c .before .before .add-branch .ensures .0)),
     )
 
 same-length : tie.Need-same-length Inv-loop μ-loop
@@ -50,7 +50,7 @@ same-length c = c .before .loop .inv .1
 
 returns : tie.Need-returns Inv-loop μ-loop
 returns c =
-    let e = take-all (c .before .loop .i) (c .before .before .before .before .args .branches .now) (c .loop-test .left) in
+    let e = take-all (c .before .loop .i) (c .before .before .before .before .before .before .args .branches .now) (c .loop-test .left) in
     (rw e at (c .before .loop .inv .3), omega arith)
 
 pub add-branches-spec : {M : Type 1} → statement M

@@ -8,23 +8,20 @@ use Rattle.bench_lines.proofs.put_event.Tie as tie
 add-requires : tie.Need-add-requires
 add-requires c κs = search needs
 
+slice-aggregate-add-named : tie.Need-slice-aggregate-add-named
+slice-aggregate-add-named c = search needs
+
+add-named-requires : tie.Need-add-named-requires
+add-named-requires c κs = search needs
+
+add-records-requires : tie.Need-add-records-requires
+add-records-requires c κs = search needs
+
 slice-aggregate-add : tie.Need-slice-aggregate-add
 slice-aggregate-add c = search needs
 
 add-requires-2 : tie.Need-add-requires-2
 add-requires-2 c κs = search needs
-
-add-number-requires : tie.Need-add-number-requires
-add-number-requires c κs = search needs
-
-add-records-requires : tie.Need-add-records-requires
-add-records-requires c κs = search needs
-
-slice-aggregate-add-2 : tie.Need-slice-aggregate-add-2
-slice-aggregate-add-2 c = search needs
-
-add-requires-3 : tie.Need-add-requires-3
-add-requires-3 c κs = search needs
 
 same-length : tie.Need-same-length
 same-length c = search needs
@@ -32,25 +29,18 @@ same-length c = search needs
 returns : tie.Need-returns
 unfolding eventLine
 returns c =
-    let at-add-records = c .before .before .before .before .before .before .before in
-    let at-add-number = at-add-records .before .before .before .before in
-    let at-add2 = at-add-number .before .before .before .before in
-    let at-add = at-add2 .before .before .before .before .before in
-    let start = at-add .before .before .before .before .before in (
-      adds-then (at-add .add .ensures) (adds-then (at-add2 .add2 .ensures) (adds-then (at-add-number .add-number .ensures .0) (adds-then (at-add-records .add-records .ensures .0) (c .before .before .add3 .ensures)))) .text,
-      omega (arith, at-add .add .ensures .count, start .pre),
-    )
+    let start = c .before .before .before .before .before .before .before .before .before .before .before .before .before .before .before .before .before .before .before .before .before in
+    (adds-then (c .before .before .before .before .before .before .before .before .before .before .before .before .before .before .before .before .add .ensures) (adds-then (c .before .before .before .before .before .before .before .before .before .before .before .add-named .ensures .0) (adds-then (c .before .before .before .before .before .before .before .add-records .ensures .0) (c .before .before .add2 .ensures))) .text, omega (arith, c .before .before .before .before .before .before .before .before .before .before .before .before .before .before .before .before .add .ensures .count, start .pre))
 
 pub put-event-spec : {M : Type 1} → statement M
 put-event-spec =
     tie.close
     (tie.spec
     add-requires
+    slice-aggregate-add-named
+    add-named-requires
+    add-records-requires
     slice-aggregate-add
     add-requires-2
-    add-number-requires
-    add-records-requires
-    slice-aggregate-add-2
-    add-requires-3
     same-length
     returns)

@@ -1,6 +1,5 @@
 use native.Mathlib.Omega.{arith}
 use borrow.Author.Tests.{eq-eqb, ne-eqb}
-use Rattle.bench_lines.proofs.Text.{adds-then}
 use Rattle.bench_words.specs.Words.{ascii}
 use Rattle.layers.specs.TreeText.{labelWords}
 use borrow.Author.Needs.{needs}
@@ -20,24 +19,18 @@ returns : tie.Need-returns
 unfolding labelWords ascii
 returns c = (rw (eq-eqb _ _ (c .before .before .before .before .before .if1 .taken)) (c .before .before .add .ensures), omega (arith, c .before .before .add .ensures .count))
 
-slice-aggregate-add-2 : tie.Need-slice-aggregate-add-2
-slice-aggregate-add-2 c = search needs
+slice-aggregate-add-named : tie.Need-slice-aggregate-add-named
+slice-aggregate-add-named c = search needs
 
-add-requires-2 : tie.Need-add-requires-2
-add-requires-2 c κs = search needs
-
-add-number-requires : tie.Need-add-number-requires
-add-number-requires c κs = search needs
+add-named-requires : tie.Need-add-named-requires
+add-named-requires c κs = search needs
 
 same-length-2 : tie.Need-same-length-2
 same-length-2 c = search needs
 
 returns-2 : tie.Need-returns-2
 unfolding labelWords ascii
-returns-2 c =
-    let the-add = c .before .before .before .before .before .before .add2 in
-    let the-number = c .before .before .add-number in
-    (rw (ne-eqb _ _ (c .before .before .before .before .before .before .before .before .before .if1 .left)) (adds-then (the-add .ensures) (the-number .ensures .0)), omega (arith, the-add .ensures .count, the-number .ensures .1))
+returns-2 c = (rw (ne-eqb _ _ (c .before .before .before .before .before .if1 .left)) (c .before .before .add-named .ensures .0), omega (arith, c .before .before .add-named .ensures .1))
 
 pub add-label-spec : {M : Type 1} → statement M
 add-label-spec =
@@ -47,8 +40,7 @@ add-label-spec =
     add-requires
     same-length
     returns
-    slice-aggregate-add-2
-    add-requires-2
-    add-number-requires
+    slice-aggregate-add-named
+    add-named-requires
     same-length-2
     returns-2)

@@ -1,0 +1,61 @@
+use Prim.Native.Nat.{_*_}
+use native.Mathlib.Omega.{arith}
+use mathlib.Core.Path.{sym, _∙_}
+use lib.Seq.{length-take-le}
+use Rattle.meaning_save.specs.Save.{new, saveLimit}
+use Rattle.bench_words.proofs.Words.{hex-short}
+use Rattle.layers.proofs.Printed.{shows-hex, shows-other}
+use borrow.Author.Needs.{needs}
+use Rattle.layers.proofs.is_taken_input.Statement.{statement}
+use Rattle.layers.proofs.is_taken_input.Tie as tie
+
+hex-end-requires : tie.Need-hex-end-requires
+hex-end-requires c κs = search needs
+
+slice-aggregate-is-hex-to : tie.Need-slice-aggregate-is-hex-to
+slice-aggregate-is-hex-to c = sym (length-take-le _ (c .before .before .before .before .before .before .before .args .input .now) (c .before .hex-end .ensures .1))
+
+is-hex-to-requires : tie.Need-is-hex-to-requires
+is-hex-to-requires c κs = search needs
+
+slice-aggregate-is-taken-hex : tie.Need-slice-aggregate-is-taken-hex
+slice-aggregate-is-taken-hex c = sym (length-take-le _ (c .before .before .before .before .before .before .before .before .before .before .args .input .now) (c .before .before .before .before .hex-end .ensures .1))
+
+is-taken-hex-requires : tie.Need-is-taken-hex-requires
+is-taken-hex-requires c κs =
+    let short = hex-short (2 * saveLimit new) _ (omega arith) (sym (c .before .before .before .before .before .before .is-hex-to .ensures) ∙ c .before .before .before .before .before .if1 .taken) in
+    (short, search needs, search needs, search needs, search needs)
+
+same-length : tie.Need-same-length
+same-length c = search needs
+
+same-length-2 : tie.Need-same-length-2
+same-length-2 c = search needs
+
+same-length-3 : tie.Need-same-length-3
+same-length-3 c = search needs
+
+same-length-4 : tie.Need-same-length-4
+same-length-4 c = search needs
+
+returns : tie.Need-returns
+returns c = shows-hex (c .before .before .before .before .before .before .before .before .before .before .before .before .before .before .before .before .before .before .before .before .before .before .before .args .input .now) _ (c .before .before .before .before .before .before .before .before .before .before .before .before .before .before .before .before .before .hex-end .ensures .0) _ (c .before .before .before .before .before .before .before .before .before .before .before .before .before .before .before .is-hex-to .ensures) (c .before .before .before .before .before .before .before .before .before .before .before .before .before .before .if1 .taken) (c .before .before .before .before .before .before .before .before .is-taken-hex .ensures)
+
+returns-2 : tie.Need-returns-2
+returns-2 c = shows-other (c .before .before .before .before .before .before .before .before .before .args .input .now) _ (c .before .before .before .hex-end .ensures .0) _ (c .before .is-hex-to .ensures) (c .if1 .left)
+
+pub is-taken-input-spec : {M : Type 1} → statement M
+is-taken-input-spec =
+    tie.close
+    (tie.spec
+    hex-end-requires
+    slice-aggregate-is-hex-to
+    is-hex-to-requires
+    slice-aggregate-is-taken-hex
+    is-taken-hex-requires
+    same-length
+    same-length-2
+    same-length-3
+    same-length-4
+    returns
+    returns-2)
