@@ -1,7 +1,7 @@
 -- `session_look::look` meets its contract: no octets left of a PDU, or some. Assumes nothing.
 use mathlib.Core.Path.{_∙_}
 use borrow.Author.Needs.{needs}
-use Rattle.session_look.proofs.Laws.{look-none, look-some}
+use Rattle.session_look.proofs.Looks.{look-none, look-some}
 use Rattle.session_look.proofs.look.Statement.{statement}
 use Rattle.session_look.proofs.look.Tie as tie
 

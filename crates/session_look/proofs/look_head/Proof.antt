@@ -2,7 +2,7 @@
 use native.Mathlib.Omega.{arith}
 use mathlib.Core.Path.{sym, _∙_}
 use borrow.Author.Needs.{needs}
-use Rattle.session_look.proofs.Laws.{head-none, head-version, head-two, head-low, head-high, head-four, head-whole, head-other}
+use Rattle.session_look.proofs.Looks.{head-none, head-version, head-two, head-low, head-high, head-four, head-whole, head-other}
 use Rattle.session_look.proofs.look_head.Statement.{statement}
 use Rattle.session_look.proofs.look_head.Tie as tie
 

@@ -1,7 +1,7 @@
 -- `session_look::look_message` meets its contract: each return's tests are those of one law. Assumes nothing.
 use native.Mathlib.Omega.{arith}
 use borrow.Author.Needs.{needs}
-use Rattle.session_look.proofs.Laws.{message-end, message-none, message-past, message-part, message-whole}
+use Rattle.session_look.proofs.Looks.{message-end, message-none, message-past, message-part, message-whole}
 use Rattle.session_look.proofs.look_message.Statement.{statement}
 use Rattle.session_look.proofs.look_message.Tie as tie
 

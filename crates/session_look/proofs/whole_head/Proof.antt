@@ -1,7 +1,7 @@
 -- `session_look::whole_head` meets its contract: by what the look shows. Assumes nothing.
 use mathlib.Core.Path.{sym, ap, _∙_}
 use Rattle.session_look.specs.Shown.{shown}
-use Rattle.session_look.proofs.Laws.{head-is, head-none-is}
+use Rattle.session_look.proofs.Looks.{head-is, head-none-is}
 use borrow.Author.Needs.{needs}
 use Rattle.session_look.proofs.whole_head.Statement.{statement}
 use Rattle.session_look.proofs.whole_head.Tie as tie

@@ -1,5 +1,5 @@
 -- `session_streams::count_of` meets its contract. Assumes nothing.
-use Rattle.session_streams.proofs.Laws.{count-is}
+use Rattle.session_streams.proofs.Places.{count-is}
 use borrow.Author.Needs.{needs}
 use Rattle.session_streams.proofs.count_of.Statement.{statement}
 use Rattle.session_streams.proofs.count_of.Tie as tie

@@ -1,5 +1,5 @@
 -- `session_streams::limit` meets its contract: by its two cases. Assumes nothing.
-use Rattle.session_streams.proofs.Laws.{limit-none, limit-left}
+use Rattle.session_streams.proofs.Places.{limit-none, limit-left}
 use Rattle.session_streams.proofs.limit.Statement.{statement}
 use Rattle.session_streams.proofs.limit.Tie as tie
 

@@ -1,5 +1,5 @@
 -- `session_streams::place_of` meets its contract. Assumes nothing.
-use Rattle.session_streams.proofs.Laws.{place-is}
+use Rattle.session_streams.proofs.Places.{place-is}
 use borrow.Author.Needs.{needs}
 use Rattle.session_streams.proofs.place_of.Statement.{statement}
 use Rattle.session_streams.proofs.place_of.Tie as tie
