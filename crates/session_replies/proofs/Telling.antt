@@ -8,7 +8,8 @@ use mathlib.Core.List.{List, [], _∷_, _++_, append-assoc}
 use lib.ListN.{length, take, drop, length-drop}
 use lib.Seq.{take-all, drop-drop}
 use Rattle.bench_words.specs.Words.{ascii, hexOf}
-use Rattle.meaning.specs.Lists.{append-nil}
+use Rattle.meaning.specs.Octets.{pick}
+use Rattle.meaning.specs.Lists.{append-nil, by-test}
 use Rattle.session.specs.Kept.{Fits}
 use borrow.Author.Tests.{eq-eqb, ne-eqb}
 use Rattle.session.specs.Stream.{Stream, holdsMessage}
@@ -105,7 +106,8 @@ turns-next (suc f) n room c s o h = let e : suc f - 1 ≡ f = omega arith in rw 
 -- So many calls are left, from this place of the octets on: with the text that stands, and what those calls do, it is the whole.
 pub record Goes (n room : ℕ) (o : List ℕ) (t : Turns) (left from at : ℕ) (text : List ℕ) (card : Card) (stream : Stream) : Type 0 where
   pub within : from ≤ length o
-  pub space : at + spaceFor stream (drop from o) ≤ turnsSpace
+  pub ends : at + 1 ≤ turnsSpace
+  pub space : 0 < left → at + spaceFor stream (drop from o) ≤ turnsSpace
   pub line : take at text ++ turnsF left n room card stream (drop from o) .text ≡ ascii "octets" ++ t .text
   pub leaves : turnsF left n room card stream (drop from o) .card ≡ t .card
   pub streams : turnsF left n room card stream (drop from o) .stream ≡ t .stream
@@ -117,39 +119,43 @@ goes-start n room o c s short fits adds =
     let m = pending-most s o fits in
     record {
       within = omega arith;
-      space = omega (arith, adds .count);
+      ends = omega (arith, adds .count);
+      space = λ _. omega (arith, adds .count);
       line = rw (adds .text) refl;
       leaves = refl;
       streams = refl;
     }
 
 module _ (n room : ℕ) (o : List ℕ) (t : Turns) {left from at : ℕ} {text : List ℕ} {c : Card} {s : Stream} (g : Goes n room o t left from at text c s) where
-  line-end : {after : List ℕ} {r : ℕ} (ys : List ℕ) (card : Card) (stream : Stream) (to : ℕ) → to + 1 ≤ turnsSpace → take to after ≡ ys → ys ≡ ascii "octets" ++ t .text
-      → {last : List ℕ} → Adds (10 ∷ []) after last to r → card ≡ t .card → stream ≡ t .stream → TurnsSay t r last card stream
-  unfolding octetsLine
-  line-end ys card stream to h e f adds p q = record {
-    short = omega (arith, adds .count);
-    line = adds .text ∙ rw (e, f) (append-assoc (ascii "octets") (t .text) (10 ∷ []));
-    leaves = p;
-    streams = q;
-  }
-
   -- no call is left
   pub goes-out : left ≤ 0 → {after : List ℕ} {r : ℕ} → Adds (10 ∷ []) text after at r → TurnsSay t r after c s
-  unfolding turnsF none
+  unfolding turnsF none octetsLine
   goes-out h adds =
       let z : left ≡ 0 = omega arith in
       let e : take at text ++ [] ≡ ascii "octets" ++ t .text = rw z at (g .line) in
-      line-end (take at text) c s at (omega (arith, g .space)) refl (sym (append-nil (take at text)) ∙ e) adds (rw z at (g .leaves)) (rw z at (g .streams))
+      record {
+        short = omega (arith, adds .count, g .ends);
+        line = adds .text ∙ rw (sym (append-nil (take at text)) ∙ e) (append-assoc (ascii "octets") (t .text) (10 ∷ []));
+        leaves = rw z at (g .leaves);
+        streams = rw z at (g .streams);
+      }
 
   module _ (some : 0 < left) {after : List ℕ} {to next : ℕ} {last : Bool} {c′ : Card} {s′ : Stream} (d : Did (calledBox n room c s (drop from o)) o from s text after at to next last c′ s′) where
-    pub goes-last : last ≡ true → {whole : List ℕ} {r : ℕ} → Adds (10 ∷ []) after whole to r → TurnsSay t r whole c′ s′
-    goes-last l adds =
+    goes-last : last ≡ true → Goes n room o t 0 next to after c′ s′
+    unfolding turnsF none
+    goes-last l =
         let k = calledBox n room c s (drop from o) in
         let e = turns-next left n room c s (drop from o) some ∙ then-last k (turnsF (left - 1) n room) (drop from o) (sym (d .lasts) ∙ l) in
-        line-end (take at text ++ callText (k .answer) (k .eaten) (k .octets)) c′ s′ to (omega (arith, d .ends, g .space)) (d .tells .text) (rw e at (g .line)) adds (d .leaves ∙ rw e at (g .leaves)) (d .streams ∙ rw e at (g .streams))
+        record {
+          within = d .within;
+          ends = omega (arith, d .ends, g .space some);
+          space = λ none. absurd (omega arith);
+          line = append-nil (take to after) ∙ d .tells .text ∙ rw e at (g .line);
+          leaves = d .leaves ∙ rw e at (g .leaves);
+          streams = d .streams ∙ rw e at (g .streams);
+        }
 
-    pub goes-on : last ≡ false → Goes n room o t (left - 1) next to after c′ s′
+    goes-on : last ≡ false → Goes n room o t (left - 1) next to after c′ s′
     goes-on l =
         let k = calledBox n room c s (drop from o) in
         let later = turnsF (left - 1) n room c′ s′ (drop next o) in
@@ -157,8 +163,15 @@ module _ (n room : ℕ) (o : List ℕ) (t : Turns) {left from at : ℕ} {text : 
         let e = turns-next left n room c s (drop from o) some ∙ then-more k (turnsF (left - 1) n room) (drop from o) later (sym (d .lasts) ∙ l) f in
         record {
           within = d .within;
-          space = omega (arith, d .goes l, g .space);
+          ends = omega (arith, d .ends, g .space some);
+          space = λ _. omega (arith, d .goes l, g .space some);
           line = rw (d .tells .text) (append-assoc (take at text) (callText (k .answer) (k .eaten) (k .octets)) (later .text) ∙ rw e at (g .line));
           leaves = rw e at (g .leaves);
           streams = rw e at (g .streams);
         }
+
+    pub goes-next : (more : ℕ) → more ≡ pick last 0 (left - 1) → Goes n room o t more next to after c′ s′
+    goes-next more e =
+        by-test last
+        (λ l. let f : more ≡ 0 = rw l at e in rw f (goes-last l))
+        (λ l. let f : more ≡ left - 1 = rw l at e in rw f (goes-on l))

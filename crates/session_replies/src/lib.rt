@@ -3,8 +3,9 @@
 ghost use mathlib.Core.Path.{_≡_};
 ghost use mathlib.Core.Bool.{true};
 ghost use mathlib.Core.List.{List};
-ghost use Prim.Native.Nat.{ℕ, _≤_, _<_, _*_, _+_};
+ghost use Prim.Native.Nat.{ℕ, _≤_, _<_, _*_, _+_, _-_};
 ghost use lib.ListN.{length, set, take, drop};
+ghost use Rattle.meaning.specs.Octets.{pick};
 ghost use Rattle.meaning.specs.Card.{sentLimit};
 ghost use Rattle.meaning.specs.Events.{event, lost};
 ghost use Rattle.octets.specs.Part.{mid};
@@ -76,10 +77,8 @@ fn add_call(text: &mut [u8], at: usize, answer: u32, eaten: usize, records: &[u8
     ensures { λ r. ⌜ Adds (callText answer eaten (now (records .entry))) (now (text .entry)) (now (text .exit)) at r ⌝ }
     ensures { λ r. ⌜ r ≤ at + callSpace + 2 * length (now (records .entry)) ⌝ }
 {
-    let at = bench_lines::add(text, at, b" ");
-    let at = bench_lines::add_number(text, at, answer as u64);
-    let at = bench_lines::add(text, at, b":");
-    let at = bench_lines::add_number(text, at, eaten as u64);
+    let at = bench_lines::add_named(text, at, b" ", answer as u64);
+    let at = bench_lines::add_named(text, at, b":", eaten as u64);
     add_records(text, at, records)
 }
 
@@ -150,7 +149,18 @@ fn turn(
     }
 }
 
-pub fn put_turns(
+// How many calls may follow one of so many.
+fn left_after(left: usize, last: bool) -> usize
+    requires { ⌜ 0 < left ⌝ }
+    ensures { λ r. ⌜ (r ≡ pick last 0 (left - 1)) × (r < left) ⌝ }
+{
+    if last {
+        return 0;
+    }
+    left - 1
+}
+
+fn put_turns(
     numbers: &mut [u64; NUMBER_COUNT],
     names: &mut [u8; OCTET_COUNT],
     stream: &mut [u64; STREAM_NUMBERS],
@@ -180,12 +190,9 @@ pub fn put_turns(
             text,
             at,
         );
-        if done.last {
-            return bench_lines::add(text, done.at, b"\n");
-        }
         at = done.at;
         from = done.from;
-        left -= 1;
+        left = left_after(left, done.last);
     }
     bench_lines::add(text, at, b"\n")
 }

@@ -7,18 +7,18 @@ use Rattle.card.specs.Table.{cardOf}
 use Rattle.session.specs.Lent.{streamOf, lent-fits}
 use Rattle.bench_words.specs.Words.{ascii}
 use Rattle.session_replies.specs.Turns.{turns}
-use Rattle.session_replies.proofs.Telling.{Goes, goes-start, goes-last, goes-on, goes-out}
+use Rattle.session_replies.proofs.Telling.{Goes, goes-start, goes-next, goes-out}
 use borrow.Author.Needs.{needs}
 use Rattle.session_replies.proofs.put_turns.Statement.{statement}
 use Rattle.session_replies.proofs.put_turns.Tie as tie
 
 abbrev Inv-loop : tie.InvT-loop
-Inv-loop numbers₀ names₀ stream₀ buffer₀ neighbour octets room text₀ at₀ from₀ left₀ t14 t15 numbers names stream buffer text at from left =
+Inv-loop numbers₀ names₀ stream₀ buffer₀ neighbour octets room text₀ at₀ from₀ left₀ t14 numbers names stream buffer text at from left =
     (length buffer ≡ length buffer₀) × (length text ≡ length text₀)
     × Goes neighbour room octets (turns neighbour room (cardOf numbers₀ names₀) (streamOf stream₀ buffer₀) octets) left from at text (cardOf numbers names) (streamOf stream buffer)
 
 abbrev μ-loop : tie.MeasureT-loop
-μ-loop numbers₀ names₀ stream₀ buffer₀ neighbour octets room text₀ at₀ from₀ left₀ t14 t15 numbers names stream buffer text at from left = left
+μ-loop numbers₀ names₀ stream₀ buffer₀ neighbour octets room text₀ at₀ from₀ left₀ t14 numbers names stream buffer text at from left = left
 
 slice-aggregate-add : tie.Need-slice-aggregate-add Inv-loop μ-loop
 slice-aggregate-add c = search needs
@@ -43,18 +43,24 @@ loop-holds c =
 
 turn-requires : tie.Need-turn-requires Inv-loop μ-loop
 turn-requires c κs =
-    let start = c .before .before .before .before .before .before .before .before .before .before .before .before .before .before .before in
     let inv = c .before .before .before .before .before .before .loop .inv in
-    (omega arith, inv .2 .within, omega (arith, inv .2 .space))
+    let start = c .before .before .before .before .before .before .before .before .before .before .before .before .before .before .before in
+    (omega arith, inv .2 .within, omega (arith, inv .2 .space (c .before .before .before .before .before .loop-test .taken)))
+
+left-after-requires : tie.Need-left-after-requires Inv-loop μ-loop
+left-after-requires c κs = search needs
+
+loop-less : tie.Need-loop-less Inv-loop μ-loop
+loop-less c = search needs
+
+loop-again : tie.Need-loop-again Inv-loop μ-loop
+loop-again c = (omega arith, omega arith, goes-next _ _ _ _ (c .before .before .before .before .before .before .before .before .before .before .before .before .loop .inv .2) (c .before .before .before .before .before .before .before .before .before .before .before .loop-test .taken) (c .before .before .before .before .before .turn .ensures) _ (c .left-after .ensures .0))
 
 slice-aggregate-add-2 : tie.Need-slice-aggregate-add-2 Inv-loop μ-loop
 slice-aggregate-add-2 c = search needs
 
 add-requires-2 : tie.Need-add-requires-2 Inv-loop μ-loop
-add-requires-2 c κs =
-    let inv = c .before .before .before .before .before .before .before .before .before .before .before .before .before .before .loop .inv in
-    let did = c .before .before .before .before .before .before .before .turn .ensures in
-    omega (arith, inv .2 .space, did .ends)
+add-requires-2 c κs = let inv = c .before .before .before .loop .inv in omega (arith, inv .2 .ends)
 
 same-length : tie.Need-same-length Inv-loop μ-loop
 same-length c = search needs
@@ -63,31 +69,7 @@ same-length-2 : tie.Need-same-length-2 Inv-loop μ-loop
 same-length-2 c = search needs
 
 returns : tie.Need-returns Inv-loop μ-loop
-returns c = goes-last _ _ _ _ (c .before .before .before .before .before .before .before .before .before .before .before .before .before .before .before .before .before .loop .inv .2) (c .before .before .before .before .before .before .before .before .before .before .before .before .before .before .before .before .loop-test .taken) (c .before .before .before .before .before .before .before .before .before .before .turn .ensures) (c .before .before .before .before .before .if1 .taken) (c .before .before .add2 .ensures)
-
-sub-left : tie.Need-sub-left Inv-loop μ-loop
-sub-left c = search needs
-
-loop-less : tie.Need-loop-less Inv-loop μ-loop
-loop-less c = search needs
-
-loop-again : tie.Need-loop-again Inv-loop μ-loop
-loop-again c = (omega arith, omega arith, goes-on _ _ _ _ (c .before .before .before .before .before .before .before .before .before .before .before .before .loop .inv .2) (c .before .before .before .before .before .before .before .before .before .before .before .loop-test .taken) (c .before .before .before .before .before .turn .ensures) (c .if1 .left))
-
-slice-aggregate-add-3 : tie.Need-slice-aggregate-add-3 Inv-loop μ-loop
-slice-aggregate-add-3 c = search needs
-
-add-requires-3 : tie.Need-add-requires-3 Inv-loop μ-loop
-add-requires-3 c κs = let inv = c .before .before .before .loop .inv in omega (arith, inv .2 .space)
-
-same-length-3 : tie.Need-same-length-3 Inv-loop μ-loop
-same-length-3 c = search needs
-
-same-length-4 : tie.Need-same-length-4 Inv-loop μ-loop
-same-length-4 c = search needs
-
-returns-2 : tie.Need-returns-2 Inv-loop μ-loop
-returns-2 c = goes-out _ _ _ _ (c .before .before .before .before .before .before .loop .inv .2) (c .before .before .before .before .before .loop-test .left) (c .before .before .add3 .ensures)
+returns c = goes-out _ _ _ _ (c .before .before .before .before .before .before .loop .inv .2) (c .before .before .before .before .before .loop-test .left) (c .before .before .add2 .ensures)
 
 pub put-turns-spec : {M : Type 1} → statement M
 put-turns-spec =
@@ -102,16 +84,11 @@ put-turns-spec =
     add-left-2
     loop-holds
     turn-requires
+    left-after-requires
+    loop-less
+    loop-again
     slice-aggregate-add-2
     add-requires-2
     same-length
     same-length-2
-    returns
-    sub-left
-    loop-less
-    loop-again
-    slice-aggregate-add-3
-    add-requires-3
-    same-length-3
-    same-length-4
-    returns-2)
+    returns)
