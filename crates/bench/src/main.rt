@@ -27,12 +27,6 @@ struct State {
     room: u32,
 }
 
-// How many octets came, and whether there is more to read.
-struct Got {
-    count: usize,
-    more: bool,
-}
-
 // What the line that is kept is answered with. One too long to keep is a bad line.
 fn reply(
     numbers: &mut [u64; NUMBER_COUNT],
@@ -108,36 +102,6 @@ fn take_chunk(
     state
 }
 
-// Reads once. At the end of the input, what is kept is a line too, and the octet that ends it comes.
-fn read_chunk(chunk: &mut [u8], kept: usize) -> Got
-    ensures { λ r. ⌜ r .count ≤ length (now (chunk .exit)) ⌝ }
-{
-    let got = libc::read(0, chunk);
-    if 0 < got {
-        return Got {
-            count: io::count(got, chunk),
-            more: true,
-        };
-    }
-    if kept == 0 {
-        return Got {
-            count: 0,
-            more: false,
-        };
-    }
-    if chunk.len() == 0 {
-        return Got {
-            count: 0,
-            more: false,
-        };
-    }
-    chunk[0] = b'\n';
-    Got {
-        count: 1,
-        more: false,
-    }
-}
-
 // The line and its text have a function each because the proof of `main` would work out their octets one by one.
 fn blank_line() -> [u8; LINE_LIMIT] {
     [0; LINE_LIMIT]
@@ -164,7 +128,7 @@ fn main() {
     let mut more = true;
     let mut turns = u64::MAX;
     while turns > 0 && more {
-        let got = read_chunk(&mut chunk, state.kept);
+        let got = bench_input::read_chunk(&mut chunk, state.kept);
         more = got.more;
         let n = got.count;
         state = take_chunk(

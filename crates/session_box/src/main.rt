@@ -31,12 +31,6 @@ struct State {
     room: u32,
 }
 
-// How many octets came, and whether there is more to read.
-struct Got {
-    count: usize,
-    more: bool,
-}
-
 // What the line that is kept is answered with. One too long to keep is a bad line.
 fn reply(
     numbers: &mut [u64; NUMBER_COUNT],
@@ -172,38 +166,12 @@ fn take_chunk(
     state
 }
 
-// Reads once. At the end of the input, what is kept is a line too, and the octet that ends it comes.
-fn read_chunk(chunk: &mut [u8], kept: usize) -> Got
-    ensures { λ r. ⌜ r .count ≤ length (now (chunk .exit)) ⌝ }
-{
-    let got = libc::read(0, chunk);
-    if 0 < got {
-        return Got {
-            count: io::count(got, chunk),
-            more: true,
-        };
-    }
-    if kept == 0 {
-        return Got {
-            count: 0,
-            more: false,
-        };
-    }
-    if chunk.len() == 0 {
-        return Got {
-            count: 0,
-            more: false,
-        };
-    }
-    chunk[0] = b'\n';
-    Got {
-        count: 1,
-        more: false,
-    }
+// The line and its text have a function each because the proof of `main` would work out their octets one by one.
+fn blank_line() -> [u8; LINE_LIMIT] {
+    [0; LINE_LIMIT]
 }
 
-// A line's text. It has a function of its own because the proof of `main` would work out its octets one by one.
-fn blank() -> [u8; TURNS_SPACE] {
+fn blank_text() -> [u8; TURNS_SPACE] {
     [0; TURNS_SPACE]
 }
 
@@ -217,8 +185,8 @@ fn main() {
     let mut b1 = [0u8; STREAM_ROOM];
     let mut b2 = [0u8; STREAM_ROOM];
     let mut b3 = [0u8; STREAM_ROOM];
-    let mut line = [0u8; LINE_LIMIT];
-    let mut text = blank();
+    let mut line = blank_line();
+    let mut text = blank_text();
     let mut chunk = io::large_buffer();
     card::start(&mut numbers, 16);
     let mut state = State {
@@ -229,7 +197,7 @@ fn main() {
     let mut more = true;
     let mut turns = u64::MAX;
     while turns > 0 && more {
-        let got = read_chunk(&mut chunk, state.kept);
+        let got = bench_input::read_chunk(&mut chunk, state.kept);
         more = got.more;
         let n = got.count;
         state = take_chunk(

@@ -12,8 +12,11 @@ Inv-loop numbers₀ names₀ streams₀ b0₀ b1₀ b2₀ b3₀ line₀ text₀ 
 abbrev μ-loop : tie.MeasureT-loop
 μ-loop numbers₀ names₀ streams₀ b0₀ b1₀ b2₀ b3₀ line₀ text₀ chunk₀ state₀ more₀ turns₀ numbers names streams b0 b1 b2 b3 line text chunk state more turns = turns
 
-blank-requires : tie.Need-blank-requires Inv-loop μ-loop
-blank-requires c κs = search needs
+blank-line-requires : tie.Need-blank-line-requires Inv-loop μ-loop
+blank-line-requires c κs = search needs
+
+blank-text-requires : tie.Need-blank-text-requires Inv-loop μ-loop
+blank-text-requires c κs = search needs
 
 large-buffer-requires : tie.Need-large-buffer-requires Inv-loop μ-loop
 large-buffer-requires c κs = search needs
@@ -60,7 +63,8 @@ main-spec =
     (tie.spec
     Inv-loop
     μ-loop
-    blank-requires
+    blank-line-requires
+    blank-text-requires
     large-buffer-requires
     start-requires
     loop-holds

@@ -1,9 +1,9 @@
--- `bench::read_chunk` meets its contract. Assumes nothing.
+-- `bench_input::read_chunk` meets its contract. Assumes nothing.
 use native.Mathlib.Omega.{arith}
 use lib.ListN.{length-set}
 use borrow.Author.Needs.{needs}
-use Rattle.bench.proofs.read_chunk.Statement.{statement}
-use Rattle.bench.proofs.read_chunk.Tie as tie
+use Rattle.bench_input.proofs.read_chunk.Statement.{statement}
+use Rattle.bench_input.proofs.read_chunk.Tie as tie
 
 read-requires : tie.Need-read-requires
 read-requires c κs = search needs
