@@ -12,7 +12,7 @@ use Rattle.meaning.specs.Octets.{pick}
 use Rattle.meaning.specs.Lists.{append-nil, by-test}
 use Rattle.meaning.specs.Card.{Branch, isBranch, branchesFrom}
 use Rattle.bench_words.specs.Words.{numeral, hexOf, Puts}
-use Rattle.bench_lines.specs.Text.{recordsText, branchAs, branchesAs, orElse, Adds}
+use Rattle.bench_lines.specs.Text.{recordsBehind, branchAs, branchesAs, orElse, Adds}
 
 pub adds-none : (t : List ℕ) (at : ℕ) → Adds [] t t at at
 adds-none t at = record { count = omega arith; text = sym (append-nil (take at t)) }
@@ -38,15 +38,15 @@ adds-part {ys} {part} {new} {r} t rest at h p = record {
 
 -- ---- records
 
-pub records-none : (l : List ℕ) → length l ≡ 0 → recordsText l ≡ []
-unfolding recordsText
-records-none [] e = refl
-records-none (o ∷ os) e = absurd (omega arith)
+pub records-none : (word l : List ℕ) → length l ≡ 0 → recordsBehind word l ≡ []
+unfolding recordsBehind
+records-none word [] e = refl
+records-none word (o ∷ os) e = absurd (omega arith)
 
-pub records-some : (l : List ℕ) → (length l ≡ 0 → ⊥) → recordsText l ≡ 32 ∷ hexOf l
-unfolding recordsText
-records-some [] e = absurd (e refl)
-records-some (o ∷ os) e = refl
+pub records-some : (word l : List ℕ) → (length l ≡ 0 → ⊥) → recordsBehind word l ≡ word ++ hexOf l
+unfolding recordsBehind
+records-some word [] e = absurd (e refl)
+records-some word (o ∷ os) e = refl
 
 -- ---- branches
 

@@ -41,14 +41,14 @@ feedSpace = leafSpace + branchesSpace + nothingSpace
 unfoldable pub countLine : List ℕ → ℕ → List ℕ
 countLine word n = word ++ (32 ∷ numeral n ++ (10 ∷ []))
 
--- a space and the records' octets, where there are any
-unfoldable pub recordsText : List ℕ → List ℕ
-recordsText [] = []
-recordsText (o ∷ os) = 32 ∷ hexOf (o ∷ os)
+-- a word and the records' octets, where there are any
+unfoldable pub recordsBehind : List ℕ → List ℕ → List ℕ
+recordsBehind word [] = []
+recordsBehind word (o ∷ os) = word ++ hexOf (o ∷ os)
 
 -- `WORD ANSWER RECORDS`, and so a save
 unfoldable pub eventLine : List ℕ → ℕ → List ℕ → List ℕ
-eventLine word answer records = word ++ (32 ∷ numeral answer ++ (recordsText records ++ (10 ∷ [])))
+eventLine word answer records = word ++ (32 ∷ numeral answer ++ (recordsBehind (ascii " ") records ++ (10 ∷ [])))
 
 -- a branch, with a word before each of its two numbers
 unfoldable pub branchAs : List ℕ → List ℕ → Branch → List ℕ

@@ -8,7 +8,7 @@ ghost use Rattle.meaning.specs.Card.{branchesFrom, neighbourCount};
 ghost use Rattle.meaning_save.specs.Save.{new, saveLimit};
 ghost use Rattle.bench_words.specs.Words.{numeral, hexOf};
 ghost use Rattle.meaning.specs.Calls.{feedIn};
-ghost use Rattle.bench_lines.specs.Text.{countLine, recordsText, eventLine, branchesAs, feedText, feedLine, Adds, textSpace, numberSpace, branchWordsSpace, branchSpace, branchesSpace, feedSpace};
+ghost use Rattle.bench_lines.specs.Text.{countLine, recordsBehind, eventLine, branchesAs, feedText, feedLine, Adds, textSpace, numberSpace, branchWordsSpace, branchSpace, branchesSpace, feedSpace};
 use meaning::NEIGHBOUR_COUNT;
 use meaning::SAVE_DIGITS;
 
@@ -63,15 +63,16 @@ pub fn add_hex(text: &mut [u8], at: usize, octets: &[u8]) -> usize
     at + bench_words::put_hex(&mut text[at..], octets)
 }
 
-fn add_records(text: &mut [u8], at: usize, records: &[u8]) -> usize
-    requires { ⌜ at + 1 + length (now records) * 2 ≤ length (now text) ⌝ }
-    ensures { λ r. ⌜ Adds (recordsText (now (records .entry))) (now (text .entry)) (now (text .exit)) at r ⌝ }
-    ensures { λ r. ⌜ r ≤ at + 1 + length (now (records .entry)) * 2 ⌝ }
+// A word and the records' octets, or nothing where there are none.
+pub fn add_records(text: &mut [u8], at: usize, word: &[u8], records: &[u8]) -> usize
+    requires { ⌜ at + length (now word) + length (now records) * 2 ≤ length (now text) ⌝ }
+    ensures { λ r. ⌜ Adds (recordsBehind (now (word .entry)) (now (records .entry))) (now (text .entry)) (now (text .exit)) at r ⌝ }
+    ensures { λ r. ⌜ r ≤ at + length (now (word .entry)) + length (now (records .entry)) * 2 ⌝ }
 {
     if records.len() == 0 {
         return at;
     }
-    let at = add(text, at, b" ");
+    let at = add(text, at, word);
     add_hex(text, at, records)
 }
 
@@ -173,7 +174,7 @@ pub fn put_event(text: &mut [u8], word: &[u8], answer: u32, records: &[u8]) -> u
 {
     let at = add(text, 0, word);
     let at = add_named(text, at, b" ", answer as u64);
-    let at = add_records(text, at, records);
+    let at = add_records(text, at, b" ", records);
     add(text, at, b"\n")
 }
 

@@ -7,7 +7,7 @@ use mathlib.Core.Bool.{Bool, true, false, not}
 use mathlib.Core.List.{List, [], _∷_, _++_, append-assoc}
 use lib.ListN.{length, take, drop, length-drop}
 use lib.Seq.{take-all, drop-drop}
-use Rattle.bench_words.specs.Words.{ascii, hexOf}
+use Rattle.bench_words.specs.Words.{ascii}
 use Rattle.meaning.specs.Octets.{pick}
 use Rattle.meaning.specs.Lists.{append-nil, by-test}
 use Rattle.session.specs.Kept.{Fits}
@@ -17,20 +17,10 @@ use Rattle.session.specs.Session.{messageRoom, streamRoom, label, Called, calle
 use Rattle.session.specs.Calls.{HandsOver}
 use Rattle.meaning.specs.Card.{Card}
 use Rattle.bench_lines.specs.Text.{Adds}
-use Rattle.session_replies.specs.Turns.{identifier, callRoom, calledBox, behindColon, callText, Turns, none, isLast, andThen, turnsF, mostTurns, turns, octetsLine, callSpace, turnsSpace, spaceFor, TurnsSay}
+use Rattle.session_replies.specs.Turns.{identifier, callRoom, calledBox, callText, Turns, none, isLast, andThen, turnsF, mostTurns, turns, octetsLine, callSpace, turnsSpace, spaceFor, TurnsSay}
 use Rattle.session_replies.specs.Less.{Leaves}
 use Rattle.session_replies.specs.Enough.{pending-most}
 use Rattle.session_replies.specs.Did.{Did}
-
-pub colon-none : (l : List ℕ) → length l ≡ 0 → behindColon l ≡ []
-unfolding behindColon
-colon-none [] e = refl
-colon-none (o ∷ os) e = absurd (omega arith)
-
-pub colon-some : (l : List ℕ) → (length l ≡ 0 → ⊥) → behindColon l ≡ 58 ∷ hexOf l
-unfolding behindColon
-colon-some [] e = absurd (e refl)
-colon-some (o ∷ os) e = refl
 
 -- ---- the last call
 

@@ -11,7 +11,8 @@ use Rattle.meaning.specs.Card.{Card}
 use Rattle.session.specs.Stream.{Stream, bodyLimit, holdsMessage}
 use Rattle.session.specs.Session.{messageRoom, streamRoom, label, Called, called}
 use Rattle.session.specs.Ends.{pending}
-use Rattle.bench_words.specs.Words.{ascii, numeral, hexOf}
+use Rattle.bench_words.specs.Words.{ascii, numeral}
+use Rattle.bench_lines.specs.Text.{recordsBehind}
 
 -- 192.0.2.N:0, of a neighbour as of the card itself, for which N is 254
 unfoldable pub identifier : ℕ → List ℕ
@@ -23,14 +24,9 @@ callRoom room = min room messageRoom
 
 -- ---- a call told
 
--- `:` and the records, where there are some
-unfoldable pub behindColon : List ℕ → List ℕ
-behindColon [] = []
-behindColon (o ∷ os) = 58 ∷ hexOf (o ∷ os)
-
--- ` ANSWER:EATEN`
+-- ` ANSWER:EATEN`, and `:` and the records where there are some
 unfoldable pub callText : ℕ → ℕ → List ℕ → List ℕ
-callText answer eaten records = 32 ∷ numeral answer ++ (58 ∷ numeral eaten ++ behindColon records)
+callText answer eaten records = 32 ∷ numeral answer ++ (58 ∷ numeral eaten ++ recordsBehind (ascii ":") records)
 
 -- ---- the calls
 

@@ -21,7 +21,7 @@ ghost use Rattle.session_orders.specs.Told.{Told, streamCount, streamFor};
 ghost use Rattle.session_orders.specs.Asks.{meant, InLine};
 ghost use Rattle.session_replies.specs.Done.{own, packRoom, BoxSays};
 ghost use Rattle.session_replies.specs.Four.{isOwn, boxNumbers, numbersOf, bufferOf, streamsOf, four, boxOf, boxOn};
-ghost use Rattle.session_replies.specs.Turns.{identifier, calledBox, behindColon, callText, isLast, turns, callSpace, turnsSpace, spaceFor, TurnsSay};
+ghost use Rattle.session_replies.specs.Turns.{identifier, calledBox, callText, isLast, turns, callSpace, turnsSpace, spaceFor, TurnsSay};
 ghost use Rattle.session_replies.specs.Did.{Did};
 use card::NUMBER_COUNT;
 use card::OCTET_COUNT;
@@ -59,18 +59,6 @@ fn output() -> [u8; MESSAGE_ROOM]
 
 // ---- a call told
 
-fn add_records(text: &mut [u8], at: usize, records: &[u8]) -> usize
-    requires { ⌜ at + 1 + 2 * length (now records) ≤ length (now text) ⌝ }
-    ensures { λ r. ⌜ Adds (behindColon (now (records .entry))) (now (text .entry)) (now (text .exit)) at r ⌝ }
-    ensures { λ r. ⌜ r ≤ at + 1 + 2 * length (now (records .entry)) ⌝ }
-{
-    if records.len() == 0 {
-        return at;
-    }
-    let at = bench_lines::add(text, at, b":");
-    bench_lines::add_hex(text, at, records)
-}
-
 // ` ANSWER:EATEN`, and the records where there are some.
 fn add_call(text: &mut [u8], at: usize, answer: u32, eaten: usize, records: &[u8]) -> usize
     requires { ⌜ at + callSpace + 2 * length (now records) ≤ length (now text) ⌝ }
@@ -79,7 +67,7 @@ fn add_call(text: &mut [u8], at: usize, answer: u32, eaten: usize, records: &[u8
 {
     let at = bench_lines::add_named(text, at, b" ", answer as u64);
     let at = bench_lines::add_named(text, at, b":", eaten as u64);
-    add_records(text, at, records)
+    bench_lines::add_records(text, at, b":", records)
 }
 
 // ---- the calls

@@ -5,10 +5,7 @@ use Rattle.bench_lines.proofs.add_records.Statement.{statement}
 use Rattle.bench_lines.proofs.add_records.Tie as tie
 
 returns : tie.Need-returns
-returns c = (rw (records-none (c .before .before .before .args .records .now) (c .if1 .taken)) (adds-none _ _), omega arith)
-
-slice-aggregate-add : tie.Need-slice-aggregate-add
-slice-aggregate-add c = search needs
+returns c = (rw (records-none _ (c .before .before .before .before .args .records .now) (c .if1 .taken)) (adds-none _ _), omega arith)
 
 add-requires : tie.Need-add-requires
 add-requires c κs = search needs
@@ -20,13 +17,7 @@ same-length : tie.Need-same-length
 same-length c = search needs
 
 returns-2 : tie.Need-returns-2
-returns-2 c =
-    let at-add = c .before .before .before .before .before .before in
-    let at-if1 = at-add .before .before .before in
-    let start = at-if1 .before .before .before in
-    (rw (records-some (start .args .records .now) (at-if1 .if1 .left)) (adds-then (at-add .add .ensures) (c .before .before .add-hex .ensures .0)), omega arith)
+returns-2 c = (rw (records-some _ (c .before .before .before .before .before .before .before .before .before .before .before .before .args .records .now) (c .before .before .before .before .before .before .before .before .if1 .left)) (adds-then (c .before .before .before .before .before .before .add .ensures) (c .before .before .add-hex .ensures .0)), omega (arith, c .before .before .before .before .before .before .add .ensures .count))
 
 pub add-records-spec : {M : Type 1} → statement M
-add-records-spec =
-    tie.close
-    (tie.spec returns slice-aggregate-add add-requires add-hex-requires same-length returns-2)
+add-records-spec = tie.close (tie.spec returns add-requires add-hex-requires same-length returns-2)

@@ -1,4 +1,5 @@
 use native.Mathlib.Omega.{arith}
+use Rattle.bench_words.specs.Words.{ascii}
 use Rattle.bench_lines.proofs.Text.{adds-then}
 use Rattle.bench_lines.specs.Text.{eventLine}
 use borrow.Author.Needs.{needs}
@@ -14,6 +15,9 @@ slice-aggregate-add-named c = search needs
 add-named-requires : tie.Need-add-named-requires
 add-named-requires c κs = search needs
 
+slice-aggregate-add-records : tie.Need-slice-aggregate-add-records
+slice-aggregate-add-records c = search needs
+
 add-records-requires : tie.Need-add-records-requires
 add-records-requires c κs = search needs
 
@@ -27,10 +31,10 @@ same-length : tie.Need-same-length
 same-length c = search needs
 
 returns : tie.Need-returns
-unfolding eventLine
+unfolding eventLine ascii
 returns c =
-    let start = c .before .before .before .before .before .before .before .before .before .before .before .before .before .before .before .before .before .before .before .before .before in
-    (adds-then (c .before .before .before .before .before .before .before .before .before .before .before .before .before .before .before .before .add .ensures) (adds-then (c .before .before .before .before .before .before .before .before .before .before .before .add-named .ensures .0) (adds-then (c .before .before .before .before .before .before .before .add-records .ensures .0) (c .before .before .add2 .ensures))) .text, omega (arith, c .before .before .before .before .before .before .before .before .before .before .before .before .before .before .before .before .add .ensures .count, start .pre))
+    let start = c .before .before .before .before .before .before .before .before .before .before .before .before .before .before .before .before .before .before .before .before .before .before in
+    (adds-then (c .before .before .before .before .before .before .before .before .before .before .before .before .before .before .before .before .before .add .ensures) (adds-then (c .before .before .before .before .before .before .before .before .before .before .before .before .add-named .ensures .0) (adds-then (c .before .before .before .before .before .before .before .add-records .ensures .0) (c .before .before .add2 .ensures))) .text, omega (arith, c .before .before .before .before .before .before .before .before .before .before .before .before .before .before .before .before .before .add .ensures .count, c .before .before .before .before .before .before .before .add-records .ensures .1, start .pre))
 
 pub put-event-spec : {M : Type 1} → statement M
 put-event-spec =
@@ -39,6 +43,7 @@ put-event-spec =
     add-requires
     slice-aggregate-add-named
     add-named-requires
+    slice-aggregate-add-records
     add-records-requires
     slice-aggregate-add
     add-requires-2

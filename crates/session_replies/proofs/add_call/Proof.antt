@@ -1,4 +1,5 @@
 use native.Mathlib.Omega.{arith}
+use Rattle.bench_words.specs.Words.{ascii}
 use Rattle.bench_lines.proofs.Text.{adds-then}
 use Rattle.session_replies.specs.Turns.{callText}
 use borrow.Author.Needs.{needs}
@@ -17,6 +18,9 @@ slice-aggregate-add-named-2 c = search needs
 add-named-requires-2 : tie.Need-add-named-requires-2
 add-named-requires-2 c κs = search needs
 
+slice-aggregate-add-records : tie.Need-slice-aggregate-add-records
+slice-aggregate-add-records c = search needs
+
 add-records-requires : tie.Need-add-records-requires
 add-records-requires c κs = search needs
 
@@ -24,8 +28,8 @@ same-length : tie.Need-same-length
 same-length c = search needs
 
 returns : tie.Need-returns
-unfolding callText
-returns c = (adds-then (c .before .before .before .before .before .before .before .before .before .before .before .add-named .ensures .0) (adds-then (c .before .before .before .before .before .before .add-named2 .ensures .0) (c .before .before .add-records .ensures .0)), omega arith)
+unfolding callText ascii
+returns c = (adds-then (c .before .before .before .before .before .before .before .before .before .before .before .before .add-named .ensures .0) (adds-then (c .before .before .before .before .before .before .before .add-named2 .ensures .0) (c .before .before .add-records .ensures .0)), omega arith)
 
 pub add-call-spec : {M : Type 1} → statement M
 add-call-spec =
@@ -35,6 +39,7 @@ add-call-spec =
     add-named-requires
     slice-aggregate-add-named-2
     add-named-requires-2
+    slice-aggregate-add-records
     add-records-requires
     same-length
     returns)
