@@ -8,7 +8,7 @@ ghost use Rattle.meaning.specs.Calls.{Does};
 ghost use Rattle.meaning_save.specs.Save.{new, saveLimit};
 ghost use Rattle.bench_lines.specs.Text.{eventLine, textSpace};
 ghost use Rattle.memory.specs.Memory.{cardOf};
-ghost use Rattle.bench_words.specs.Words.{octetsOf};
+ghost use Rattle.bench_words.specs.Words.{octetsOf, hexLimit};
 ghost use Rattle.bench_verbs.specs.Line.{Said, orderOf};
 ghost use Rattle.bench_orders.specs.Tells.{meant, InLine};
 ghost use Rattle.bench_replies.specs.Kinds.{Kind, kindOf};
@@ -40,7 +40,7 @@ fn on_tree(
     hex: &[u8],
     text: &mut [u8],
 ) -> usize
-    requires { ⌜ (length (now hex) ≤ 8192) × (textSpace ≤ length (now text)) ⌝ }
+    requires { ⌜ (length (now hex) ≤ hexLimit) × (textSpace ≤ length (now text)) ⌝ }
     ensures { λ r. ⌜ (let c = cardOf (now (numbers .entry)) (now (names .entry)) in
         ((number room : ℕ) → Says (replyTo number room c (Said.tree (octetsOf (now (hex .entry))))) r (now (text .exit)) c)) ⌝ }
 {

@@ -11,7 +11,7 @@ use types.Run.{OneOf, miss}
 use Rattle.meaning.specs.Octets.{pick}
 use Rattle.meaning.specs.Lists.{by-test}
 use Rattle.meaning_save.specs.Save.{Form, old, new, formOf, saveLimit}
-use Rattle.bench_words.specs.Words.{part, isHexTo, isHex, isNumber, octetsOf}
+use Rattle.bench_words.specs.Words.{part, isHexTo, isHex, isNumber, octetsOf, hexLimit}
 use Rattle.bench_verbs.specs.Line.{isSaveHex, Said, withNumber, withHex, withSave, withNumberHex, withHexNumber, withNumbersHex, withTwoHex, withThreeHex, withNumberTwoHex, does}
 use Rattle.bench_orders.specs.Tells.{meant, Lies, SaveLies, Tells}
 use Rattle.bench_words.specs.Scan.{numberIn}
@@ -105,7 +105,7 @@ no-number-hex f w x k e g =
 
 pub lies : (l : List ℕ) (s e : ℕ) (b : Bool) → s ≤ e → e ≤ length l → b ≡ isHex (part s e l) → b ≡ true → Lies l s e
 unfolding isHex
-lies l s e b h k p q = let n = length-take-le (e - s) (drop s l) (simp length-drop (omega arith)) in let m = hex-short 8192 (part s e l) (omega arith) (sym p ∙ q) in (h, k, omega arith)
+lies l s e b h k p q = let n = length-take-le (e - s) (drop s l) (simp length-drop (omega arith)) in let m = hex-short hexLimit (part s e l) (omega arith) (sym p ∙ q) in (h, k, omega arith)
 
 pub save-lies : (f : Form) (l : List ℕ) (s e : ℕ) (b : Bool) → s ≤ e → e ≤ length l → b ≡ isSaveHex f (part s e l) → b ≡ true → SaveLies f l s e
 unfolding isSaveHex

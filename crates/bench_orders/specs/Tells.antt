@@ -4,7 +4,7 @@ use mathlib.Core.Path.{_≡_}
 use mathlib.Core.List.{List}
 use lib.ListN.{length}
 use Rattle.meaning_save.specs.Save.{Form, formOf, saveLimit}
-use Rattle.bench_words.specs.Words.{part, octetsOf}
+use Rattle.bench_words.specs.Words.{part, octetsOf, hexLimit}
 use Rattle.bench_verbs.specs.Line.{Said, nothing, bad, start, room, take, join, leave, route, label, tree, free, notice, save, restore, lost, moves, layers, wrap, unwrap, plan, vet}
 use Rattle.bench_orders.specs.declared.Order.{Order}
 
@@ -34,7 +34,7 @@ meant l (Order.Vet n p s e) = vet n (octetsOf (part (p .start) (p .end) l)) (oct
 
 -- the word of HEX lies in the line
 abbrev pub Lies : List ℕ → ℕ → ℕ → Type 0
-Lies l s e = (s ≤ e) × (e ≤ length l) × (e ≤ s + 8192)
+Lies l s e = (s ≤ e) × (e ≤ length l) × (e ≤ s + hexLimit)
 
 abbrev pub SaveLies : Form → List ℕ → ℕ → ℕ → Type 0
 SaveLies f l s e = (s ≤ e) × (e ≤ length l) × (e ≤ s + 2 * saveLimit f)

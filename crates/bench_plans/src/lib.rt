@@ -4,7 +4,7 @@ ghost use Prim.Native.Nat.{ℕ, _+_, _≤_};
 ghost use lib.ListN.{length, take, drop};
 ghost use Rattle.memory.specs.Memory.{cardOf};
 ghost use Rattle.meaning_plan.specs.PlanOctets.{entrySize, entryIn, listIn, listLimit, checkedOctets, plannedOctets};
-ghost use Rattle.bench_words.specs.Words.{octetsOf};
+ghost use Rattle.bench_words.specs.Words.{octetsOf, hexLimit};
 ghost use Rattle.bench_verbs.specs.Line.{Said};
 ghost use Rattle.bench_orders.specs.Tells.{meant, InLine};
 ghost use Rattle.bench_lines.specs.Text.{Adds, textSpace};
@@ -127,7 +127,7 @@ fn on_plan(
     hex: &[u8],
     text: &mut [u8],
 ) -> usize
-    requires { ⌜ (length (now hex) ≤ 8192) × (textSpace ≤ length (now text)) ⌝ }
+    requires { ⌜ (length (now hex) ≤ hexLimit) × (textSpace ≤ length (now text)) ⌝ }
     ensures { λ r. ⌜ (let c = cardOf (now (numbers .entry)) (now (names .entry)) in
         ((number room : ℕ) → Says (replyTo number room c (Said.plan neighbour (octetsOf (now (hex .entry))))) r (now (text .exit)) c)) ⌝ }
 {
@@ -145,7 +145,7 @@ fn on_vet(
     listed: &[u8],
     text: &mut [u8],
 ) -> usize
-    requires { ⌜ (length (now hex) ≤ 8192) × (length (now listed) ≤ 8192) × (textSpace ≤ length (now text)) ⌝ }
+    requires { ⌜ (length (now hex) ≤ hexLimit) × (length (now listed) ≤ hexLimit) × (textSpace ≤ length (now text)) ⌝ }
     ensures { λ r. ⌜ (let c = cardOf (now (numbers .entry)) (now (names .entry)) in
         ((number room : ℕ) → Says (replyTo number room c (Said.vet neighbour (octetsOf (now (hex .entry))) (octetsOf (now (listed .entry))))) r (now (text .exit)) c)) ⌝ }
 {

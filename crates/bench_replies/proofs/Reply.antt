@@ -15,7 +15,7 @@ use Rattle.meaning.specs.Events.{Out, Outcome, refused, taken, refuse, accept, 
 use Rattle.meaning.specs.Notice.{noticeDue, noticeRecord, notice}
 use Rattle.meaning_save.specs.Save.{Form, new, saved, save, fitsSave, saveLimit}
 use Rattle.meaning.specs.Calls.{Hands}
-use Rattle.bench_words.specs.Words.{Puts}
+use Rattle.bench_words.specs.Words.{Puts, hexLimit}
 use Rattle.bench_orders.specs.Tells.{meant, Lies, SaveLies, InLine}
 use Rattle.bench_orders.specs.declared.Order.{Order}
 use Rattle.bench_orders.proofs.Order.{the-type}
@@ -124,7 +124,7 @@ room-stays number room c l (Order.Unwrap s e) h = refl
 room-stays number room c l (Order.Plan n s e) h = refl
 room-stays number room c l (Order.Vet n p s e) h = refl
 
-pub short : (l : List ℕ) (s e : ℕ) → Lies l s e → length (take (e - s) (drop s l)) ≤ 8192
+pub short : (l : List ℕ) (s e : ℕ) → Lies l s e → length (take (e - s) (drop s l)) ≤ hexLimit
 short l s e h = let n = length-take-le (e - s) (drop s l) (simp length-drop (omega arith)) in omega arith
 
 pub save-short : (f : Form) (l : List ℕ) (s e : ℕ) → SaveLies f l s e → length (take (e - s) (drop s l)) ≤ 2 * saveLimit f

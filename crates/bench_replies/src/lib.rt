@@ -3,13 +3,15 @@ ghost use mathlib.Core.Path.{_≡_};
 ghost use Prim.Native.Nat.{min};
 ghost use lib.ListN.{length, take};
 ghost use Rattle.meaning.specs.Card.{sentLimit};
+ghost use Rattle.bench_words.specs.Words.{inputLimit};
+use bench_words::INPUT_LIMIT;
 use meaning::SENT_LIMIT;
 
 // The octets that an order brings: 4096 at most.
-pub fn input() -> [u8; 4096]
-    ensures { λ r. ⌜ 4096 ≡ length r ⌝ }
+pub fn input() -> [u8; INPUT_LIMIT]
+    ensures { λ r. ⌜ inputLimit ≡ length r ⌝ }
 {
-    [0; 4096]
+    [0; INPUT_LIMIT]
 }
 
 pub fn output() -> [u8; SENT_LIMIT]

@@ -8,7 +8,7 @@ use lib.ListN.{length, replicate, length-append, length-replicate}
 use borrow.Author.Tests.{le-leb, lt-leb}
 use Rattle.meaning.specs.Octets.{same, all}
 use Rattle.meaning_save.specs.Save.{Form, old, new, formOf, saveLimit}
-use Rattle.bench_words.specs.Words.{ascii, isHexDigit, uncommented, lengthen, pieces, filled, words, digit, isHexTo, isHex, octetsOf}
+use Rattle.bench_words.specs.Words.{ascii, isHexDigit, uncommented, lengthen, pieces, filled, words, digit, isHexTo, isHex, octetsOf, hexLimit}
 use Rattle.bench_verbs.specs.Line.{Said, saveVerb, requestedVerb, verbOf, isSaveHex, withHex, withSave, does, saidBy, lineLimit, orderOf}
 
 -- ---- a line by its length
@@ -85,13 +85,13 @@ zeros-octets (suc k) = ap (λ (l : List ℕ). 0 ∷ l) (zeros-octets k)
 zeros-said : (k n : ℕ) → n ≡ k + k → octetsOf (replicate n 48) ≡ replicate k 0
 zeros-said k n e = rw (e, ← twice-is k) (zeros-octets k)
 
-pub hex-taken : (f : List ℕ → Said) (k n : ℕ) → suc n ≡ k + k → suc n % 2 ≡ 0 → suc n ≤ 8192 → withHex f (replicate (suc n) 48 ∷ []) ≡ f (replicate k 0)
+pub hex-taken : (f : List ℕ → Said) (k n : ℕ) → suc n ≡ k + k → suc n % 2 ≡ 0 → suc n ≤ hexLimit → withHex f (replicate (suc n) 48 ∷ []) ≡ f (replicate k 0)
 unfolding withHex isHex
-hex-taken f k n e m h = rw (zeros-hex 8192 n h m, zeros-said k (suc n) e) refl
+hex-taken f k n e m h = rw (zeros-hex hexLimit n h m, zeros-said k (suc n) e) refl
 
-pub hex-refused : (f : List ℕ → Said) (n : ℕ) → 8192 < suc n → withHex f (replicate (suc n) 48 ∷ []) ≡ Said.bad
+pub hex-refused : (f : List ℕ → Said) (n : ℕ) → hexLimit < suc n → withHex f (replicate (suc n) 48 ∷ []) ≡ Said.bad
 unfolding withHex isHex
-hex-refused f n h = rw (zeros-over 8192 n h) refl
+hex-refused f n h = rw (zeros-over hexLimit n h) refl
 
 pub save-taken : (g : Form → List ℕ → Said) (f : Form) (k n : ℕ) → suc n ≡ k + k → suc n % 2 ≡ 0 → suc n ≤ 2 * saveLimit f → withSave g f (replicate (suc n) 48 ∷ []) ≡ g f (replicate k 0)
 unfolding withSave isSaveHex

@@ -87,9 +87,15 @@ digit c = pick (isDigit c) (c - 48) (pick (isUpper c) (c - 55) (pick (isLower c)
 unfoldable pub isHexTo : ℕ → List ℕ → Bool
 isHexTo most w = same w (ascii "-") || (leb (length w) most && eqb (length w % 2) 0 && all isHexDigit w)
 
--- for at most 4096 octets
+-- the most octets that an order brings, a save aside, and their digits
+abbrev pub inputLimit : ℕ
+inputLimit = 4096
+
+abbrev pub hexLimit : ℕ
+hexLimit = 2 * inputLimit
+
 unfoldable pub isHex : List ℕ → Bool
-isHex w = isHexTo 8192 w
+isHex w = isHexTo hexLimit w
 
 -- two digits to an octet; a `-` has none
 unfoldable pub octetsOf : List ℕ → List ℕ

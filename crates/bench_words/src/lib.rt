@@ -8,6 +8,11 @@ ghost use Rattle.bench_words.specs.Words.{isGap, words, isDigit, isUpper
 ghost use Rattle.bench_words.specs.Words.{NextWord, numeral, glyph as glyphOf, hexOf, Puts};
 ghost use Rattle.bench_words.specs.Scan.{isLetter, letters, numberIn};
 
+// The most octets that an order brings, a save aside, and their digits, as specs/Words.antt has them.
+pub const INPUT_LIMIT: usize = 4096;
+
+pub const HEX_LIMIT: usize = 2 * INPUT_LIMIT;
+
 // ---- words
 
 // A word of a line lies at `start..end`; where there is none the two are equal.
@@ -192,7 +197,7 @@ pub fn is_hex_to(word: &[u8], most: usize) -> bool
 pub fn is_hex(word: &[u8]) -> bool
     ensures { λ r. ⌜ r ≡ isHex (now (word .entry)) ⌝ }
 {
-    is_hex_to(word, 8192)
+    is_hex_to(word, HEX_LIMIT)
 }
 
 // The octets of a word of HEX, to the front of `out`.

@@ -7,7 +7,7 @@ ghost use Rattle.meaning.specs.Card.{Card};
 ghost use Rattle.meaning_layers.specs.Layers.{unwrap};
 ghost use Rattle.bench_layers.specs.LayerText.{unwrapLine};
 ghost use Rattle.bench_lines.specs.Text.{textSpace};
-ghost use Rattle.bench_words.specs.Words.{octetsOf};
+ghost use Rattle.bench_words.specs.Words.{octetsOf, hexLimit};
 ghost use Rattle.bench_verbs.specs.Line.{Said};
 ghost use Rattle.bench_orders.specs.Tells.{meant, Lies, InLine};
 ghost use Rattle.bench_orders.specs.declared.Order.{Order};
@@ -24,7 +24,7 @@ fn output() -> [u8; NAME_LIMIT]
 }
 
 fn on_layers(hex: &[u8], text: &mut [u8]) -> usize
-    requires { ⌜ (length (now hex) ≤ 8192) × (textSpace ≤ length (now text)) ⌝ }
+    requires { ⌜ (length (now hex) ≤ hexLimit) × (textSpace ≤ length (now text)) ⌝ }
     ensures { λ r. ⌜ ((number room : ℕ) (c : Card) → Says (replyTo number room c (Said.layers (octetsOf (now (hex .entry))))) r (now (text .exit)) c) ⌝ }
 {
     let mut name = bench_replies::input();
@@ -33,7 +33,7 @@ fn on_layers(hex: &[u8], text: &mut [u8]) -> usize
 }
 
 fn on_wrap(root: &[u8], eight: &[u8], hex: &[u8], room: u32, text: &mut [u8]) -> usize
-    requires { ⌜ (length (now root) ≤ 8192) × (length (now eight) ≤ 8192) × (length (now hex) ≤ 8192) × (textSpace ≤ length (now text)) ⌝ }
+    requires { ⌜ (length (now root) ≤ hexLimit) × (length (now eight) ≤ hexLimit) × (length (now hex) ≤ hexLimit) × (textSpace ≤ length (now text)) ⌝ }
     ensures { λ r. ⌜ ((number : ℕ) (c : Card) → Says (replyTo number room c (Said.wrap (octetsOf (now (root .entry))) (octetsOf (now (eight .entry))) (octetsOf (now (hex .entry)))))
         r (now (text .exit)) c) ⌝ }
 {
@@ -75,7 +75,7 @@ fn tell_unwrapped(name: &[u8], out: &mut [u8], text: &mut [u8]) -> usize
 }
 
 fn on_unwrap(hex: &[u8], room: u32, text: &mut [u8]) -> usize
-    requires { ⌜ (length (now hex) ≤ 8192) × (textSpace ≤ length (now text)) ⌝ }
+    requires { ⌜ (length (now hex) ≤ hexLimit) × (textSpace ≤ length (now text)) ⌝ }
     ensures { λ r. ⌜ ((number : ℕ) (c : Card) → Says (replyTo number room c (Said.unwrap (octetsOf (now (hex .entry))))) r (now (text .exit)) c) ⌝ }
 {
     let mut name = bench_replies::input();

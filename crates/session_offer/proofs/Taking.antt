@@ -5,13 +5,14 @@ use mathlib.Core.Path.{_≡_, refl, sym, ap, _∙_}
 use mathlib.Core.List.{List, [], _∷_, _++_}
 use lib.ListN.{length, take, drop, length-take, length-drop, drop-of-length-le}
 use lib.Seq.{take-all, length-take-le}
-use Rattle.session.specs.Stream.{Look, wait, bad, head, message, look, limit, Filled, space, fill, opened, filled}
+use Rattle.session.specs.Stream.{Look, wait, bad, head, message, look, limit, Filled, space, fill, opened, filled, bodyLimit}
 use Rattle.session.specs.StreamLaws.{Tells, look-tells}
 use Rattle.session.specs.Lent.{leftIn, placeIn, countIn, lent-reading, lent-fill}
 use Rattle.session_look.specs.Shown.{headIn}
 use Rattle.session_streams.specs.Holds.{heldAt}
 use Rattle.session_streams.proofs.Settling.{take-min}
 use Rattle.session_offer.specs.Offers.{TakesIn}
+use Rattle.session.specs.Session.{streamRoom}
 
 -- what is offered from place k on
 pub offered-rest : (k : ℕ) (o : List ℕ) → take (length o - k) (drop k o) ≡ drop k o
@@ -34,7 +35,7 @@ pub record Headed (n e : ℕ) (o : List ℕ) (f : Filled) : Type 0 where
   pub held : f .held ≡ take n (drop e o)
   pub eaten : f .eaten ≡ e + min n (length (drop e o))
   pub low : 8 ≤ n
-  pub high : n ≤ 4090
+  pub high : n ≤ bodyLimit
 
 no-octets : (l : List ℕ) → length l ≤ 0 → l ≡ []
 no-octets [] h = refl
@@ -45,7 +46,7 @@ unfolding limit
 limit-is zero h = absurd (omega arith)
 limit-is (suc n) h = refl
 
-fill-empty : (n e : ℕ) (o : List ℕ) → 8 ≤ n → n ≤ 4090 → Headed n e o (fill n [] e (drop e o))
+fill-empty : (n e : ℕ) (o : List ℕ) → 8 ≤ n → n ≤ bodyLimit → Headed n e o (fill n [] e (drop e o))
 unfolding fill space
 fill-empty n e o low high =
     let z : limit n - 0 ≡ n = omega (arith, limit-is n (omega arith)) in
@@ -67,7 +68,7 @@ filled-head id left h o n i p q = by (look id left (fill left h 0 o .held)) (loo
     by bad t z = absurd (p (unfold headIn in z))
     by (message k) t z = absurd (p (unfold headIn in z))
     by (head m) t z =
-        let u : (left ≡ 0) × (10 ≤ length (first .held)) × (8 ≤ m) × (m ≤ 4090) = unfold Tells in t in
+        let u : (left ≡ 0) × (10 ≤ length (first .held)) × (8 ≤ m) × (m ≤ bodyLimit) = unfold Tells in t in
         let y : n ≡ m = unfold headIn in z in
         let none : drop 10 (first .held) ≡ [] = drop-of-length-le (first .held) {i = 10} (omega (arith, ten (u .0))) in
         rw (← y, none) (fill-empty n (first .eaten) o (omega (arith, u .2)) (omega (arith, u .3)))
@@ -75,8 +76,8 @@ filled-head id left h o n i p q = by (look id left (fill left h 0 o .held)) (loo
 -- ---- the memory
 
 module _ (ns b o : List ℕ) (left place count lim k : ℕ) (b1 : List ℕ)
-    (is-left : left ≡ leftIn ns) (is-place : place ≡ placeIn ns) (is-count : count ≡ countIn ns) (most : left ≤ 4090) (is-lim : lim ≡ limit left)
-    (within : place + limit left ≤ 4100) (few : count ≤ limit left) (long : 4100 ≤ length b)
+    (is-left : left ≡ leftIn ns) (is-place : place ≡ placeIn ns) (is-count : count ≡ countIn ns) (most : left ≤ bodyLimit) (is-lim : lim ≡ limit left)
+    (within : place + limit left ≤ streamRoom) (few : count ≤ limit left) (long : streamRoom ≤ length b)
     (is-k : k ≡ min (lim - count) (length o)) (after : b1 ≡ take (place + count) b ++ (take k o ++ drop k (drop (place + count) b))) where
   held-length : length (heldAt ns b) ≡ count
   unfolding heldAt
@@ -117,7 +118,7 @@ module _ (ns b o : List ℕ) (left place count lim k : ℕ) (b1 : List ℕ)
       }
 
   pub took-head : (id ns′ o2 b2 : List ℕ) (n more : ℕ) → n ≡ headIn (look id left (take (place + count + k - place) (drop place b1))) → (n ≡ 0 → ⊥)
-      → o2 ≡ drop k o → more ≡ min n (length o2) → 4100 ≤ length b1 → b2 ≡ take 10 b1 ++ (take more o2 ++ drop more (drop 10 b1)) → ns′ ≡ 0 ∷ n ∷ 10 ∷ more ∷ []
+      → o2 ≡ drop k o → more ≡ min n (length o2) → streamRoom ≤ length b1 → b2 ≡ take 10 b1 ++ (take more o2 ++ drop more (drop 10 b1)) → ns′ ≡ 0 ∷ n ∷ 10 ∷ more ∷ []
       → TakesIn id o (leftIn ns) (heldAt ns b) (k + more) ns′ b2
   took-head id ns′ o2 b2 n more i p same is-more long1 e2 e =
       let y : n ≡ headIn (look id (leftIn ns) (fill (leftIn ns) (heldAt ns b) 0 o .held)) = rw (← first-part, ← is-left) i in

@@ -10,7 +10,7 @@ use borrow.Author.Tests.{lt-ltb, le-ltb, lt-leb, le-leb}
 use denote.Enum.Declared.{tagOf}
 use types.Run.{OneOf, miss}
 use Rattle.meaning.specs.Octets.{same}
-use Rattle.bench_words.specs.Words.{ascii, words, part, isHex, octetsOf}
+use Rattle.bench_words.specs.Words.{ascii, words, part, isHex, octetsOf, hexLimit}
 use Rattle.bench_words.specs.Scan.{numberIn}
 use Rattle.bench_words.specs.declared.Number.{Number}
 use Rattle.bench_words.proofs.Words.{number-value, number-none, hex-short}
@@ -41,7 +41,7 @@ unfolding pairIn numberHex isHex
 gives-pair l n s e w k b h i f g p q =
     let v = number-value w n (sym f ∙ g) in
     let m = length-take-le (e - s) (drop s l) (simp length-drop (omega arith)) in
-    let short = hex-short 8192 (part s e l) (omega arith) (sym p ∙ q) in
+    let short = hex-short hexLimit (part s e l) (omega arith) (sym p ∙ q) in
     record { means = rw (v .0, sym p ∙ q) (rw (v .1) refl); lies = (h, i, omega arith) }
 
 -- ---- the orders

@@ -20,7 +20,7 @@ use Rattle.session.specs.Stream.{Stream, empty}
 use Rattle.session.specs.Session.{afterLoss}
 use Rattle.session.specs.Lent.{streamOf}
 use Rattle.session.specs.Pack.{messagesTo, packed, packRefusal, packedBy, pack}
-use Rattle.bench_words.specs.Words.{ascii, part, octetsOf, Puts}
+use Rattle.bench_words.specs.Words.{ascii, part, octetsOf, Puts, hexLimit, inputLimit}
 use Rattle.bench_verbs.specs.Line.{Said}
 use Rattle.bench_lines.specs.Text.{eventLine, textSpace}
 use Rattle.bench_replies.specs.Reply.{eventRoom, replyTo, Says}
@@ -60,7 +60,7 @@ pack-fits id n room records =
     (λ f. rw (e, f) (ltb-false room (length (packed id (messagesTo n records))) f)))
 
 -- what the writer was lent, and given, and what it handed back
-module _ (n room : ℕ) {id os before after part : List ℕ} {l whole k a : ℕ} (all : 2 * 4096 ≡ whole) (lent : l ≡ min room whole) (given : Puts os before after k) (i : id ≡ own)
+module _ (n room : ℕ) {id os before after part : List ℕ} {l whole k a : ℕ} (all : 2 * inputLimit ≡ whole) (lent : l ≡ min room whole) (given : Puts os before after k) (i : id ≡ own)
     (answers : a ≡ pack id n l (take k after) .answer) (hands : part ≡ pack id n l (take k after) .octets) where
   pub pack-short : length part ≤ saveLimit new
   pack-short = let f = pack-fits id n l (take k after) in rw hands (omega arith)
@@ -101,7 +101,7 @@ own-none a q = rw q refl
 pub lies : (l : List ℕ) (r a : Ask) → InLine l r → r ≡ a → InLine l a
 lies l r a h e = rw e at h
 
-pub short : (l : List ℕ) (s e : ℕ) → Lies l s e → length (part s e l) ≤ 8192
+pub short : (l : List ℕ) (s e : ℕ) → Lies l s e → length (part s e l) ≤ hexLimit
 short l s e h = let n = length-take-le (e - s) (drop s l) (simp length-drop (omega arith)) in omega arith
 
 -- nothing is said of the bench's

@@ -7,7 +7,7 @@ use mathlib.Core.Bool.{Bool, true, false, not}
 use mathlib.Core.List.{List, [], _∷_, _++_, append-assoc}
 use lib.ListN.{length, take, drop, length-drop}
 use lib.Seq.{take-all, drop-drop}
-use Rattle.bench_words.specs.Words.{ascii}
+use Rattle.bench_words.specs.Words.{ascii, inputLimit}
 use Rattle.meaning.specs.Octets.{pick}
 use Rattle.meaning.specs.Lists.{append-nil, by-test}
 use Rattle.session.specs.Kept.{Fits}
@@ -102,7 +102,7 @@ pub record Goes (n room : ℕ) (o : List ℕ) (t : Turns) (left from at : ℕ) (
   pub leaves : turnsF left n room card stream (drop from o) .card ≡ t .card
   pub streams : turnsF left n room card stream (drop from o) .stream ≡ t .stream
 
-pub goes-start : (n room : ℕ) (o : List ℕ) (c : Card) (s : Stream) {before text : List ℕ} {at : ℕ} → length o ≤ 4096 → Fits s → Adds (ascii "octets") before text 0 at
+pub goes-start : (n room : ℕ) (o : List ℕ) (c : Card) (s : Stream) {before text : List ℕ} {at : ℕ} → length o ≤ inputLimit → Fits s → Adds (ascii "octets") before text 0 at
     → Goes n room o (turns n room c s o) (mostTurns o) 0 at text c s
 unfolding turns ascii
 goes-start n room o c s short fits adds =

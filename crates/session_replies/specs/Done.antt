@@ -8,7 +8,7 @@ use Rattle.meaning.specs.Events.{event, lost}
 use Rattle.session.specs.Stream.{Stream, empty}
 use Rattle.session.specs.Session.{afterLoss}
 use Rattle.session.specs.Pack.{pack}
-use Rattle.bench_words.specs.Words.{ascii}
+use Rattle.bench_words.specs.Words.{ascii, inputLimit}
 use Rattle.bench_verbs.specs.Line.{Said}
 use Rattle.bench_lines.specs.Text.{eventLine}
 use Rattle.bench_replies.specs.Reply.{eventRoom, replyTo}
@@ -25,7 +25,7 @@ pub record Done : Type 0 where
 
 -- The writer is lent the room, or twice the octets of its records, of which there are 4096 at most: a message comes with four octets of a record and leaves with ten of a PDU's head at most, and has eight itself.
 abbrev pub packRoom : ℕ → ℕ
-packRoom room = min room (2 * 4096)
+packRoom room = min room (2 * inputLimit)
 
 -- the card's own, 192.0.2.254:0
 abbrev pub own : List ℕ

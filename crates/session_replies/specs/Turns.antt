@@ -11,7 +11,7 @@ use Rattle.meaning.specs.Card.{Card}
 use Rattle.session.specs.Stream.{Stream, bodyLimit, holdsMessage}
 use Rattle.session.specs.Session.{messageRoom, streamRoom, label, Called, called}
 use Rattle.session.specs.Ends.{pending}
-use Rattle.bench_words.specs.Words.{ascii, numeral}
+use Rattle.bench_words.specs.Words.{ascii, numeral, inputLimit}
 use Rattle.bench_lines.specs.Text.{recordsBehind}
 
 -- 192.0.2.N:0, of a neighbour as of the card itself, for which N is 254
@@ -84,7 +84,7 @@ octetSpace = 185
 
 -- the space of the line: 4096 octets are offered at most, which may be eaten and then done with, and those of a PDU are held
 abbrev pub turnsSpace : ℕ
-turnsSpace = octetSpace * (2 * 4096 + bodyLimit + 2)
+turnsSpace = octetSpace * (2 * inputLimit + bodyLimit + 2)
 
 -- the text that the calls still to come may need, and the line's end
 abbrev pub spaceFor : Stream → List ℕ → ℕ

@@ -13,7 +13,7 @@ ghost use Rattle.card.specs.Table.{cardOf};
 ghost use Rattle.session.specs.Session.{afterLoss, messageRoom, streamRoom};
 ghost use Rattle.session.specs.Lent.{streamNumbers, streamOf};
 ghost use Rattle.session.specs.Pack.{pack};
-ghost use Rattle.bench_words.specs.Words.{ascii, octetsOf};
+ghost use Rattle.bench_words.specs.Words.{ascii, octetsOf, hexLimit, inputLimit};
 ghost use Rattle.bench_verbs.specs.Line.{Said};
 ghost use Rattle.bench_lines.specs.Text.{eventLine, textSpace, Adds};
 ghost use Rattle.bench_replies.specs.Reply.{eventRoom, replyTo, Says};
@@ -23,6 +23,7 @@ ghost use Rattle.session_replies.specs.Done.{own, packRoom, BoxSays};
 ghost use Rattle.session_replies.specs.Four.{isOwn, boxNumbers, numbersOf, bufferOf, streamsOf, four, boxOf, boxOn};
 ghost use Rattle.session_replies.specs.Turns.{identifier, calledBox, callText, isLast, turns, callSpace, turnsSpace, spaceFor, TurnsSay};
 ghost use Rattle.session_replies.specs.Did.{Did};
+use bench_words::INPUT_LIMIT;
 use card::NUMBER_COUNT;
 use card::OCTET_COUNT;
 use meaning::SENT_LIMIT;
@@ -37,10 +38,12 @@ use session_orders::Ask;
 pub const BOX_NUMBERS: usize = 4 * STREAM_NUMBERS;
 
 // The room of the writer, as `packRoom` in specs/Done.antt.
-const PACK_ROOM: usize = 2 * 4096;
+const PACK_ROOM: usize = 2 * INPUT_LIMIT;
 
-// The space of the line, as `turnsSpace` in specs/Turns.antt.
-pub const TURNS_SPACE: usize = 185 * (2 * 4096 + BODY_LIMIT + 2);
+// The spaces of the line, as `octetSpace` and `turnsSpace` in specs/Turns.antt.
+const OCTET_SPACE: usize = 185;
+
+pub const TURNS_SPACE: usize = OCTET_SPACE * (2 * INPUT_LIMIT + BODY_LIMIT + 2);
 
 // ---- octets of a neighbour, offered to its stream call after call, and the line that tells of each call
 
@@ -158,7 +161,7 @@ fn put_turns(
     room: u32,
     text: &mut [u8],
 ) -> usize
-    requires { ⌜ (length (now buffer) ≡ streamRoom) × (length (now octets) ≤ 4096) × (turnsSpace ≤ length (now text)) ⌝ }
+    requires { ⌜ (length (now buffer) ≡ streamRoom) × (length (now octets) ≤ inputLimit) × (turnsSpace ≤ length (now text)) ⌝ }
     ensures { λ r. ⌜ TurnsSay (turns neighbour room (cardOf (now (numbers .entry)) (now (names .entry))) (streamOf (now (stream .entry)) (now (buffer .entry))) (now (octets .entry)))
         r (now (text .exit)) (cardOf (now (numbers .exit)) (now (names .exit))) (streamOf (now (stream .exit)) (now (buffer .exit))) ⌝ }
 {
@@ -194,7 +197,7 @@ fn records() -> [u8; SENT_LIMIT]
 }
 
 fn pdus() -> [u8; PACK_ROOM]
-    ensures { λ r. ⌜ 2 * 4096 ≡ length r ⌝ }
+    ensures { λ r. ⌜ 2 * inputLimit ≡ length r ⌝ }
 {
     [0; PACK_ROOM]
 }
@@ -235,7 +238,7 @@ fn take_turns(
     room: u32,
     text: &mut [u8],
 ) -> usize
-    requires { ⌜ (n < streamCount) × (length (now streams) ≡ boxNumbers) × (length (now octets) ≤ 4096) × (turnsSpace ≤ length (now text)) ⌝ }
+    requires { ⌜ (n < streamCount) × (length (now streams) ≡ boxNumbers) × (length (now octets) ≤ inputLimit) × (turnsSpace ≤ length (now text)) ⌝ }
     ensures { λ r. ⌜ ((number : ℕ) (bs : List (List ℕ)) → n < length bs → bufferOf bs n ≡ now (buffer .entry)
         → BoxSays (boxOn n number (boxOf room (cardOf (now (numbers .entry)) (now (names .entry))) (streamsOf (now (streams .entry)) bs)) (Told.octets neighbour (now (octets .entry))))
         r (now (text .exit)) (cardOf (now (numbers .exit)) (now (names .exit))) room (streamsOf (now (streams .exit)) (set bs n (now (buffer .exit))))) ⌝ }
@@ -267,7 +270,7 @@ fn on_octets(
     room: u32,
     text: &mut [u8],
 ) -> usize
-    requires { ⌜ (n < streamCount) × (length (now streams) ≡ boxNumbers) × (length (now hex) ≤ 8192) × (turnsSpace ≤ length (now text)) ⌝ }
+    requires { ⌜ (n < streamCount) × (length (now streams) ≡ boxNumbers) × (length (now hex) ≤ hexLimit) × (turnsSpace ≤ length (now text)) ⌝ }
     ensures { λ r. ⌜ ((number : ℕ) (bs : List (List ℕ)) → n < length bs → bufferOf bs n ≡ now (buffer .entry)
         → BoxSays (boxOn n number (boxOf room (cardOf (now (numbers .entry)) (now (names .entry))) (streamsOf (now (streams .entry)) bs)) (Told.octets neighbour (octetsOf (now (hex .entry)))))
         r (now (text .exit)) (cardOf (now (numbers .exit)) (now (names .exit))) room (streamsOf (now (streams .exit)) (set bs n (now (buffer .exit))))) ⌝ }
@@ -302,7 +305,7 @@ fn on_four(
     room: u32,
     text: &mut [u8],
 ) -> usize
-    requires { ⌜ (n < streamCount) × (length (now streams) ≡ boxNumbers) × (length (now hex) ≤ 8192) × (turnsSpace ≤ length (now text)) ⌝ }
+    requires { ⌜ (n < streamCount) × (length (now streams) ≡ boxNumbers) × (length (now hex) ≤ hexLimit) × (turnsSpace ≤ length (now text)) ⌝ }
     ensures { λ r. ⌜ ((number : ℕ) → BoxSays (boxOn n number (boxOf room (cardOf (now (numbers .entry)) (now (names .entry))) (four (now (streams .entry)) (now (b0 .entry)) (now (b1 .entry)) (now (b2 .entry)) (now (b3 .entry)))) (Told.octets neighbour (octetsOf (now (hex .entry)))))
         r (now (text .exit)) (cardOf (now (numbers .exit)) (now (names .exit))) room (four (now (streams .exit)) (now (b0 .exit)) (now (b1 .exit)) (now (b2 .exit)) (now (b3 .exit)))) ⌝ }
 {
@@ -320,7 +323,7 @@ fn on_four(
 
 // The PDUs to a neighbour, of the records in HEX.
 fn on_pack(neighbour: u32, hex: &[u8], room: u32, text: &mut [u8]) -> usize
-    requires { ⌜ (length (now hex) ≤ 8192) × (textSpace ≤ length (now text)) ⌝ }
+    requires { ⌜ (length (now hex) ≤ hexLimit) × (textSpace ≤ length (now text)) ⌝ }
     ensures { λ r. ⌜ r ≤ textSpace ⌝ }
     ensures { λ r. ⌜ take r (now (text .exit)) ≡ eventLine (ascii "pack") (pack own neighbour (packRoom room) (octetsOf (now (hex .entry))) .answer) (pack own neighbour (packRoom room) (octetsOf (now (hex .entry))) .octets) ⌝ }
 {

@@ -4,9 +4,10 @@ use native.Mathlib.Omega.{arith}
 use mathlib.Core.Path.{_≡_, refl, ap}
 use mathlib.Core.List.{List, [], _∷_}
 use lib.ListN.{length, take, drop, length-take, drop-of-length-le}
-use Rattle.session.specs.Stream.{stopped, reading, empty, limit}
+use Rattle.session.specs.Stream.{stopped, reading, empty, limit, bodyLimit}
 use Rattle.session.specs.Lent.{leftIn, placeIn, countIn, streamOf, lent-reading, lent-stopped, lent-past}
 use Rattle.session_streams.specs.Holds.{heldAt}
+use Rattle.session.specs.Session.{streamRoom}
 
 pub stopped-is : (ns : List ℕ) → ns ≡ 1 ∷ 0 ∷ 0 ∷ 0 ∷ [] → (length ns ≡ 4) × ((b : List ℕ) → streamOf ns b ≡ stopped)
 stopped-is ns e = (ap length e, λ b. rw e (lent-stopped 0 0 0 b))
@@ -23,7 +24,7 @@ limit-is zero h = absurd (omega arith)
 limit-is (suc n) h = refl
 
 module _ (ns ns′ : List ℕ) (left place count k : ℕ) (is-left : left ≡ leftIn ns) (is-place : place ≡ placeIn ns) (is-count : count ≡ countIn ns)
-    (most : left ≤ 4090) (within : place + limit left ≤ 4100) (few : count ≤ limit left) (some : 0 < k) (in-left : k ≤ leftIn ns) (in-count : k ≤ countIn ns) where
+    (most : left ≤ bodyLimit) (within : place + limit left ≤ streamRoom) (few : count ≤ limit left) (some : 0 < k) (in-left : k ≤ leftIn ns) (in-count : k ≤ countIn ns) where
   pub pass-end : left ≡ k → ns′ ≡ 0 ∷ 0 ∷ 0 ∷ 0 ∷ [] → (length ns′ ≡ 4) × ((b : List ℕ) → streamOf ns′ b ≡ reading (leftIn ns - k) (drop k (heldAt ns b)))
   unfolding heldAt
   pass-end l e =
