@@ -1,6 +1,6 @@
 // The layers of a name as text, at a place of a lent text: the reader calls itself on the part from the name inside on.
 ghost use mathlib.Core.Path.{_≡_};
-ghost use mathlib.Core.List.{[], _∷_, _++_};
+ghost use mathlib.Core.List.{_∷_, _++_};
 ghost use Prim.Native.Nat.{_+_, _*_, _≤_};
 ghost use lib.ListN.{length, take};
 ghost use Rattle.meaning.specs.Wire.{rootLength, opaqueIn, elementRefusal, nameLimit, rootLimit};

@@ -2,7 +2,7 @@
 use Prim.Native.Nat.{ℕ, _-_, _*_, _≤_, min}
 use native.Mathlib.Nat.{le-trans}
 use native.Mathlib.Omega.{arith}
-use mathlib.Core.Path.{_≡_, refl, sym, ap, _∙_}
+use mathlib.Core.Path.{_≡_, refl, ap, _∙_}
 use mathlib.Core.Bool.{Bool, true, false}
 use mathlib.Core.List.{List}
 use lib.ListN.{length, take, drop}
@@ -10,7 +10,7 @@ use borrow.Author.Tests.{ltb-false}
 use lib.Dec.{ltb}
 use Rattle.meaning.specs.Lists.{by-test}
 use Rattle.meaning.specs.Card.{Card}
-use Rattle.meaning.specs.Events.{Out, roomShort}
+use Rattle.meaning.specs.Events.{roomShort}
 use Rattle.meaning_save.specs.Save.{Form, old, new, formOf, saveLimit, saved, fitsSave, save, restore, tableIn, isSave, Moved, notMoved, move, newer, older}
 use Rattle.meaning.specs.Calls.{Hands}
 use Rattle.save_mover.specs.Moves.{Gives}
@@ -18,7 +18,7 @@ use Rattle.bench_words.specs.Words.{ascii}
 use Rattle.bench_verbs.specs.Line.{Said}
 use Rattle.bench_orders.specs.Tells.{SaveLies}
 use Rattle.bench_lines.specs.Text.{countLine, eventLine, textSpace}
-use Rattle.bench_replies.specs.Reply.{told, counted, shifted, saveRoom, saveWord, restoreWord, moveWord, other, replyTo, Says}
+use Rattle.bench_replies.specs.Reply.{shifted, saveWord, restoreWord, moveWord, other, replyTo, Says}
 use Rattle.bench_replies.proofs.Reply.{says-told, says-counted, save-short}
 
 module _ (b : Bool) where

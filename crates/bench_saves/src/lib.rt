@@ -1,6 +1,5 @@
 // The orders of the bench on saves: the call of either form that each is, and the line that tells of it, at the front of a lent text.
 ghost use mathlib.Core.Path.{_≡_};
-ghost use mathlib.Core.List.{List};
 ghost use Prim.Native.Nat.{ℕ, _≤_, _*_};
 ghost use lib.ListN.{length, take};
 ghost use Rattle.meaning.specs.Card.{Card};

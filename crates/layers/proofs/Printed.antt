@@ -11,7 +11,7 @@ use borrow.Author.Tests.{eq-eqb, ne-eqb}
 use Rattle.meaning.specs.Octets.{pick}
 use Rattle.meaning.specs.Lists.{append-nil}
 use Rattle.meaning.specs.Card.{Tree, Card, treeAt, bare}
-use Rattle.meaning_save.specs.Save.{Form, old, new, formOf, saveLimit, tableIn, isSave, isTree}
+use Rattle.meaning_save.specs.Save.{Form, new, formOf, saveLimit, tableIn, isSave, isTree}
 use Rattle.meaning_laws.specs.SaveLists.{tree-ok}
 use Rattle.meaning_laws.specs.SaveLaws.{ruled-keeps, taken-is-save}
 use Rattle.meaning_laws.specs.SaveRules.{all-at, Rules, rules}

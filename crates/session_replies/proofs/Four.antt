@@ -10,7 +10,7 @@ use lib.Dec.{ltb}
 use borrow.Author.Tests.{ltb-true, ltb-false}
 use Rattle.octets.specs.Part.{mid}
 use Rattle.octets.proofs.Tab.{tab-get, tab-set}
-use Rattle.session.specs.Stream.{Stream, empty}
+use Rattle.session.specs.Stream.{empty}
 use Rattle.session.specs.Lent.{streamNumbers, streamOf}
 use Rattle.session_orders.specs.Told.{streamCount}
 use Rattle.session_replies.specs.Four.{boxNumbers, numbersOf, bufferOf, streamsOf}

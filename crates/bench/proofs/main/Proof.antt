@@ -37,7 +37,9 @@ array-share-prefix-chunk : tie.Need-array-share-prefix-chunk Inv-loop μ-loop
 array-share-prefix-chunk c = search needs
 
 slice-aggregate-take-chunk : tie.Need-slice-aggregate-take-chunk Inv-loop μ-loop
-slice-aggregate-take-chunk c = sym (length-take-le (c .before .before .before .before .before .before .read-chunk .result .count) (c .before .before .before .before .before .before .read-chunk .last .0) (c .before .before .before .before .before .before .read-chunk .ensures))
+slice-aggregate-take-chunk c =
+    let the-read-chunk = c .before .before .before .before .before .before .read-chunk in
+    sym (length-take-le (the-read-chunk .result .count) (the-read-chunk .last .0) (the-read-chunk .ensures))
 
 take-chunk-requires : tie.Need-take-chunk-requires Inv-loop μ-loop
 take-chunk-requires c κs = search needs

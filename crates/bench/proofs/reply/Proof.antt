@@ -41,9 +41,11 @@ same-length-2 c = search needs
 returns-2 : tie.Need-returns-2
 unfolding replyTo only ascii
 returns-2 c =
-    let start = c .before .before .before .before .before .before .before .before in (
+    let the-before = c .before .before .before .before .before .before .before .before in
+    let the-if1 = c .before .before .before .before .before .if1 in
+    let start = the-before in (
       omega arith,
-      λ o p e. rw (keeps-long (start .args .line .now) (start .args .state .kept) o (c .before .before .before .before .before .if1 .left) p e) (record { says = says-only _ _ _ _ _ (omega arith) (c .before .before .put-count .ensures .0); next = refl }),
+      λ o p e. rw (keeps-long (start .args .line .now) (start .args .state .kept) o (the-if1 .left) p e) (record { says = says-only _ _ _ _ _ (omega arith) (c .before .before .put-count .ensures .0); next = refl }),
     )
 
 pub reply-spec : {M : Type 1} → statement M

@@ -1,7 +1,7 @@
 -- `bench::take_chunk` meets its contract. Assumes nothing.
 use Prim.Native.Nat.{_-_, _≤_, _<_}
 use native.Mathlib.Omega.{arith}
-use mathlib.Core.Path.{_≡_, refl, sym}
+use mathlib.Core.Path.{sym}
 use lib.ListN.{length, take}
 use lib.Seq.{take-all}
 use Rattle.memory.specs.Memory.{cardOf}
@@ -38,10 +38,11 @@ loop-less c = search needs
 
 loop-again : tie.Need-loop-again Inv-loop μ-loop
 loop-again c =
+    let the-loop-test = c .before .before .before .before .before .before .loop-test in
     let at-loop = c .before .before .before .before .before .before .before in
     let chunk = at-loop .before .before .args .chunk .now in
     let i = at-loop .loop .i in
-    let h : i < length chunk = c .before .before .before .before .before .before .loop-test .taken in
+    let h : i < length chunk = the-loop-test .taken in
     (omega arith, λ s k. rw (sym (after-next seatAfter s chunk i h)) (c .take-octet .ensures _ (at-loop .loop .inv .1 s k)))
 
 returns : tie.Need-returns Inv-loop μ-loop

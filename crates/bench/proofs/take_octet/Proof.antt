@@ -36,7 +36,11 @@ same-length c = search needs
 
 returns-2 : tie.Need-returns-2
 unfolding nextNumber
-returns-2 c = λ s h. rw (after-end seatAfter s _ (c .before .before .before .before .before .before .before .before .before .before .before .if1 .left)) (ended-stands s h (c .before .before .before .before .before .before .before .before .before .before .wrapping-add-u64 .ensures) (c .before .before .before .before .reply .ensures .1 (s .octets) (h .keeps) (h .long)))
+returns-2 c =
+    let the-if1 = c .before .before .before .before .before .before .before .before .before .before .before .if1 in
+    let the-wrapping-add-u64 = c .before .before .before .before .before .before .before .before .before .before .wrapping-add-u64 in
+    let the-reply = c .before .before .before .before .reply in
+    λ s h. rw (after-end seatAfter s _ (the-if1 .left)) (ended-stands s h (the-wrapping-add-u64 .ensures) (the-reply .ensures .1 (s .octets) (h .keeps) (h .long)))
 
 pub take-octet-spec : {M : Type 1} → statement M
 take-octet-spec =

@@ -7,7 +7,9 @@ read-order-requires : tie.Need-read-order-requires
 read-order-requires c κs = search needs
 
 obey-requires : tie.Need-obey-requires
-obey-requires c κs = (c .before .before .before .read-order .ensures .lies, c .before .before .before .before .before .before .pre)
+obey-requires c κs =
+    let start = c .before .before .before .before .before .before in
+    (c .before .before .before .read-order .ensures .lies, start .pre)
 
 next-room-requires : tie.Need-next-room-requires
 next-room-requires c κs = search needs
@@ -17,7 +19,8 @@ same-length c = search needs
 
 returns : tie.Need-returns
 returns c =
-    rw (sym (c .before .before .before .before .before .before .before .read-order .ensures .means))
+    let the-read-order = c .before .before .before .before .before .before .before .read-order in
+    rw (sym (the-read-order .ensures .means))
     (record { says = c .before .before .before .obey .ensures; next = c .next-room .ensures _ _ _ })
 
 pub answer-spec : {M : Type 1} → statement M

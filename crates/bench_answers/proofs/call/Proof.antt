@@ -47,42 +47,54 @@ same-length c = search needs
 
 returns : tie.Need-returns
 unfolding callOf
-returns c = rw (c .before .before .before .before .before .before .before .before .order .given .1) (c .before .before .receive-core .ensures)
+returns c =
+    let the-order = c .before .before .before .before .before .before .before .before .order in
+    rw (the-order .given .1) (c .before .before .receive-core .ensures)
 
 same-length-2 : tie.Need-same-length-2
 same-length-2 c = search needs
 
 returns-2 : tie.Need-returns-2
 unfolding callOf
-returns-2 c = rw (c .before .before .before .before .before .before .before .enum-told .given .1) (c .before .before .join-core .ensures)
+returns-2 c =
+    let the-enum-told = c .before .before .before .before .before .before .before .enum-told in
+    rw (the-enum-told .given .1) (c .before .before .join-core .ensures)
 
 same-length-3 : tie.Need-same-length-3
 same-length-3 c = search needs
 
 returns-3 : tie.Need-returns-3
 unfolding callOf
-returns-3 c = rw (c .before .before .before .before .before .before .before .enum-told2 .given .1) (c .before .before .leave-core .ensures)
+returns-3 c =
+    let the-enum-told2 = c .before .before .before .before .before .before .before .enum-told2 in
+    rw (the-enum-told2 .given .1) (c .before .before .leave-core .ensures)
 
 same-length-4 : tie.Need-same-length-4
 same-length-4 c = search needs
 
 returns-4 : tie.Need-returns-4
 unfolding callOf
-returns-4 c = rw (c .before .before .before .before .before .before .before .before .order2 .given .1) (c .before .before .route-core .ensures)
+returns-4 c =
+    let the-order2 = c .before .before .before .before .before .before .before .before .order2 in
+    rw (the-order2 .given .1) (c .before .before .route-core .ensures)
 
 same-length-5 : tie.Need-same-length-5
 same-length-5 c = search needs
 
 returns-5 : tie.Need-returns-5
 unfolding callOf
-returns-5 c = rw (c .before .before .before .before .before .before .before .order3 .given .1) (c .before .before .notice-core .ensures _)
+returns-5 c =
+    let the-order3 = c .before .before .before .before .before .before .before .order3 in
+    rw (the-order3 .given .1) (c .before .before .notice-core .ensures _)
 
 same-length-6 : tie.Need-same-length-6
 same-length-6 c = search needs
 
 returns-6 : tie.Need-returns-6
 unfolding callOf
-returns-6 c = rw (c .before .before .before .before .before .before .before .before .order4 .given .1) (c .before .before .lost-core .ensures)
+returns-6 c =
+    let the-order4 = c .before .before .before .before .before .before .before .before .order4 in
+    rw (the-order4 .given .1) (c .before .before .lost-core .ensures)
 
 returns-7 : tie.Need-returns-7
 returns-7 c = absurd (of-others Kind.records (c .before .before .before .args .order) (c .match .keys7) (c .before .before .before .pre))

@@ -29,18 +29,25 @@ enum-known-order-2 : tie.Need-enum-known-order-2
 enum-known-order-2 c = search needs
 
 sub-on-tree : tie.Need-sub-on-tree
-sub-on-tree c = lies _ _ _ (c .before .before .before .before .before .before .before .pre .0) (c .before .before .before .order2 .given .1) .0
+sub-on-tree c =
+    let start = c .before .before .before .before .before .before .before in
+    lies _ _ _ (start .pre .0) (c .before .before .before .order2 .given .1) .0
 
 part-on-tree-start : tie.Need-part-on-tree-start
-part-on-tree-start c = lies _ _ _ (c .before .before .before .before .before .before .before .pre .0) (c .before .before .before .order2 .given .1) .0
+part-on-tree-start c =
+    let start = c .before .before .before .before .before .before .before in
+    lies _ _ _ (start .pre .0) (c .before .before .before .order2 .given .1) .0
 
 part-on-tree-end : tie.Need-part-on-tree-end
-part-on-tree-end c = lies _ _ _ (c .before .before .before .before .before .before .before .pre .0) (c .before .before .before .order2 .given .1) .1
+part-on-tree-end c =
+    let start = c .before .before .before .before .before .before .before in
+    lies _ _ _ (start .pre .0) (c .before .before .before .order2 .given .1) .1
 
 on-tree-requires : tie.Need-on-tree-requires
 on-tree-requires c κs =
+    let the-order2 = c .before .before .before .before .before .order2 in
     let start = c .before .before .before .before .before .before .before .before .before in
-    (short _ _ _ (lies _ _ _ (start .pre .0) (c .before .before .before .before .before .order2 .given .1)), start .pre .1)
+    (short _ _ _ (lies _ _ _ (start .pre .0) (the-order2 .given .1)), start .pre .1)
 
 on-saved-requires : tie.Need-on-saved-requires
 on-saved-requires c κs =
@@ -77,14 +84,18 @@ same-length-2 c = search needs
 
 returns-3 : tie.Need-returns-3
 unfolding meant
-returns-3 c = rw (c .before .before .before .before .before .before .order .given .1) (c .before .before .on-label .ensures _ _ _)
+returns-3 c =
+    let the-order = c .before .before .before .before .before .before .order in
+    rw (the-order .given .1) (c .before .before .on-label .ensures _ _ _)
 
 same-length-3 : tie.Need-same-length-3
 same-length-3 c = search needs
 
 returns-4 : tie.Need-returns-4
 unfolding meant
-returns-4 c = rw (c .before .before .before .before .before .before .before .before .order2 .given .1) (c .before .before .on-tree .ensures _ _)
+returns-4 c =
+    let the-order2 = c .before .before .before .before .before .before .before .before .order2 in
+    rw (the-order2 .given .1) (c .before .before .on-tree .ensures _ _)
 
 same-length-4 : tie.Need-same-length-4
 same-length-4 c = search needs

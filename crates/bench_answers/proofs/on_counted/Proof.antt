@@ -69,28 +69,36 @@ same-length c = search needs
 
 returns : tie.Need-returns
 unfolding meant replyTo only ascii
-returns c = λ room l os. rw (c .before .before .before .before .before .enum-told .given .1) (says-only _ _ _ _ _ (omega arith) (c .before .before .put-count .ensures .0))
+returns c =
+    let the-enum-told = c .before .before .before .before .before .enum-told in
+    λ room l os. rw (the-enum-told .given .1) (says-only _ _ _ _ _ (omega arith) (c .before .before .put-count .ensures .0))
 
 same-length-2 : tie.Need-same-length-2
 same-length-2 c = search needs
 
 returns-2 : tie.Need-returns-2
 unfolding meant replyTo counted ascii
-returns-2 c = λ room l os. rw (c .before .before .before .before .before .before .before .before .order .given .1) (says-counted (start _) _ _ _ _ (c .before .before .before .start .ensures .0) (c .before .before .before .start .ensures .1 _) (omega arith) (c .before .before .put-count2 .ensures .0))
+returns-2 c =
+    let the-order = c .before .before .before .before .before .before .before .before .order in
+    λ room l os. rw (the-order .given .1) (says-counted (start _) _ _ _ _ (c .before .before .before .start .ensures .0) (c .before .before .before .start .ensures .1 _) (omega arith) (c .before .before .put-count2 .ensures .0))
 
 same-length-3 : tie.Need-same-length-3
 same-length-3 c = search needs
 
 returns-3 : tie.Need-returns-3
 unfolding meant replyTo only ascii
-returns-3 c = λ room l os. rw (c .before .before .before .before .before .before .order2 .given .1) (says-only _ _ _ _ _ (omega arith) (c .before .before .put-count3 .ensures .0))
+returns-3 c =
+    let the-order2 = c .before .before .before .before .before .before .order2 in
+    λ room l os. rw (the-order2 .given .1) (says-only _ _ _ _ _ (omega arith) (c .before .before .put-count3 .ensures .0))
 
 same-length-4 : tie.Need-same-length-4
 same-length-4 c = search needs
 
 returns-4 : tie.Need-returns-4
 unfolding meant replyTo only ascii
-returns-4 c = λ room l os. rw (c .before .before .before .before .before .before .before .enum-told2 .given .1) (says-only _ _ _ _ _ (omega arith) (c .before .before .put-count4 .ensures .0 ∙ ap (countLine (ascii "free")) (c .before .before .before .free-labels .ensures os)))
+returns-4 c =
+    let the-enum-told2 = c .before .before .before .before .before .before .before .enum-told2 in
+    λ room l os. rw (the-enum-told2 .given .1) (says-only _ _ _ _ _ (omega arith) (c .before .before .put-count4 .ensures .0 ∙ ap (countLine (ascii "free")) (c .before .before .before .free-labels .ensures os)))
 
 returns-5 : tie.Need-returns-5
 returns-5 c = λ room l os. absurd (of-others Kind.count (c .before .before .args .order) (c .match .keys5) (c .before .before .pre .0))

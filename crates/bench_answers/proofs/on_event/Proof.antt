@@ -13,13 +13,19 @@ input-requires : tie.Need-input-requires
 input-requires c κs = search needs
 
 sub-decode-hex : tie.Need-sub-decode-hex
-sub-decode-hex c = word-lies _ (c .before .before .before .before .args .order) _ (c .before .hex-in .ensures) (c .before .before .before .before .pre .0) .0
+sub-decode-hex c =
+    let start = c .before .before .before .before in
+    word-lies _ (start .args .order) _ (c .before .hex-in .ensures) (start .pre .0) .0
 
 part-decode-hex-start : tie.Need-part-decode-hex-start
-part-decode-hex-start c = word-lies _ (c .before .before .before .before .args .order) _ (c .before .hex-in .ensures) (c .before .before .before .before .pre .0) .0
+part-decode-hex-start c =
+    let start = c .before .before .before .before in
+    word-lies _ (start .args .order) _ (c .before .hex-in .ensures) (start .pre .0) .0
 
 part-decode-hex-end : tie.Need-part-decode-hex-end
-part-decode-hex-end c = word-lies _ (c .before .before .before .before .args .order) _ (c .before .hex-in .ensures) (c .before .before .before .before .pre .0) .1
+part-decode-hex-end c =
+    let start = c .before .before .before .before in
+    word-lies _ (start .args .order) _ (c .before .hex-in .ensures) (start .pre .0) .1
 
 slice-aggregate-decode-hex : tie.Need-slice-aggregate-decode-hex
 slice-aggregate-decode-hex c = search needs
@@ -53,9 +59,13 @@ same-length c = search needs
 
 returns : tie.Need-returns
 returns c =
-    let all = c .before .before .before .before .before .before .before .before .before .before .output .ensures in
-    let given = c .before .before .before .before .before .lent .ensures .1 in
-    λ number. c .before .before .before .tell-call .ensures number _ _ (omega arith) (word-held _ _ _ _ (c .before .before .before .before .before .before .before .before .before .before .before .before .before .before .before .before .hex-in .ensures) (decoded (c .before .before .before .before .before .before .before .before .before .before .before .before .decode-hex .ensures .0)))
+    let the-output = c .before .before .before .before .before .before .before .before .before .before .output in
+    let the-lent = c .before .before .before .before .before .lent in
+    let the-hex-in = c .before .before .before .before .before .before .before .before .before .before .before .before .before .before .before .before .hex-in in
+    let the-decode-hex = c .before .before .before .before .before .before .before .before .before .before .before .before .decode-hex in
+    let all = the-output .ensures in
+    let given = the-lent .ensures .1 in
+    λ number. c .before .before .before .tell-call .ensures number _ _ (omega arith) (word-held _ _ _ _ (the-hex-in .ensures) (decoded (the-decode-hex .ensures .0)))
 
 pub on-event-spec : {M : Type 1} → statement M
 on-event-spec =

@@ -66,42 +66,54 @@ same-length c = search needs
 
 returns : tie.Need-returns
 unfolding wordOf ascii
-returns c = rw (c .before .before .before .before .before .enum-told .given .1) (c .before .before .put-event .ensures .0, c .before .before .put-event .ensures .1)
+returns c =
+    let the-enum-told = c .before .before .before .before .before .enum-told in
+    rw (the-enum-told .given .1) (c .before .before .put-event .ensures .0, c .before .before .put-event .ensures .1)
 
 same-length-2 : tie.Need-same-length-2
 same-length-2 c = search needs
 
 returns-2 : tie.Need-returns-2
 unfolding wordOf ascii
-returns-2 c = rw (c .before .before .before .before .before .enum-told2 .given .1) (c .before .before .put-event2 .ensures .0, c .before .before .put-event2 .ensures .1)
+returns-2 c =
+    let the-enum-told2 = c .before .before .before .before .before .enum-told2 in
+    rw (the-enum-told2 .given .1) (c .before .before .put-event2 .ensures .0, c .before .before .put-event2 .ensures .1)
 
 same-length-3 : tie.Need-same-length-3
 same-length-3 c = search needs
 
 returns-3 : tie.Need-returns-3
 unfolding wordOf ascii
-returns-3 c = rw (c .before .before .before .before .before .enum-told3 .given .1) (c .before .before .put-event3 .ensures .0, c .before .before .put-event3 .ensures .1)
+returns-3 c =
+    let the-enum-told3 = c .before .before .before .before .before .enum-told3 in
+    rw (the-enum-told3 .given .1) (c .before .before .put-event3 .ensures .0, c .before .before .put-event3 .ensures .1)
 
 same-length-4 : tie.Need-same-length-4
 same-length-4 c = search needs
 
 returns-4 : tie.Need-returns-4
 unfolding wordOf ascii
-returns-4 c = rw (c .before .before .before .before .before .enum-told4 .given .1) (c .before .before .put-event4 .ensures .0, c .before .before .put-event4 .ensures .1)
+returns-4 c =
+    let the-enum-told4 = c .before .before .before .before .before .enum-told4 in
+    rw (the-enum-told4 .given .1) (c .before .before .put-event4 .ensures .0, c .before .before .put-event4 .ensures .1)
 
 same-length-5 : tie.Need-same-length-5
 same-length-5 c = search needs
 
 returns-5 : tie.Need-returns-5
 unfolding wordOf ascii
-returns-5 c = rw (c .before .before .before .before .before .enum-told5 .given .1) (c .before .before .put-event5 .ensures .0, c .before .before .put-event5 .ensures .1)
+returns-5 c =
+    let the-enum-told5 = c .before .before .before .before .before .enum-told5 in
+    rw (the-enum-told5 .given .1) (c .before .before .put-event5 .ensures .0, c .before .before .put-event5 .ensures .1)
 
 same-length-6 : tie.Need-same-length-6
 same-length-6 c = search needs
 
 returns-6 : tie.Need-returns-6
 unfolding wordOf ascii
-returns-6 c = rw (c .before .before .before .before .before .enum-told6 .given .1) (c .before .before .put-event6 .ensures .0, c .before .before .put-event6 .ensures .1)
+returns-6 c =
+    let the-enum-told6 = c .before .before .before .before .before .enum-told6 in
+    rw (the-enum-told6 .given .1) (c .before .before .put-event6 .ensures .0, c .before .before .put-event6 .ensures .1)
 
 returns-7 : tie.Need-returns-7
 returns-7 c = absurd (of-others Kind.records (c .before .before .before .args .order) (c .match .keys7) (c .before .before .before .pre .0))

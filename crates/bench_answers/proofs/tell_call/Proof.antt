@@ -13,12 +13,15 @@ slice-reshare-prefix-put-told : tie.Need-slice-reshare-prefix-put-told
 slice-reshare-prefix-put-told c = omega (arith, called-fits _ _ _ _ _ (c .before .before .before .call .ensures))
 
 slice-aggregate-put-told : tie.Need-slice-aggregate-put-told
-slice-aggregate-put-told c = handed-count _ _ _ _ _ _ (c .before .before .before .before .call .ensures)
+slice-aggregate-put-told c =
+    let the-call = c .before .before .before .before .call in
+    handed-count _ _ _ _ _ _ (the-call .ensures)
 
 put-told-requires : tie.Need-put-told-requires
 put-told-requires c κs =
+    let the-call = c .before .before .before .before .call in
     let start = c .before .before .before .before .before .before .before .before .before .before .before .before in
-    let does = c .before .before .before .before .call .ensures in
+    let does = the-call .ensures in
     (start .pre .0, omega (arith, handed-count _ _ _ _ _ _ does, called-fits _ _ _ _ _ does), start .pre .2)
 
 same-length : tie.Need-same-length
@@ -29,9 +32,10 @@ same-length-2 c = search needs
 
 returns : tie.Need-returns
 returns c =
+    let the-call = c .before .before .before .before .before .before .before .call in
     let start = c .before .before .before .before .before .before .before .before .before .before .before .before .before .before .before in
     let told = c .before .before .put-told .ensures in
-    λ number room l el eo. says-called number room _ l (start .args .order) (start .pre .0) el eo (c .before .before .before .before .before .before .before .call .ensures) (told .1) (told .0)
+    λ number room l el eo. says-called number room _ l (start .args .order) (start .pre .0) el eo (the-call .ensures) (told .1) (told .0)
 
 pub tell-call-spec : {M : Type 1} → statement M
 tell-call-spec =

@@ -48,7 +48,9 @@ add-layers-add-innermost-requires : (t : ℕ) → add-layers-lts.Need-add-innerm
   add-layers-below t,
   add-layers.Post,
 ) (add-layers-at t) add-layers.Post
-add-layers-add-innermost-requires t c κs = c .before .before .before .before .before .pre .1
+add-layers-add-innermost-requires t c κs =
+    let start = c .before .before .before .before .before in
+    start .pre .1
 
 add-layers-same-length : (t : ℕ) → add-layers-lts.Need-same-length (
   inner-start-reads.Asked,
@@ -73,8 +75,10 @@ add-layers-returns : (t : ℕ) → add-layers-lts.Need-returns (
   add-layers.Post,
 ) (add-layers-at t) add-layers.Post
 add-layers-returns t c =
+    let the-inner-start = c .before .before .before .before .before .inner-start in
+    let the-if1 = c .before .before .before .before .if1 in
     let the-add-innermost = c .before .before .add-innermost in
-    (rw (← shown-end _ _ (c .before .before .before .before .before .inner-start .ensures .0) (c .before .before .before .before .if1 .taken)) (the-add-innermost .ensures .0), the-add-innermost .ensures .1)
+    (rw (← shown-end _ _ (the-inner-start .ensures .0) (the-if1 .taken)) (the-add-innermost .ensures .0), the-add-innermost .ensures .1)
 
 add-layers-add-layer-requires : (t : ℕ) → add-layers-lts.Need-add-layer-requires (
   inner-start-reads.Asked,
@@ -86,7 +90,9 @@ add-layers-add-layer-requires : (t : ℕ) → add-layers-lts.Need-add-layer-requ
   add-layers-below t,
   add-layers.Post,
 ) (add-layers-at t) add-layers.Post
-add-layers-add-layer-requires t c κs = omega (arith, part-start _ _ (c .before .before .inner-start .ensures .0) (c .before .if1 .left), c .before .before .inner-start .ensures .1, c .before .before .before .before .before .pre .1 .1)
+add-layers-add-layer-requires t c κs =
+    let start = c .before .before .before .before .before in
+    omega (arith, part-start _ _ (c .before .before .inner-start .ensures .0) (c .before .if1 .left), c .before .before .inner-start .ensures .1, start .pre .1 .1)
 
 add-layers-sub-add-layers : (t : ℕ) → add-layers-lts.Need-sub-add-layers (
   inner-start-reads.Asked,
@@ -98,7 +104,9 @@ add-layers-sub-add-layers : (t : ℕ) → add-layers-lts.Need-sub-add-layers (
   add-layers-below t,
   add-layers.Post,
 ) (add-layers-at t) add-layers.Post
-add-layers-sub-add-layers t c = omega (arith, c .before .before .before .before .before .before .inner-start .ensures .1)
+add-layers-sub-add-layers t c =
+    let the-inner-start = c .before .before .before .before .before .before .inner-start in
+    omega (arith, the-inner-start .ensures .1)
 
 add-layers-part-add-layers-start : (t : ℕ) → add-layers-lts.Need-part-add-layers-start (
   inner-start-reads.Asked,
@@ -110,7 +118,9 @@ add-layers-part-add-layers-start : (t : ℕ) → add-layers-lts.Need-part-add-la
   add-layers-below t,
   add-layers.Post,
 ) (add-layers-at t) add-layers.Post
-add-layers-part-add-layers-start t c = omega (arith, c .before .before .before .before .before .before .inner-start .ensures .1)
+add-layers-part-add-layers-start t c =
+    let the-inner-start = c .before .before .before .before .before .before .inner-start in
+    omega (arith, the-inner-start .ensures .1)
 
 add-layers-part-add-layers-end : (t : ℕ) → add-layers-lts.Need-part-add-layers-end (
   inner-start-reads.Asked,

@@ -22,9 +22,10 @@ same-length c = search needs
 
 returns-2 : tie.Need-returns-2
 returns-2 c =
+    let the-if1 = c .before .before .before .before .before .before .before .before .before .if1 in
     let the-add = c .before .before .before .before .before .before .add in
     let the-add-hex = c .before .before .add-hex in
-    (rw (eight-some _ (c .before .before .before .before .before .before .before .before .before .if1 .left)) (adds-then (the-add .ensures) (the-add-hex .ensures .0)), omega (arith, the-add .ensures .count, the-add-hex .ensures .1))
+    (rw (eight-some _ (the-if1 .left)) (adds-then (the-add .ensures) (the-add-hex .ensures .0)), omega (arith, the-add .ensures .count, the-add-hex .ensures .1))
 
 pub add-eight-spec : {M : Type 1} → statement M
 add-eight-spec =

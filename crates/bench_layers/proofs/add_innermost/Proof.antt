@@ -22,9 +22,10 @@ slice-aggregate-add c = search needs
 
 add-requires : tie.Need-add-requires
 add-requires c κs =
+    let the-root-of = c .before .before .before .before .before .root-of in
     let start = c .before .before .before .before .before .before .before .before .before in
     let sizes = name-sizes (start .args .name .now) (start .pre .0) in
-    let root = root-sized (start .args .name .now) _ (c .before .before .before .before .before .root-of .ensures) in
+    let root = root-sized (start .args .name .now) _ (the-root-of .ensures) in
     let the-add-hex = c .before .before .before .before .add-hex in
     omega (arith, sizes, root, start .pre .1, the-add-hex .ensures .1, the-add-hex .kept .0)
 
@@ -36,16 +37,18 @@ add-opaque c = search needs
 
 sub-add-hex : tie.Need-sub-add-hex
 sub-add-hex c =
+    let the-root-of = c .before .before .before .before .before .before .before .before .before .before .root-of in
     let start = c .before .before .before .before .before .before .before .before .before .before .before .before .before .before in
     let sizes = name-sizes (start .args .name .now) (start .pre .0) in
-    let root = root-sized (start .args .name .now) _ (c .before .before .before .before .before .before .before .before .before .before .root-of .ensures) in
+    let root = root-sized (start .args .name .now) _ (the-root-of .ensures) in
     omega (arith, sizes, c .before .root-length .ensures .0)
 
 part-add-hex-start : tie.Need-part-add-hex-start
 part-add-hex-start c =
+    let the-root-of = c .before .before .before .before .before .before .before .before .before .before .root-of in
     let start = c .before .before .before .before .before .before .before .before .before .before .before .before .before .before in
     let sizes = name-sizes (start .args .name .now) (start .pre .0) in
-    let root = root-sized (start .args .name .now) _ (c .before .before .before .before .before .before .before .before .before .before .root-of .ensures) in
+    let root = root-sized (start .args .name .now) _ (the-root-of .ensures) in
     omega (arith, sizes, c .before .root-length .ensures .0)
 
 part-add-hex-end : tie.Need-part-add-hex-end
@@ -53,9 +56,10 @@ part-add-hex-end c = search needs
 
 add-hex-requires-2 : tie.Need-add-hex-requires-2
 add-hex-requires-2 c κs =
+    let the-root-of = c .before .before .before .before .before .before .before .before .before .before .before .root-of in
     let start = c .before .before .before .before .before .before .before .before .before .before .before .before .before .before .before in
     let sizes = name-sizes (start .args .name .now) (start .pre .0) in
-    let root = root-sized (start .args .name .now) _ (c .before .before .before .before .before .before .before .before .before .before .before .root-of .ensures) in
+    let root = root-sized (start .args .name .now) _ (the-root-of .ensures) in
     let the-add-hex = c .before .before .before .before .before .before .before .before .before .before .add-hex in
     let the-add = c .before .before .before .before .before .add in
     let the-root-length = c .before .before .root-length in
@@ -69,8 +73,8 @@ unfolding innermostText
 returns c =
     let start = c .before .before .before .before .before .before .before .before .before .before .before .before .before .before .before .before .before .before in
     let sizes = name-sizes (start .args .name .now) (start .pre .0) in
-    let root = root-sized (start .args .name .now) _ (c .before .before .before .before .before .before .before .before .before .before .before .before .before .before .root-of .ensures) in
     let the-root-of = c .before .before .before .before .before .before .before .before .before .before .before .before .before .before .root-of in
+    let root = root-sized (start .args .name .now) _ (the-root-of .ensures) in
     let the-add-hex = c .before .before .before .before .before .before .before .before .before .before .before .before .before .add-hex in
     let the-add = c .before .before .before .before .before .before .before .before .add in
     let the-root-length = c .before .before .before .before .before .root-length in

@@ -21,8 +21,9 @@ eight-of-requires c κs = search needs
 
 add-eight-requires : tie.Need-add-eight-requires
 add-eight-requires c κs =
+    let the-root-of = c .before .before .before .before .before .root-of in
     let start = c .before .before .before .before .before .before .before .before .before in
-    let root = root-sized (start .args .name .now) _ (c .before .before .before .before .before .root-of .ensures) in
+    let root = root-sized (start .args .name .now) _ (the-root-of .ensures) in
     let eight = eight-sized (start .args .name .now) _ (c .eight-of .ensures) in
     let the-add-hex = c .before .before .before .before .add-hex in
     omega (arith, root, eight, start .pre, the-add-hex .ensures .1, the-add-hex .kept .0)
@@ -32,9 +33,11 @@ slice-aggregate-add c = search needs
 
 add-requires : tie.Need-add-requires
 add-requires c κs =
+    let the-root-of = c .before .before .before .before .before .before .before .before .before .before .root-of in
+    let the-eight-of = c .before .before .before .before .before .eight-of in
     let start = c .before .before .before .before .before .before .before .before .before .before .before .before .before .before in
-    let root = root-sized (start .args .name .now) _ (c .before .before .before .before .before .before .before .before .before .before .root-of .ensures) in
-    let eight = eight-sized (start .args .name .now) _ (c .before .before .before .before .before .eight-of .ensures) in
+    let root = root-sized (start .args .name .now) _ (the-root-of .ensures) in
+    let eight = eight-sized (start .args .name .now) _ (the-eight-of .ensures) in
     let the-add-hex = c .before .before .before .before .before .before .before .before .before .add-hex in
     let the-add-eight = c .before .before .before .before .add-eight in
     omega (arith, root, eight, start .pre, the-add-hex .ensures .1, the-add-hex .kept .0, the-add-eight .ensures .1, the-add-eight .kept .0)
@@ -45,13 +48,15 @@ same-length c = search needs
 returns : tie.Need-returns
 unfolding layerText layerOf
 returns c =
+    let the-root-of = c .before .before .before .before .before .before .before .before .before .before .before .before .before .root-of in
+    let the-eight-of = c .before .before .before .before .before .before .before .before .eight-of in
     let start = c .before .before .before .before .before .before .before .before .before .before .before .before .before .before .before .before .before in
-    let root = root-sized (start .args .name .now) _ (c .before .before .before .before .before .before .before .before .before .before .before .before .before .root-of .ensures) in
-    let eight = eight-sized (start .args .name .now) _ (c .before .before .before .before .before .before .before .before .eight-of .ensures) in
+    let root = root-sized (start .args .name .now) _ (the-root-of .ensures) in
+    let eight = eight-sized (start .args .name .now) _ (the-eight-of .ensures) in
     let the-add-hex = c .before .before .before .before .before .before .before .before .before .before .before .before .add-hex in
     let the-add-eight = c .before .before .before .before .before .before .before .add-eight in
     let the-add = c .before .before .add in (
-      rw (← c .before .before .before .before .before .before .before .before .before .before .before .before .before .root-of .ensures, ← c .before .before .before .before .before .before .before .before .eight-of .ensures) (adds-then (the-add-hex .ensures .0) (adds-then (the-add-eight .ensures .0) (the-add .ensures))),
+      rw (← the-root-of .ensures, ← the-eight-of .ensures) (adds-then (the-add-hex .ensures .0) (adds-then (the-add-eight .ensures .0) (the-add .ensures))),
       omega (arith, root, eight, the-add-hex .ensures .1, the-add-eight .ensures .1, the-add .ensures .count),
     )
 

@@ -26,8 +26,10 @@ same-length c = search needs
 returns : tie.Need-returns
 unfolding ascii
 returns c =
+    let the-element-refusal = c .before .before .before .before .before .before .element-refusal in
+    let the-if1 = c .before .before .before .before .before .if1 in
     let the-put-count = c .before .before .put-count in
-    (the-put-count .ensures .0 ∙ line-refused _ _ (c .before .before .before .before .before .before .element-refusal .ensures) (c .before .before .before .before .before .if1 .taken), omega (arith, the-put-count .ensures .1))
+    (the-put-count .ensures .0 ∙ line-refused _ _ (the-element-refusal .ensures) (the-if1 .taken), omega (arith, the-put-count .ensures .1))
 
 slice-aggregate-add : tie.Need-slice-aggregate-add
 slice-aggregate-add c = search needs
@@ -37,8 +39,10 @@ add-requires c κs = search needs
 
 add-layers-requires : tie.Need-add-layers-requires
 add-layers-requires c κs =
+    let the-element-refusal = c .before .before .before .before .before .before .before .element-refusal in
+    let the-if1 = c .before .before .before .before .before .before .if1 in
     let start = c .before .before .before .before .before .before .before .before .before .before in
-    let ok = sym (c .before .before .before .before .before .before .before .element-refusal .ensures) ∙ c .before .before .before .before .before .before .if1 .left in
+    let ok = sym (the-element-refusal .ensures) ∙ the-if1 .left in
     let fits = name-fits (start .args .name .now) ok in
     let the-add = c .before .before .before .add in
     (ok, omega (arith, fits, the-add .ensures .count, the-add .kept .0, start .pre))
@@ -48,8 +52,10 @@ slice-aggregate-add-2 c = search needs
 
 add-requires-2 : tie.Need-add-requires-2
 add-requires-2 c κs =
+    let the-element-refusal = c .before .before .before .before .before .before .before .before .before .before .before .before .element-refusal in
+    let the-if1 = c .before .before .before .before .before .before .before .before .before .before .before .if1 in
     let start = c .before .before .before .before .before .before .before .before .before .before .before .before .before .before .before in
-    let ok = sym (c .before .before .before .before .before .before .before .before .before .before .before .before .element-refusal .ensures) ∙ c .before .before .before .before .before .before .before .before .before .before .before .if1 .left in
+    let ok = sym (the-element-refusal .ensures) ∙ the-if1 .left in
     let fits = name-fits (start .args .name .now) ok in
     let the-add = c .before .before .before .before .before .before .before .before .add in
     let the-add-layers = c .before .before .before .before .add-layers in
@@ -61,13 +67,15 @@ same-length-2 c = search needs
 returns-2 : tie.Need-returns-2
 unfolding ascii
 returns-2 c =
+    let the-element-refusal = c .before .before .before .before .before .before .before .before .before .before .before .before .before .before .before .element-refusal in
+    let the-if1 = c .before .before .before .before .before .before .before .before .before .before .before .before .before .before .if1 in
     let start = c .before .before .before .before .before .before .before .before .before .before .before .before .before .before .before .before .before .before in
-    let ok = sym (c .before .before .before .before .before .before .before .before .before .before .before .before .before .before .before .element-refusal .ensures) ∙ c .before .before .before .before .before .before .before .before .before .before .before .before .before .before .if1 .left in
+    let ok = sym (the-element-refusal .ensures) ∙ the-if1 .left in
     let fits = name-fits (start .args .name .now) ok in
     let the-add = c .before .before .before .before .before .before .before .before .before .before .before .add in
     let the-add-layers = c .before .before .before .before .before .before .before .add-layers in
     let the-add2 = c .before .before .add2 in (
-      adds-then (the-add .ensures) (adds-then (the-add-layers .ensures .0) (the-add2 .ensures)) .text ∙ line-shown (start .args .name .now) _ (c .before .before .before .before .before .before .before .before .before .before .before .before .before .before .before .element-refusal .ensures) (c .before .before .before .before .before .before .before .before .before .before .before .before .before .before .if1 .left),
+      adds-then (the-add .ensures) (adds-then (the-add-layers .ensures .0) (the-add2 .ensures)) .text ∙ line-shown (start .args .name .now) _ (the-element-refusal .ensures) (the-if1 .left),
       omega (arith, fits, the-add .ensures .count, the-add-layers .ensures .1, the-add2 .ensures .count),
     )
 

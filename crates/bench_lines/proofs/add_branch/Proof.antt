@@ -17,7 +17,10 @@ same-length : tie.Need-same-length
 same-length c = search needs
 
 returns-2 : tie.Need-returns-2
-returns-2 c = (rw (branch-one _ _ _ _ (c .before .before .before .before .before .before .before .before .if1 .left)) (adds-then (c .before .before .before .before .before .before .add-named .ensures .0) (c .before .before .add-named2 .ensures .0)), omega arith)
+returns-2 c =
+    let the-if1 = c .before .before .before .before .before .before .before .before .if1 in
+    let the-add-named = c .before .before .before .before .before .before .add-named in
+    (rw (branch-one _ _ _ _ (the-if1 .left)) (adds-then (the-add-named .ensures .0) (c .before .before .add-named2 .ensures .0)), omega arith)
 
 pub add-branch-spec : {M : Type 1} → statement M
 add-branch-spec =

@@ -17,7 +17,9 @@ abbrev μ-loop : tie.MeasureT-loop
 μ-loop text₀ from before between branches at₀ i₀ text at i = length branches - i
 
 loop-holds : tie.Need-loop-holds Inv-loop μ-loop
-loop-holds c = (omega arith, refl, omega arith, unfold branchesFrom branchesAs in (adds-none (c .before .before .before .before .args .text .now) (c .before .before .before .before .args .from)))
+loop-holds c =
+    let start = c .before .before .before .before in
+    (omega arith, refl, omega arith, unfold branchesFrom branchesAs in (adds-none (start .args .text .now) (start .args .from)))
 
 mul-add-branch : tie.Need-mul-add-branch Inv-loop μ-loop
 mul-add-branch c = search needs
@@ -50,7 +52,8 @@ same-length c = c .before .loop .inv .1
 
 returns : tie.Need-returns Inv-loop μ-loop
 returns c =
-    let e = take-all (c .before .loop .i) (c .before .before .before .before .before .before .args .branches .now) (c .loop-test .left) in
+    let start = c .before .before .before .before .before .before in
+    let e = take-all (c .before .loop .i) (start .args .branches .now) (c .loop-test .left) in
     (rw e at (c .before .loop .inv .3), omega arith)
 
 pub add-branches-spec : {M : Type 1} → statement M

@@ -32,7 +32,10 @@ same-length c = search needs
 
 returns : tie.Need-returns
 unfolding feedText leafText branchesText ascii
-returns c = (feed-adds _ (c .before .before .before .before .before .before .before .before .before .before .before .before .before .add-if .ensures .0) (c .before .before .before .before .before .before .before .add-sixteen .ensures .0) (c .before .before .add-if2 .ensures .0), omega (arith, c .before .before .before .before .before .before .before .before .before .before .before .before .before .add-if .ensures .1, c .before .before .before .before .before .before .before .add-sixteen .ensures .1, c .before .before .add-if2 .ensures .1))
+returns c =
+    let the-add-if = c .before .before .before .before .before .before .before .before .before .before .before .before .before .add-if in
+    let the-add-sixteen = c .before .before .before .before .before .before .before .add-sixteen in
+    (feed-adds _ (the-add-if .ensures .0) (the-add-sixteen .ensures .0) (c .before .before .add-if2 .ensures .0), omega (arith, the-add-if .ensures .1, the-add-sixteen .ensures .1, c .before .before .add-if2 .ensures .1))
 
 pub add-feed-spec : {M : Type 1} → statement M
 add-feed-spec =

@@ -11,7 +11,9 @@ same-length : tie.Need-same-length
 same-length c = search needs
 
 returns : tie.Need-returns
-returns c = (rw (c .before .before .before .before .if1 .taken) (c .before .before .add .ensures), omega (arith, c .before .before .add .ensures .count))
+returns c =
+    let the-if1 = c .before .before .before .before .if1 in
+    (rw (the-if1 .taken) (c .before .before .add .ensures), omega (arith, c .before .before .add .ensures .count))
 
 returns-2 : tie.Need-returns-2
 returns-2 c = (rw (c .if1 .left) (adds-none _ _), omega arith)

@@ -14,7 +14,9 @@ same-length : tie.Need-same-length
 same-length c = search needs
 
 returns : tie.Need-returns
-returns c = (adds-then (c .before .before .before .before .before .before .add .ensures) (c .before .before .add-number .ensures .0), omega (arith, c .before .before .before .before .before .before .add .ensures .count))
+returns c =
+    let the-add = c .before .before .before .before .before .before .add in
+    (adds-then (the-add .ensures) (c .before .before .add-number .ensures .0), omega (arith, the-add .ensures .count))
 
 pub add-named-spec : {M : Type 1} → statement M
 add-named-spec = tie.close (tie.spec add-requires add-number-requires same-length returns)

@@ -23,7 +23,9 @@ same-length : tie.Need-same-length
 same-length c = search needs
 
 returns : tie.Need-returns
-returns c = (adds-part (c .before .before .before .before .before .args .text .now) _ (c .before .before .before .before .before .args .at) (omega arith) (c .before .before .put-number .ensures .0), omega arith)
+returns c =
+    let start = c .before .before .before .before .before in
+    (adds-part (start .args .text .now) _ (start .args .at) (omega arith) (c .before .before .put-number .ensures .0), omega arith)
 
 pub add-number-spec : {M : Type 1} → statement M
 add-number-spec =

@@ -25,7 +25,10 @@ same-length c = search needs
 
 returns : tie.Need-returns
 unfolding countLine
-returns c = (adds-then (c .before .before .before .before .before .before .before .before .before .before .before .before .add .ensures) (adds-then (c .before .before .before .before .before .before .before .add-named .ensures .0) (c .before .before .add2 .ensures)) .text, omega (arith, c .before .before .before .before .before .before .before .before .before .before .before .before .add .ensures .count))
+returns c =
+    let the-add = c .before .before .before .before .before .before .before .before .before .before .before .before .add in
+    let the-add-named = c .before .before .before .before .before .before .before .add-named in
+    (adds-then (the-add .ensures) (adds-then (the-add-named .ensures .0) (c .before .before .add2 .ensures)) .text, omega (arith, the-add .ensures .count))
 
 pub put-count-spec : {M : Type 1} → statement M
 put-count-spec =

@@ -33,8 +33,11 @@ same-length c = search needs
 returns : tie.Need-returns
 unfolding eventLine ascii
 returns c =
+    let the-add = c .before .before .before .before .before .before .before .before .before .before .before .before .before .before .before .before .before .add in
+    let the-add-named = c .before .before .before .before .before .before .before .before .before .before .before .before .add-named in
+    let the-add-records = c .before .before .before .before .before .before .before .add-records in
     let start = c .before .before .before .before .before .before .before .before .before .before .before .before .before .before .before .before .before .before .before .before .before .before in
-    (adds-then (c .before .before .before .before .before .before .before .before .before .before .before .before .before .before .before .before .before .add .ensures) (adds-then (c .before .before .before .before .before .before .before .before .before .before .before .before .add-named .ensures .0) (adds-then (c .before .before .before .before .before .before .before .add-records .ensures .0) (c .before .before .add2 .ensures))) .text, omega (arith, c .before .before .before .before .before .before .before .before .before .before .before .before .before .before .before .before .before .add .ensures .count, c .before .before .before .before .before .before .before .add-records .ensures .1, start .pre))
+    (adds-then (the-add .ensures) (adds-then (the-add-named .ensures .0) (adds-then (the-add-records .ensures .0) (c .before .before .add2 .ensures))) .text, omega (arith, the-add .ensures .count, the-add-records .ensures .1, start .pre))
 
 pub put-event-spec : {M : Type 1} → statement M
 put-event-spec =

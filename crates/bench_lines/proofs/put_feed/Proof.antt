@@ -23,8 +23,10 @@ same-length c = search needs
 returns : tie.Need-returns
 unfolding feedLine
 returns c =
+    let the-add = c .before .before .before .before .before .before .before .before .before .before .before .add in
+    let the-add-feed = c .before .before .before .before .before .before .before .add-feed in
     let start = c .before .before .before .before .before .before .before .before .before .before .before .before .before .before .before in
-    (adds-then (c .before .before .before .before .before .before .before .before .before .before .before .add .ensures) (adds-then (c .before .before .before .before .before .before .before .add-feed .ensures .0) (c .before .before .add2 .ensures)) .text, omega (arith, c .before .before .before .before .before .before .before .before .before .before .before .add .ensures .count, c .before .before .before .before .before .before .before .add-feed .ensures .1, start .pre))
+    (adds-then (the-add .ensures) (adds-then (the-add-feed .ensures .0) (c .before .before .add2 .ensures)) .text, omega (arith, the-add .ensures .count, the-add-feed .ensures .1, start .pre))
 
 pub put-feed-spec : {M : Type 1} → statement M
 put-feed-spec =

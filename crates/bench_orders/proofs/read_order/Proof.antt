@@ -17,7 +17,9 @@ next-word-requires c κs = search needs
 
 returns-2 : tie.Need-returns-2
 unfolding orderOf saidBy meant
-returns-2 c = record { means = rw (le-leb (length (c .before .before .before .before .args .line .now)) lineLimit (omega arith), word-none (c .before .next-word .ensures) (c .if2 .taken)); lies = tt }
+returns-2 c =
+    let start = c .before .before .before .before in
+    record { means = rw (le-leb (length (start .args .line .now)) lineLimit (omega arith), word-none (c .before .next-word .ensures) (c .if2 .taken)); lies = tt }
 
 sub-verb-of : tie.Need-sub-verb-of
 sub-verb-of c = search needs
@@ -37,8 +39,9 @@ with-words-requires c κs = search needs
 returns-3 : tie.Need-returns-3
 unfolding orderOf saidBy meant
 returns-3 c =
+    let the-next-word = c .before .before .before .before .next-word in
     let start = c .before .before .before .before .before .before .before in
-    rw (le-leb (length (start .args .line .now)) lineLimit (omega arith), word-some (c .before .before .before .before .next-word .ensures) (c .before .before .before .if2 .left), ← c .before .verb-of .ensures) (c .with-words .ensures)
+    rw (le-leb (length (start .args .line .now)) lineLimit (omega arith), word-some (the-next-word .ensures) (c .before .before .before .if2 .left), ← c .before .verb-of .ensures) (c .with-words .ensures)
 
 pub read-order-spec : {M : Type 1} → statement M
 read-order-spec =

@@ -79,7 +79,9 @@ returns-5 c =
     }
 
 returns-6 : tie.Need-returns-6
-returns-6 c = tells-bad _ _ (sym (as-hex _ _ _ (c .before .before .is-hex .ensures) (c .before .if1 .taken)) ∙ octets-other (c .before .before .before .before .before .args .verb) _ (c .match .keys6))
+returns-6 c =
+    let start = c .before .before .before .before .before in
+    tells-bad _ _ (sym (as-hex _ _ _ (c .before .before .is-hex .ensures) (c .before .if1 .taken)) ∙ octets-other (start .args .verb) _ (c .match .keys6))
 
 returns-7 : tie.Need-returns-7
 returns-7 c = tells-bad _ _ (no-as-hex _ _ _ (c .before .is-hex .ensures) (c .if1 .left))

@@ -41,24 +41,33 @@ enum-told-5 c = search needs
 
 returns-2 : tie.Need-returns-2
 unfolding numbered meant
-returns-2 c = record { means = rw (c .enum-told2 .given .1) (as-number _ _ _ _ (c .before .before .before .before .before .read-number .ensures) (c .before .before .before .n .given .1)); lies = tt }
+returns-2 c =
+    let the-read-number = c .before .before .before .before .before .read-number in
+    record { means = rw (c .enum-told2 .given .1) (as-number _ _ _ _ (the-read-number .ensures) (c .before .before .before .n .given .1)); lies = tt }
 
 returns-3 : tie.Need-returns-3
 unfolding numbered meant
-returns-3 c = record { means = rw (c .enum-told3 .given .1) (as-number _ _ _ _ (c .before .before .before .before .before .read-number .ensures) (c .before .before .before .n .given .1)); lies = tt }
+returns-3 c =
+    let the-read-number = c .before .before .before .before .before .read-number in
+    record { means = rw (c .enum-told3 .given .1) (as-number _ _ _ _ (the-read-number .ensures) (c .before .before .before .n .given .1)); lies = tt }
 
 returns-4 : tie.Need-returns-4
 unfolding numbered meant
-returns-4 c = record { means = rw (c .enum-told4 .given .1) (as-number _ _ _ _ (c .before .before .before .before .before .read-number .ensures) (c .before .before .before .n .given .1)); lies = tt }
+returns-4 c =
+    let the-read-number = c .before .before .before .before .before .read-number in
+    record { means = rw (c .enum-told4 .given .1) (as-number _ _ _ _ (the-read-number .ensures) (c .before .before .before .n .given .1)); lies = tt }
 
 returns-5 : tie.Need-returns-5
 unfolding numbered meant
-returns-5 c = record { means = rw (c .enum-told5 .given .1) (as-number _ _ _ _ (c .before .before .before .before .before .read-number .ensures) (c .before .before .before .n .given .1)); lies = tt }
+returns-5 c =
+    let the-read-number = c .before .before .before .before .before .read-number in
+    record { means = rw (c .enum-told5 .given .1) (as-number _ _ _ _ (the-read-number .ensures) (c .before .before .before .n .given .1)); lies = tt }
 
 returns-6 : tie.Need-returns-6
 returns-6 c =
+    let the-read-number = c .before .before .before .before .read-number in
     let start = c .before .before .before .before .before .before .before in
-    tells-bad _ _ (sym (as-number _ _ _ _ (c .before .before .before .before .read-number .ensures) (c .before .before .n .given .1)) ∙ numbered-other (start .args .verb) _ (c .match2 .keys5))
+    tells-bad _ _ (sym (as-number _ _ _ _ (the-read-number .ensures) (c .before .before .n .given .1)) ∙ numbered-other (start .args .verb) _ (c .match2 .keys5))
 
 pub with-number-spec : {M : Type 1} → statement M
 with-number-spec =

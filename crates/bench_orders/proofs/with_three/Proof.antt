@@ -38,10 +38,11 @@ enum-told-3 c = search needs
 returns-2 : tie.Need-returns-2
 unfolding does meant
 returns-2 c =
+    let the-neighbour = c .before .before .before .before .neighbour in
     let at-number-at = c .before .before .before .before .before .before in
     let at-enum-told = at-number-at .before in
     record {
-      means = rw (at-enum-told .enum-told .given .1) (no-first-number _ _ _ _ (c .before .before .number-at2 .ensures) (c .enum-told3 .given .1) ∙ first-of-numbers Said.notice _ _ _ _ (at-number-at .number-at .ensures) (c .before .before .before .before .neighbour .given .1));
+      means = rw (at-enum-told .enum-told .given .1) (no-first-number _ _ _ _ (c .before .before .number-at2 .ensures) (c .enum-told3 .given .1) ∙ first-of-numbers Said.notice _ _ _ _ (at-number-at .number-at .ensures) (the-neighbour .given .1));
       lies = tt;
     }
 
@@ -60,25 +61,27 @@ is-hex-requires c κs = search needs
 returns-3 : tie.Need-returns-3
 unfolding does meant
 returns-3 c =
+    let the-number = c .before .before .before .before .number in
     let at-number-at2 = c .before .before .before .before .before .before in
     let at-neighbour = at-number-at2 .before .before in
     let at-number-at = at-neighbour .before .before in
     let at-enum-told = at-number-at .before in
     let start = at-enum-told .before .before .before in
     record {
-      means = rw (at-enum-told .enum-told .given .1) (one-hex _ _ _ (c .before .is-hex .ensures) (c .if1 .taken) ∙ first-number _ _ _ _ _ (at-number-at2 .number-at2 .ensures) (c .before .before .before .before .number .given .1) ∙ first-of-numbers Said.notice _ _ _ _ (at-number-at .number-at .ensures) (at-neighbour .neighbour .given .1));
+      means = rw (at-enum-told .enum-told .given .1) (one-hex _ _ _ (c .before .is-hex .ensures) (c .if1 .taken) ∙ first-number _ _ _ _ _ (at-number-at2 .number-at2 .ensures) (the-number .given .1) ∙ first-of-numbers Said.notice _ _ _ _ (at-number-at .number-at .ensures) (at-neighbour .neighbour .given .1));
       lies = lies _ _ _ _ (start .pre .1 .0) (start .pre .1 .1) (c .before .is-hex .ensures) (c .if1 .taken);
     }
 
 returns-4 : tie.Need-returns-4
 unfolding does meant
 returns-4 c =
+    let the-number = c .before .before .before .before .number in
     let at-number-at2 = c .before .before .before .before .before .before in
     let at-neighbour = at-number-at2 .before .before in
     let at-number-at = at-neighbour .before .before in
     let at-enum-told = at-number-at .before in
     record {
-      means = rw (at-enum-told .enum-told .given .1) (no-hex _ _ _ (c .before .is-hex .ensures) (c .if1 .left) ∙ first-number _ _ _ _ _ (at-number-at2 .number-at2 .ensures) (c .before .before .before .before .number .given .1) ∙ first-of-numbers Said.notice _ _ _ _ (at-number-at .number-at .ensures) (at-neighbour .neighbour .given .1));
+      means = rw (at-enum-told .enum-told .given .1) (no-hex _ _ _ (c .before .is-hex .ensures) (c .if1 .left) ∙ first-number _ _ _ _ _ (at-number-at2 .number-at2 .ensures) (the-number .given .1) ∙ first-of-numbers Said.notice _ _ _ _ (at-number-at .number-at .ensures) (at-neighbour .neighbour .given .1));
       lies = tt;
     }
 

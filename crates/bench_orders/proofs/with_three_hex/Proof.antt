@@ -1,4 +1,3 @@
-use mathlib.Core.Path.{sym, _∙_}
 use borrow.Author.Tests.{not-true, not-false}
 use Rattle.bench_orders.specs.Tells.{meant}
 use Rattle.bench_orders.proofs.Verbs.{tells-bad, three-hex, not-first-hex, not-second-hex, not-third-hex, lies}

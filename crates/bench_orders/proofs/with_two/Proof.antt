@@ -63,21 +63,24 @@ enum-told-4 c = search needs
 returns-2 : tie.Need-returns-2
 unfolding does meant
 returns-2 c =
+    let the-is-hex = c .before .before .before .before .before .is-hex in
+    let the-if1 = c .before .before .before .before .if1 in
     let at-enum-told3 = c .before .before .before .before .before .before .before in
     record {
-      means = rw (at-enum-told3 .enum-told3 .given .1) (no-number _ _ _ (c .before .before .read-number .ensures) (c .enum-told4 .given .1) ∙ first-hex Said.route _ _ _ (c .before .before .before .before .before .is-hex .ensures) (c .before .before .before .before .if1 .taken));
+      means = rw (at-enum-told3 .enum-told3 .given .1) (no-number _ _ _ (c .before .before .read-number .ensures) (c .enum-told4 .given .1) ∙ first-hex Said.route _ _ _ (the-is-hex .ensures) (the-if1 .taken));
       lies = tt;
     }
 
 returns-3 : tie.Need-returns-3
 unfolding does meant
 returns-3 c =
+    let the-if1 = c .before .before .before .before .before .if1 in
     let at-is-hex = c .before .before .before .before .before .before in
     let at-enum-told3 = at-is-hex .before .before in
     let start = at-enum-told3 .before .before .before in
     record {
-      means = rw (at-enum-told3 .enum-told3 .given .1) (one-number _ _ _ _ (c .before .before .before .read-number .ensures) (c .before .route .given .1) ∙ first-hex Said.route _ _ _ (at-is-hex .is-hex .ensures) (c .before .before .before .before .before .if1 .taken));
-      lies = lies _ _ _ _ (start .pre .0) (start .pre .1) (at-is-hex .is-hex .ensures) (c .before .before .before .before .before .if1 .taken);
+      means = rw (at-enum-told3 .enum-told3 .given .1) (one-number _ _ _ _ (c .before .before .before .read-number .ensures) (c .before .route .given .1) ∙ first-hex Said.route _ _ _ (at-is-hex .is-hex .ensures) (the-if1 .taken));
+      lies = lies _ _ _ _ (start .pre .0) (start .pre .1) (at-is-hex .is-hex .ensures) (the-if1 .taken);
     }
 
 enum-told-5 : tie.Need-enum-told-5

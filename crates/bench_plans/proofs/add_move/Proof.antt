@@ -1,5 +1,4 @@
 use native.Mathlib.Omega.{arith}
-use mathlib.Core.Path.{sym}
 use Rattle.bench_lines.proofs.Text.{adds-then}
 use Rattle.plan_check.proofs.Checking.{entry-root, entry-via}
 use Rattle.bench_plans.proofs.Telling.{move-told}

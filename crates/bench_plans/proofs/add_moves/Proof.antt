@@ -36,16 +36,19 @@ loop-less c = search needs
 
 loop-again : tie.Need-loop-again Inv-loop μ-loop
 loop-again c =
+    let start = c .before .before .before .before .before .before .before .before in
+    let the-loop-test = c .before .before .before .before .loop-test in
     let l = c .before .before .before .before .before in
-    let o = c .before .before .before .before .before .before .before .before .args .list .now in
-    (omega arith, omega arith, omega arith, rw (sym (moves-more (listIn o) (l .loop .i) _ (entry-there o (l .loop .i) (c .before .before .before .before .loop-test .taken)))) (adds-then (l .loop .inv .3) (c .before .before .add-move .ensures .0)))
+    let o = start .args .list .now in
+    (omega arith, omega arith, omega arith, rw (sym (moves-more (listIn o) (l .loop .i) _ (entry-there o (l .loop .i) (the-loop-test .taken)))) (adds-then (l .loop .inv .3) (c .before .before .add-move .ensures .0)))
 
 same-length : tie.Need-same-length Inv-loop μ-loop
 same-length c = c .before .loop .inv .1
 
 returns : tie.Need-returns Inv-loop μ-loop
 returns c =
-    let e = take-all (c .before .loop .i) (listIn (c .before .before .before .before .args .list .now)) (entries-end _ _ (c .loop-test .left)) in
+    let start = c .before .before .before .before in
+    let e = take-all (c .before .loop .i) (listIn (start .args .list .now)) (entries-end _ _ (c .loop-test .left)) in
     (rw e at (c .before .loop .inv .3), omega arith)
 
 pub add-moves-spec : {M : Type 1} → statement M

@@ -11,13 +11,19 @@ enum-known-order : tie.Need-enum-known-order
 enum-known-order c = search needs
 
 sub-on-plan : tie.Need-sub-on-plan
-sub-on-plan c = lies _ _ _ (c .before .before .before .before .before .pre .0) (c .before .order .given .1) .0
+sub-on-plan c =
+    let start = c .before .before .before .before .before in
+    lies _ _ _ (start .pre .0) (c .before .order .given .1) .0
 
 part-on-plan-start : tie.Need-part-on-plan-start
-part-on-plan-start c = lies _ _ _ (c .before .before .before .before .before .pre .0) (c .before .order .given .1) .0
+part-on-plan-start c =
+    let start = c .before .before .before .before .before in
+    lies _ _ _ (start .pre .0) (c .before .order .given .1) .0
 
 part-on-plan-end : tie.Need-part-on-plan-end
-part-on-plan-end c = lies _ _ _ (c .before .before .before .before .before .pre .0) (c .before .order .given .1) .1
+part-on-plan-end c =
+    let start = c .before .before .before .before .before in
+    lies _ _ _ (start .pre .0) (c .before .order .given .1) .1
 
 on-plan-requires : tie.Need-on-plan-requires
 on-plan-requires c κs =
@@ -28,27 +34,40 @@ enum-known-order-2 : tie.Need-enum-known-order-2
 enum-known-order-2 c = search needs
 
 sub-on-vet : tie.Need-sub-on-vet
-sub-on-vet c = lies _ _ _ (c .before .before .before .before .before .pre .0) (c .before .order2 .given .1) .0 .0
+sub-on-vet c =
+    let start = c .before .before .before .before .before in
+    lies _ _ _ (start .pre .0) (c .before .order2 .given .1) .0 .0
 
 part-on-vet-start : tie.Need-part-on-vet-start
-part-on-vet-start c = lies _ _ _ (c .before .before .before .before .before .pre .0) (c .before .order2 .given .1) .0 .0
+part-on-vet-start c =
+    let start = c .before .before .before .before .before in
+    lies _ _ _ (start .pre .0) (c .before .order2 .given .1) .0 .0
 
 part-on-vet-end : tie.Need-part-on-vet-end
-part-on-vet-end c = lies _ _ _ (c .before .before .before .before .before .pre .0) (c .before .order2 .given .1) .0 .1
+part-on-vet-end c =
+    let start = c .before .before .before .before .before in
+    lies _ _ _ (start .pre .0) (c .before .order2 .given .1) .0 .1
 
 sub-on-vet-2 : tie.Need-sub-on-vet-2
-sub-on-vet-2 c = lies _ _ _ (c .before .before .before .before .before .before .pre .0) (c .before .before .order2 .given .1) .1 .0
+sub-on-vet-2 c =
+    let start = c .before .before .before .before .before .before in
+    lies _ _ _ (start .pre .0) (c .before .before .order2 .given .1) .1 .0
 
 part-on-vet-start-2 : tie.Need-part-on-vet-start-2
-part-on-vet-start-2 c = lies _ _ _ (c .before .before .before .before .before .before .pre .0) (c .before .before .order2 .given .1) .1 .0
+part-on-vet-start-2 c =
+    let start = c .before .before .before .before .before .before in
+    lies _ _ _ (start .pre .0) (c .before .before .order2 .given .1) .1 .0
 
 part-on-vet-end-2 : tie.Need-part-on-vet-end-2
-part-on-vet-end-2 c = lies _ _ _ (c .before .before .before .before .before .before .pre .0) (c .before .before .order2 .given .1) .1 .1
+part-on-vet-end-2 c =
+    let start = c .before .before .before .before .before .before in
+    lies _ _ _ (start .pre .0) (c .before .before .order2 .given .1) .1 .1
 
 on-vet-requires : tie.Need-on-vet-requires
 on-vet-requires c κs =
+    let the-order2 = c .before .before .before .before .order2 in
     let start = c .before .before .before .before .before .before .before .before in
-    let words = lies _ _ _ (start .pre .0) (c .before .before .before .before .order2 .given .1) in
+    let words = lies _ _ _ (start .pre .0) (the-order2 .given .1) in
     (short _ _ _ (words .0), short _ _ _ (words .1), start .pre .2)
 
 same-length : tie.Need-same-length
@@ -56,14 +75,18 @@ same-length c = search needs
 
 returns : tie.Need-returns
 unfolding meant
-returns c = λ number room. rw (c .before .before .before .before .before .before .order .given .1) (c .before .before .on-plan .ensures number room)
+returns c =
+    let the-order = c .before .before .before .before .before .before .order in
+    λ number room. rw (the-order .given .1) (c .before .before .on-plan .ensures number room)
 
 same-length-2 : tie.Need-same-length-2
 same-length-2 c = search needs
 
 returns-2 : tie.Need-returns-2
 unfolding meant
-returns-2 c = λ number room. rw (c .before .before .before .before .before .before .before .order2 .given .1) (c .before .before .on-vet .ensures number room)
+returns-2 c =
+    let the-order2 = c .before .before .before .before .before .before .before .order2 in
+    λ number room. rw (the-order2 .given .1) (c .before .before .on-vet .ensures number room)
 
 returns-3 : tie.Need-returns-3
 returns-3 c = λ number room. absurd (of-others Kind.plans (c .before .before .before .args .order) (c .match .keys3) (c .before .before .before .pre .1))

@@ -27,8 +27,10 @@ same-length c = search needs
 returns : tie.Need-returns
 unfolding movesLine ascii
 returns c =
-    let y = c .before .before .before .before .before .before .before .add-moves .ensures in
-    let x = c .before .before .before .before .before .before .before .before .before .before .before .add .ensures in
+    let the-add-moves = c .before .before .before .before .before .before .before .add-moves in
+    let the-add = c .before .before .before .before .before .before .before .before .before .before .before .add in
+    let y = the-add-moves .ensures in
+    let x = the-add .ensures in
     let w = c .before .before .add2 .ensures in
     (adds-then x (adds-then (y .0) w) .text, omega (arith, x .count, y .1, w .count))
 

@@ -48,11 +48,15 @@ part-put-moves-start : tie.Need-part-put-moves-start
 part-put-moves-start c = search needs
 
 part-put-moves-end : tie.Need-part-put-moves-end
-part-put-moves-end c = plan-within _ _ _ _ _ (c .before .before .before .before .before .plan .ensures .0 .0) (c .before .before .before .k .given .1) (c .before .before .before .before .before .plan .ensures .0 .1)
+part-put-moves-end c =
+    let the-plan = c .before .before .before .before .before .plan in
+    plan-within _ _ _ _ _ (the-plan .ensures .0 .0) (c .before .before .before .k .given .1) (the-plan .ensures .0 .1)
 
 put-moves-requires : tie.Need-put-moves-requires
 put-moves-requires c κs =
-    let f = plan-few _ _ (c .before .before .before .before .k .given .1) (c .before .before .before .before .before .before .plan .ensures .1 .0) in
+    let the-k = c .before .before .before .before .k in
+    let the-plan = c .before .before .before .before .before .before .plan in
+    let f = plan-few _ _ (the-k .given .1) (the-plan .ensures .1 .0) in
     (omega (arith, f), omega arith)
 
 same-length : tie.Need-same-length
@@ -60,20 +64,29 @@ same-length c = search needs
 
 returns : tie.Need-returns
 unfolding ascii
-returns c = (c .before .before .put-count .ensures .0 ∙ plan-refused _ _ _ (c .before .before .before .before .before .before .before .before .plan .ensures .0 .0) (c .before .before .before .before .before .before .number .given .1), omega (arith, c .before .before .put-count .ensures .1))
+returns c =
+    let the-plan = c .before .before .before .before .before .before .before .before .plan in
+    let the-number = c .before .before .before .before .before .before .number in
+    (c .before .before .put-count .ensures .0 ∙ plan-refused _ _ _ (the-plan .ensures .0 .0) (the-number .given .1), omega (arith, c .before .before .put-count .ensures .1))
 
 same-length-2 : tie.Need-same-length-2
 same-length-2 c = search needs
 
 returns-2 : tie.Need-returns-2
 unfolding ascii
-returns-2 c = (c .before .before .put-said .ensures .0 ∙ plan-none _ _ (c .before .before .before .before .before .before .before .before .plan .ensures .0 .0) (c .before .before .before .before .before .before .enum-told .given .1), c .before .before .put-said .ensures .1)
+returns-2 c =
+    let the-plan = c .before .before .before .before .before .before .before .before .plan in
+    let the-enum-told = c .before .before .before .before .before .before .enum-told in
+    (c .before .before .put-said .ensures .0 ∙ plan-none _ _ (the-plan .ensures .0 .0) (the-enum-told .given .1), c .before .before .put-said .ensures .1)
 
 same-length-3 : tie.Need-same-length-3
 same-length-3 c = search needs
 
 returns-3 : tie.Need-returns-3
-returns-3 c = (c .before .before .put-moves .ensures .0 ∙ plan-listed _ _ _ _ _ (c .before .before .before .before .before .before .before .before .before .plan .ensures .0 .0) (c .before .before .before .before .before .before .before .k .given .1) (c .before .before .before .before .before .before .before .before .before .plan .ensures .1 .1) (c .before .before .before .before .before .before .before .before .before .plan .ensures .0 .1), c .before .before .put-moves .ensures .1)
+returns-3 c =
+    let the-plan = c .before .before .before .before .before .before .before .before .before .plan in
+    let the-k = c .before .before .before .before .before .before .before .k in
+    (c .before .before .put-moves .ensures .0 ∙ plan-listed _ _ _ _ _ (the-plan .ensures .0 .0) (the-k .given .1) (the-plan .ensures .1 .1) (the-plan .ensures .0 .1), c .before .before .put-moves .ensures .1)
 
 pub put-plan-spec : {M : Type 1} → statement M
 put-plan-spec = tie.close (tie.spec plan-requires enum-known-number slice-aggregate-put-count cast-put-count put-count-requires enum-told slice-aggregate-put-said slice-aggregate-put-said-2 put-said-requires enum-known-k mul-e sub-put-moves part-put-moves-start part-put-moves-end put-moves-requires same-length returns same-length-2 returns-2 same-length-3 returns-3)

@@ -29,9 +29,12 @@ same-length c = search needs
 returns : tie.Need-returns
 unfolding saidLine
 returns c =
-    let z = c .before .before .before .before .before .before .before .add3 .ensures in
-    let y = c .before .before .before .before .before .before .before .before .before .before .before .add2 .ensures in
-    let x = c .before .before .before .before .before .before .before .before .before .before .before .before .before .before .before .before .add .ensures in
+    let the-add3 = c .before .before .before .before .before .before .before .add3 in
+    let the-add2 = c .before .before .before .before .before .before .before .before .before .before .before .add2 in
+    let the-add = c .before .before .before .before .before .before .before .before .before .before .before .before .before .before .before .before .add in
+    let z = the-add3 .ensures in
+    let y = the-add2 .ensures in
+    let x = the-add .ensures in
     let w = c .before .before .add4 .ensures in
     (adds-then x (adds-then y (adds-then z w)) .text, omega (arith, x .count, y .count, z .count, w .count))
 

@@ -47,21 +47,30 @@ same-length c = search needs
 
 returns : tie.Need-returns
 unfolding ascii
-returns c = (c .before .before .put-count .ensures .0 ∙ vet-refused _ _ _ (c .before .before .before .before .before .before .before .before .check-list .ensures) (c .before .before .before .before .before .before .number .given .1), omega (arith, c .before .before .put-count .ensures .1))
+returns c =
+    let the-check-list = c .before .before .before .before .before .before .before .before .check-list in
+    let the-number = c .before .before .before .before .before .before .number in
+    (c .before .before .put-count .ensures .0 ∙ vet-refused _ _ _ (the-check-list .ensures) (the-number .given .1), omega (arith, c .before .before .put-count .ensures .1))
 
 same-length-2 : tie.Need-same-length-2
 same-length-2 c = search needs
 
 returns-2 : tie.Need-returns-2
 unfolding ascii
-returns-2 c = (c .before .before .put-said .ensures .0 ∙ vet-rejected _ _ (c .before .before .before .before .before .before .before .before .check-list .ensures) (c .before .before .before .before .before .before .enum-told .given .1), c .before .before .put-said .ensures .1)
+returns-2 c =
+    let the-check-list = c .before .before .before .before .before .before .before .before .check-list in
+    let the-enum-told = c .before .before .before .before .before .before .enum-told in
+    (c .before .before .put-said .ensures .0 ∙ vet-rejected _ _ (the-check-list .ensures) (the-enum-told .given .1), c .before .before .put-said .ensures .1)
 
 same-length-3 : tie.Need-same-length-3
 same-length-3 c = search needs
 
 returns-3 : tie.Need-returns-3
 unfolding ascii
-returns-3 c = (c .before .before .put-count2 .ensures .0 ∙ vet-accepted _ _ (c .before .before .before .before .before .before .before .check-list .ensures) (c .before .before .before .before .before .enum-told2 .given .1), omega (arith, c .before .before .put-count2 .ensures .1))
+returns-3 c =
+    let the-check-list = c .before .before .before .before .before .before .before .check-list in
+    let the-enum-told2 = c .before .before .before .before .before .enum-told2 in
+    (c .before .before .put-count2 .ensures .0 ∙ vet-accepted _ _ (the-check-list .ensures) (the-enum-told2 .given .1), omega (arith, c .before .before .put-count2 .ensures .1))
 
 pub put-verdict-spec : {M : Type 1} → statement M
 put-verdict-spec = tie.close (tie.spec check-list-requires enum-known-number slice-aggregate-put-count cast-put-count put-count-requires enum-told slice-aggregate-put-said slice-aggregate-put-said-2 put-said-requires enum-told-2 slice-aggregate-put-count-2 put-count-requires-2 same-length returns same-length-2 returns-2 same-length-3 returns-3)

@@ -11,7 +11,9 @@ same-length : tie.Need-same-length
 same-length c = search needs
 
 returns : tie.Need-returns
-returns c = λ number d. moves-new _ number _ d _ _ _ (c .before .before .before .before .if1 .taken) (c .before .before .on-older .ensures number d)
+returns c =
+    let the-if1 = c .before .before .before .before .if1 in
+    λ number d. moves-new _ number _ d _ _ _ (the-if1 .taken) (c .before .before .on-older .ensures number d)
 
 on-newer-requires : tie.Need-on-newer-requires
 on-newer-requires c κs = search needs
@@ -20,7 +22,9 @@ same-length-2 : tie.Need-same-length-2
 same-length-2 c = search needs
 
 returns-2 : tie.Need-returns-2
-returns-2 c = λ number d. moves-old _ number _ d _ _ _ (c .before .before .before .before .if1 .left) (c .before .before .on-newer .ensures number d)
+returns-2 c =
+    let the-if1 = c .before .before .before .before .if1 in
+    λ number d. moves-old _ number _ d _ _ _ (the-if1 .left) (c .before .before .on-newer .ensures number d)
 
 pub on-move-spec : {M : Type 1} → statement M
 on-move-spec =

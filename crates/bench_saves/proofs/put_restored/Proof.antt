@@ -17,7 +17,9 @@ same-length c = search needs
 
 returns : tie.Need-returns
 unfolding ascii
-returns c = (restored-new _ _ _ (c .before .before .before .before .before .if1 .taken) (c .before .before .put-count .ensures .0), omega (arith, c .before .before .put-count .ensures .1))
+returns c =
+    let the-if1 = c .before .before .before .before .before .if1 in
+    (restored-new _ _ _ (the-if1 .taken) (c .before .before .put-count .ensures .0), omega (arith, c .before .before .put-count .ensures .1))
 
 slice-aggregate-put-count-2 : tie.Need-slice-aggregate-put-count-2
 slice-aggregate-put-count-2 c = search needs
@@ -30,7 +32,9 @@ same-length-2 c = search needs
 
 returns-2 : tie.Need-returns-2
 unfolding ascii
-returns-2 c = (restored-old _ _ _ (c .before .before .before .before .before .if1 .left) (c .before .before .put-count2 .ensures .0), omega (arith, c .before .before .put-count2 .ensures .1))
+returns-2 c =
+    let the-if1 = c .before .before .before .before .before .if1 in
+    (restored-old _ _ _ (the-if1 .left) (c .before .before .put-count2 .ensures .0), omega (arith, c .before .before .put-count2 .ensures .1))
 
 pub put-restored-spec : {M : Type 1} → statement M
 put-restored-spec =

@@ -17,7 +17,9 @@ same-length c = search needs
 
 returns : tie.Need-returns
 unfolding ascii
-returns c = (saved-new _ _ _ 0 _ [] (c .before .before .before .before .before .if1 .taken) (c .before .before .put-event .ensures .0), c .before .before .put-event .ensures .1)
+returns c =
+    let the-if1 = c .before .before .before .before .before .if1 in
+    (saved-new _ _ _ 0 _ [] (the-if1 .taken) (c .before .before .put-event .ensures .0), c .before .before .put-event .ensures .1)
 
 slice-aggregate-put-event-2 : tie.Need-slice-aggregate-put-event-2
 slice-aggregate-put-event-2 c = search needs
@@ -30,7 +32,9 @@ same-length-2 c = search needs
 
 returns-2 : tie.Need-returns-2
 unfolding ascii
-returns-2 c = (saved-old _ _ _ 0 _ [] (c .before .before .before .before .before .if1 .left) (c .before .before .put-event2 .ensures .0), c .before .before .put-event2 .ensures .1)
+returns-2 c =
+    let the-if1 = c .before .before .before .before .before .if1 in
+    (saved-old _ _ _ 0 _ [] (the-if1 .left) (c .before .before .put-event2 .ensures .0), c .before .before .put-event2 .ensures .1)
 
 pub put-saved-spec : {M : Type 1} → statement M
 put-saved-spec =

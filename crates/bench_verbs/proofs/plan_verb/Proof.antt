@@ -24,11 +24,15 @@ equal-requires-2 c κs = search needs
 
 returns-2 : tie.Need-returns-2
 unfolding planVerb ascii
-returns-2 c = passed _ (c .before .before .before .before .equal .ensures) (c .before .before .before .if1 .left) (found _ _ (c .before .equal2 .ensures) (c .if2 .taken))
+returns-2 c =
+    let the-equal = c .before .before .before .before .equal in
+    passed _ (the-equal .ensures) (c .before .before .before .if1 .left) (found _ _ (c .before .equal2 .ensures) (c .if2 .taken))
 
 returns-3 : tie.Need-returns-3
 unfolding planVerb ascii
-returns-3 c = passed _ (c .before .before .before .before .equal .ensures) (c .before .before .before .if1 .left) (passed _ (c .before .equal2 .ensures) (c .if2 .left) refl)
+returns-3 c =
+    let the-equal = c .before .before .before .before .equal in
+    passed _ (the-equal .ensures) (c .before .before .before .if1 .left) (passed _ (c .before .equal2 .ensures) (c .if2 .left) refl)
 
 pub plan-verb-spec : {M : Type 1} → statement M
 plan-verb-spec = tie.close (tie.spec slice-aggregate-equal equal-requires returns slice-aggregate-equal-2 equal-requires-2 returns-2 returns-3)

@@ -24,14 +24,19 @@ equal-requires-2 c κs = search needs
 
 returns-2 : tie.Need-returns-2
 unfolding requestedVerb ascii
-returns-2 c = passed _ (c .before .before .before .before .equal .ensures) (c .before .before .before .if1 .left) (found _ _ (c .before .equal2 .ensures) (c .if2 .taken))
+returns-2 c =
+    let the-equal = c .before .before .before .before .equal in
+    passed _ (the-equal .ensures) (c .before .before .before .if1 .left) (found _ _ (c .before .equal2 .ensures) (c .if2 .taken))
 
 save-verb-requires : tie.Need-save-verb-requires
 save-verb-requires c κs = search needs
 
 returns-3 : tie.Need-returns-3
 unfolding requestedVerb ascii
-returns-3 c = passed _ (c .before .before .before .before .before .equal .ensures) (c .before .before .before .before .if1 .left) (passed _ (c .before .before .equal2 .ensures) (c .before .if2 .left) (c .save-verb .ensures))
+returns-3 c =
+    let the-equal = c .before .before .before .before .before .equal in
+    let the-if1 = c .before .before .before .before .if1 in
+    passed _ (the-equal .ensures) (the-if1 .left) (passed _ (c .before .before .equal2 .ensures) (c .before .if2 .left) (c .save-verb .ensures))
 
 pub requested-verb-spec : {M : Type 1} → statement M
 requested-verb-spec =

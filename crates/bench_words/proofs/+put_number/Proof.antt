@@ -81,8 +81,9 @@ put-number-slice-write-out-2 : (t : ℕ) → put-number-lts.Need-slice-write-out
   put-number.Post,
 ) (put-number-at t) put-number.Post
 put-number-slice-write-out-2 t c =
-    let few = numeral-short 18 (c .before .before .before .before .before .before .args .n / 10) (omega (arith, c .before .before .before .before .before .before)) in
-    omega (arith, c .before .before .put-number .ensures .0 .count, c .before .before .put-number .kept .0, c .before .before .before .before .before .before)
+    let start = c .before .before .before .before .before .before in
+    let few = numeral-short 18 (start .args .n / 10) (omega (arith, start)) in
+    omega (arith, c .before .before .put-number .ensures .0 .count, c .before .before .put-number .kept .0, start)
 
 put-number-add-result : (t : ℕ) → put-number-lts.Need-add-result (
   put-number-below t,
@@ -101,9 +102,11 @@ put-number-returns-2 : (t : ℕ) → put-number-lts.Need-returns-2 (
   put-number.Post,
 ) (put-number-at t) put-number.Post
 put-number-returns-2 t c =
-    let few = numeral-short 18 (c .before .before .before .before .before .before .args .n / 10) (omega (arith, c .before .before .before .before .before .before)) in
+    let start = c .before .before .before .before .before .before in
+    let the-if1 = c .before .before .before .before .if1 in
+    let few = numeral-short 18 (start .args .n / 10) (omega (arith, start)) in
     let n = c .before .before .put-number .ensures .0 .count in
-    (puts-digits _ _ _ _ (c .before .before .before .before .if1 .left) (c .before .before .put-number .ensures .0) (omega (arith, c .before .before .before .before .before .before)), omega arith)
+    (puts-digits _ _ _ _ (the-if1 .left) (c .before .before .put-number .ensures .0) (omega (arith, start)), omega arith)
 
 pub +put-number-spec : {M : Type 1} → statement M
 +put-number-spec = close μ-put-number λ t. put-number-lts.spec (

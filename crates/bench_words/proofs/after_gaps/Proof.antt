@@ -25,7 +25,9 @@ is-gap-requires : tie.Need-is-gap-requires Inv-loop μ-loop
 is-gap-requires c κs = search needs
 
 returns : tie.Need-returns Inv-loop μ-loop
-returns c = (c .before .before .before .before .loop .inv, sym (c .before .is-gap .ensures) ∙ not-true _ (c .if1 .taken))
+returns c =
+    let the-loop = c .before .before .before .before .loop in
+    (the-loop .inv, sym (c .before .is-gap .ensures) ∙ not-true _ (c .if1 .taken))
 
 add-i : tie.Need-add-i Inv-loop μ-loop
 add-i c = search needs
@@ -34,7 +36,9 @@ loop-less : tie.Need-loop-less Inv-loop μ-loop
 loop-less c = search needs
 
 loop-again : tie.Need-loop-again Inv-loop μ-loop
-loop-again c = (omega arith, omega arith, c .before .before .before .before .loop .inv .2 ∙ gap-more _ _ (c .before .before .before .loop-test .taken) (sym (c .before .is-gap .ensures) ∙ not-false _ (c .if1 .left)))
+loop-again c =
+    let the-loop = c .before .before .before .before .loop in
+    (omega arith, omega arith, the-loop .inv .2 ∙ gap-more _ _ (c .before .before .before .loop-test .taken) (sym (c .before .is-gap .ensures) ∙ not-false _ (c .if1 .left)))
 
 returns-2 : tie.Need-returns-2 Inv-loop μ-loop
 returns-2 c =

@@ -26,7 +26,9 @@ is-hex-digit-requires : tie.Need-is-hex-digit-requires Inv-loop μ-loop
 is-hex-digit-requires c κs = search needs
 
 returns : tie.Need-returns Inv-loop μ-loop
-returns c = sym (c .before .before .before .before .loop .inv .1 ∙ all-stop isHexDigit _ _ (c .before .before .before .loop-test .taken) (sym (c .before .is-hex-digit .ensures) ∙ not-true _ (c .if1 .taken)))
+returns c =
+    let the-loop = c .before .before .before .before .loop in
+    sym (the-loop .inv .1 ∙ all-stop isHexDigit _ _ (c .before .before .before .loop-test .taken) (sym (c .before .is-hex-digit .ensures) ∙ not-true _ (c .if1 .taken)))
 
 add-i : tie.Need-add-i Inv-loop μ-loop
 add-i c = search needs
@@ -35,7 +37,9 @@ loop-less : tie.Need-loop-less Inv-loop μ-loop
 loop-less c = search needs
 
 loop-again : tie.Need-loop-again Inv-loop μ-loop
-loop-again c = (omega arith, c .before .before .before .before .loop .inv .1 ∙ all-more isHexDigit _ _ (c .before .before .before .loop-test .taken) (sym (c .before .is-hex-digit .ensures) ∙ not-false _ (c .if1 .left)))
+loop-again c =
+    let the-loop = c .before .before .before .before .loop in
+    (omega arith, the-loop .inv .1 ∙ all-more isHexDigit _ _ (c .before .before .before .loop-test .taken) (sym (c .before .is-hex-digit .ensures) ∙ not-false _ (c .if1 .left)))
 
 returns-2 : tie.Need-returns-2 Inv-loop μ-loop
 returns-2 c = sym (c .before .loop .inv .1 ∙ all-end isHexDigit _ _ (c .loop-test .left))

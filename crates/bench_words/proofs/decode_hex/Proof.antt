@@ -57,12 +57,13 @@ loop-less c = search needs
 
 loop-again : tie.Need-loop-again Inv-loop μ-loop
 loop-again c =
+    let the-loop = c .before .before .before .before .before .loop in
     let start = c .before .before .before .before .before .before .before .before in
-    let h : c .before .before .before .before .before .loop .i < length (start .args .hex .now) / 2 = omega arith in
-    let k : c .before .before .before .before .before .loop .i < length (octetsOf (start .args .hex .now)) = omega (arith, octets-length (start .args .hex .now)) in
+    let h : the-loop .i < length (start .args .hex .now) / 2 = omega arith in
+    let k : the-loop .i < length (octetsOf (start .args .hex .now)) = omega (arith, octets-length (start .args .hex .now)) in
     let d = c .before .before .digit-of .ensures .0 in
     let e = c .digit-of2 .ensures .0 in
-    (omega arith, simp length-set (c .before .before .before .before .before .loop .inv .1), front-more (octetsOf (start .args .hex .now)) (start .args .out .now) (c .before .before .before .before .before .loop .out) 0 _ (c .before .before .before .before .before .loop .i) k (omega arith) (c .before .before .before .before .before .loop .inv .2) (rw (d, e) (sym (octets-at (start .args .hex .now) (c .before .before .before .before .before .loop .i) h))))
+    (omega arith, simp length-set (the-loop .inv .1), front-more (octetsOf (start .args .hex .now)) (start .args .out .now) (the-loop .out) 0 _ (the-loop .i) k (omega arith) (the-loop .inv .2) (rw (d, e) (sym (octets-at (start .args .hex .now) (the-loop .i) h))))
 
 same-length : tie.Need-same-length Inv-loop μ-loop
 same-length c = c .before .loop .inv .1

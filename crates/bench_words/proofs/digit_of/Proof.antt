@@ -25,15 +25,17 @@ is-upper-requires c κs = search needs
 
 sub-result-2 : tie.Need-sub-result-2
 sub-result-2 c =
-    let b = between 65 (c .before .before .before .before .args .c) 70 (sym (c .before .is-upper .ensures) ∙ c .if2 .taken) in
+    let start = c .before .before .before .before in
+    let b = between 65 (start .args .c) 70 (sym (c .before .is-upper .ensures) ∙ c .if2 .taken) in
     omega arith
 
 returns-2 : tie.Need-returns-2
 unfolding digit
 returns-2 c =
-    let d : isDigit (c .before .before .before .before .args .c) ≡ false = sym (c .before .before .before .is-digit .ensures) ∙ c .before .before .if1 .left in
-    let u : isUpper (c .before .before .before .before .args .c) ≡ true = sym (c .before .is-upper .ensures) ∙ c .if2 .taken in
-    let b = between 65 (c .before .before .before .before .args .c) 70 u in
+    let start = c .before .before .before .before in
+    let d : isDigit (start .args .c) ≡ false = sym (c .before .before .before .is-digit .ensures) ∙ c .before .before .if1 .left in
+    let u : isUpper (start .args .c) ≡ true = sym (c .before .is-upper .ensures) ∙ c .if2 .taken in
+    let b = between 65 (start .args .c) 70 u in
     (rw (d, u) refl, omega arith)
 
 is-lower-requires : tie.Need-is-lower-requires
@@ -41,14 +43,17 @@ is-lower-requires c κs = search needs
 
 sub-result-3 : tie.Need-sub-result-3
 sub-result-3 c =
-    let b = between 97 (c .before .before .before .before .before .before .args .c) 102 (sym (c .before .is-lower .ensures) ∙ c .if3 .taken) in
+    let start = c .before .before .before .before .before .before in
+    let b = between 97 (start .args .c) 102 (sym (c .before .is-lower .ensures) ∙ c .if3 .taken) in
     omega arith
 
 returns-3 : tie.Need-returns-3
 unfolding digit
 returns-3 c =
+    let the-is-digit = c .before .before .before .before .before .is-digit in
+    let the-if1 = c .before .before .before .before .if1 in
     let start = c .before .before .before .before .before .before in
-    let d : isDigit (start .args .c) ≡ false = sym (c .before .before .before .before .before .is-digit .ensures) ∙ c .before .before .before .before .if1 .left in
+    let d : isDigit (start .args .c) ≡ false = sym (the-is-digit .ensures) ∙ the-if1 .left in
     let u : isUpper (start .args .c) ≡ false = sym (c .before .before .before .is-upper .ensures) ∙ c .before .before .if2 .left in
     let l : isLower (start .args .c) ≡ true = sym (c .before .is-lower .ensures) ∙ c .if3 .taken in
     let b = between 97 (start .args .c) 102 l in
@@ -57,8 +62,10 @@ returns-3 c =
 returns-4 : tie.Need-returns-4
 unfolding digit
 returns-4 c =
+    let the-is-digit = c .before .before .before .before .before .is-digit in
+    let the-if1 = c .before .before .before .before .if1 in
     let start = c .before .before .before .before .before .before in
-    let d : isDigit (start .args .c) ≡ false = sym (c .before .before .before .before .before .is-digit .ensures) ∙ c .before .before .before .before .if1 .left in
+    let d : isDigit (start .args .c) ≡ false = sym (the-is-digit .ensures) ∙ the-if1 .left in
     let u : isUpper (start .args .c) ≡ false = sym (c .before .before .before .is-upper .ensures) ∙ c .before .before .if2 .left in
     let l : isLower (start .args .c) ≡ false = sym (c .before .is-lower .ensures) ∙ c .if3 .left in
     (rw (d, u, l) refl, omega arith)

@@ -19,7 +19,9 @@ returns c = rw (so (c .before .equal .ensures) (c .if1 .taken))
 
 returns-2 : tie.Need-returns-2
 unfolding isHexTo ascii
-returns-2 c = rw (so (c .before .before .equal .ensures) (c .before .if1 .left), lt-leb (length (c .before .before .before .before .before .args .word .now)) (c .before .before .before .before .before .args .most) (omega arith))
+returns-2 c =
+    let start = c .before .before .before .before .before in
+    rw (so (c .before .before .equal .ensures) (c .before .if1 .left), lt-leb (length (start .args .word .now)) (start .args .most) (omega arith))
 
 returns-3 : tie.Need-returns-3
 unfolding isHexTo ascii
@@ -33,8 +35,9 @@ all-hex-digits-requires c κs = search needs
 returns-4 : tie.Need-returns-4
 unfolding isHexTo ascii
 returns-4 c =
+    let the-equal = c .before .before .before .before .equal in
     let start = c .before .before .before .before .before .before .before in
-    rw (so (c .before .before .before .before .equal .ensures) (c .before .before .before .if1 .left), le-leb (length (start .args .word .now)) (start .args .most) (omega arith), eq-eqb _ _ (c .before .if3 .left)) (c .all-hex-digits .ensures)
+    rw (so (the-equal .ensures) (c .before .before .before .if1 .left), le-leb (length (start .args .word .now)) (start .args .most) (omega arith), eq-eqb _ _ (c .before .if3 .left)) (c .all-hex-digits .ensures)
 
 pub is-hex-to-spec : {M : Type 1} → statement M
 is-hex-to-spec =

@@ -53,14 +53,15 @@ loop-less c = search needs
 
 loop-again : tie.Need-loop-again Inv-loop μ-loop
 loop-again c =
+    let the-loop = c .before .before .before .before .before .loop in
     let start = c .before .before .before .before .before .before .before .before in
     let os = start .args .octets .now in
-    let i = c .before .before .before .before .before .loop .i in
+    let i = the-loop .i in
     let h : i < length os = omega arith in
     let n = hex-length os in (
       omega arith,
-      simp length-set (c .before .before .before .before .before .loop .inv .1),
-      front-two (hexOf os) (start .args .out .now) (c .before .before .before .before .before .loop .out) _ _ i (omega arith) (omega arith) (c .before .before .before .before .before .loop .inv .2)
+      simp length-set (the-loop .inv .1),
+      front-two (hexOf os) (start .args .out .now) (the-loop .out) _ _ i (omega arith) (omega arith) (the-loop .inv .2)
           (c .before .before .glyph .ensures ∙ sym (hex-high os i h)) (c .glyph2 .ensures ∙ sym (hex-low os i h)),
     )
 
@@ -72,8 +73,9 @@ same-length c = c .before .loop .inv .1
 
 returns : tie.Need-returns Inv-loop μ-loop
 returns c =
-    let n = hex-length (c .before .before .before .before .args .octets .now) in (
-      puts-front (hexOf (c .before .before .before .before .args .octets .now)) (c .before .before .before .before .args .out .now) (c .before .loop .out) (length (c .before .before .before .before .args .octets .now) * 2) (c .before .loop .i * 2) (sym n) (omega arith) (omega arith) (c .before .loop .inv .2),
+    let start = c .before .before .before .before in
+    let n = hex-length (start .args .octets .now) in (
+      puts-front (hexOf (start .args .octets .now)) (start .args .out .now) (c .before .loop .out) (length (start .args .octets .now) * 2) (c .before .loop .i * 2) (sym n) (omega arith) (omega arith) (c .before .loop .inv .2),
       refl,
     )
 

@@ -26,7 +26,9 @@ is-digit-requires : tie.Need-is-digit-requires Inv-loop μ-loop
 is-digit-requires c κs = search needs
 
 returns : tie.Need-returns Inv-loop μ-loop
-returns c = sym (number-letter _ (c .before .before .before .before .loop .inv .2 ∙ all-stop isDigit _ _ (c .before .before .before .loop-test .taken) (sym (c .before .is-digit .ensures) ∙ not-true _ (c .if1 .taken))))
+returns c =
+    let the-loop = c .before .before .before .before .loop in
+    sym (number-letter _ (the-loop .inv .2 ∙ all-stop isDigit _ _ (c .before .before .before .loop-test .taken) (sym (c .before .is-digit .ensures) ∙ not-true _ (c .if1 .taken))))
 
 mul-value : tie.Need-mul-value Inv-loop μ-loop
 mul-value c = search needs
@@ -36,9 +38,10 @@ at-requires c κs = search needs
 
 sub-value : tie.Need-sub-value Inv-loop μ-loop
 sub-value c =
+    let the-loop = c .before .before .before .before .before .loop in
     let start = c .before .before .before .before .before .before .before in
     let w = start .args .word .now in
-    let b = between 48 (getD w (c .before .before .before .before .before .loop .i) 0) 57 (sym (c .before .before .is-digit .ensures) ∙ not-false _ (c .before .if1 .left)) in
+    let b = between 48 (getD w (the-loop .i) 0) 57 (sym (c .before .before .is-digit .ensures) ∙ not-false _ (c .before .if1 .left)) in
     omega arith
 
 add-value : tie.Need-add-value Inv-loop μ-loop
@@ -46,13 +49,14 @@ add-value c = search needs
 
 returns-2 : tie.Need-returns-2 Inv-loop μ-loop
 returns-2 c =
+    let the-loop-test = c .before .before .before .before .before .loop-test in
     let at-loop = c .before .before .before .before .before .before in
     let start = at-loop .before .before in
     let w = start .args .word .now in
     let i = at-loop .loop .i in
     let v = at-loop .loop .value in
     let a = c .before .at .ensures .0 in
-    let q = at-loop .loop .inv .3 ∙ value-more w i v (c .before .before .before .before .before .loop-test .taken) in
+    let q = at-loop .loop .inv .3 ∙ value-more w i v (the-loop-test .taken) in
     let g = value-grows (drop (i + 1) w) (v * 10 + (getD w i 0 - 48)) in
     sym (number-large w (omega arith))
 
@@ -64,11 +68,12 @@ loop-less c = search needs
 
 loop-again : tie.Need-loop-again Inv-loop μ-loop
 loop-again c =
+    let the-loop-test = c .before .before .before .before .before .loop-test in
     let at-loop = c .before .before .before .before .before .before in
     let start = at-loop .before .before in
     let w = start .args .word .now in
     let i = at-loop .loop .i in
-    let h = c .before .before .before .before .before .loop-test .taken in
+    let h = the-loop-test .taken in
     let a : c .before .at .result ≡ getD w i 0 = c .before .at .ensures .0 in
     (omega arith, omega arith, at-loop .loop .inv .2 ∙ all-more isDigit w i h (sym (c .before .before .before .is-digit .ensures) ∙ not-false _ (c .before .before .if1 .left)), at-loop .loop .inv .3 ∙ value-more w i (at-loop .loop .value) h ∙ rw a refl)
 

@@ -26,8 +26,9 @@ is-letter-requires c κs = search needs
 
 returns : tie.Need-returns Inv-loop μ-loop
 returns c =
+    let the-loop = c .before .before .before .before .loop in
     let start = c .before .before .before .before .before .before in
-    let e = letter-stop (start .args .line .now) (c .before .before .before .before .loop .i) (c .before .before .before .loop-test .taken) (sym (c .before .is-letter .ensures) ∙ not-true _ (c .if1 .taken)) in
+    let e = letter-stop (start .args .line .now) (the-loop .i) (c .before .before .before .loop-test .taken) (sym (c .before .is-letter .ensures) ∙ not-true _ (c .if1 .taken)) in
     (omega arith, omega arith)
 
 add-i : tie.Need-add-i Inv-loop μ-loop
@@ -38,8 +39,9 @@ loop-less c = search needs
 
 loop-again : tie.Need-loop-again Inv-loop μ-loop
 loop-again c =
+    let the-loop = c .before .before .before .before .loop in
     let start = c .before .before .before .before .before .before in
-    let e = letter-more (start .args .line .now) (c .before .before .before .before .loop .i) (c .before .before .before .loop-test .taken) (sym (c .before .is-letter .ensures) ∙ not-false _ (c .if1 .left)) in
+    let e = letter-more (start .args .line .now) (the-loop .i) (c .before .before .before .loop-test .taken) (sym (c .before .is-letter .ensures) ∙ not-false _ (c .if1 .left)) in
     (omega arith, omega arith, omega arith)
 
 returns-2 : tie.Need-returns-2 Inv-loop μ-loop

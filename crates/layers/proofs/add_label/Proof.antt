@@ -17,7 +17,9 @@ same-length c = search needs
 
 returns : tie.Need-returns
 unfolding labelWords ascii
-returns c = (rw (eq-eqb _ _ (c .before .before .before .before .before .if1 .taken)) (c .before .before .add .ensures), omega (arith, c .before .before .add .ensures .count))
+returns c =
+    let the-if1 = c .before .before .before .before .before .if1 in
+    (rw (eq-eqb _ _ (the-if1 .taken)) (c .before .before .add .ensures), omega (arith, c .before .before .add .ensures .count))
 
 slice-aggregate-add-named : tie.Need-slice-aggregate-add-named
 slice-aggregate-add-named c = search needs
@@ -30,7 +32,9 @@ same-length-2 c = search needs
 
 returns-2 : tie.Need-returns-2
 unfolding labelWords ascii
-returns-2 c = (rw (ne-eqb _ _ (c .before .before .before .before .before .if1 .left)) (c .before .before .add-named .ensures .0), omega (arith, c .before .before .add-named .ensures .1))
+returns-2 c =
+    let the-if1 = c .before .before .before .before .before .if1 in
+    (rw (ne-eqb _ _ (the-if1 .left)) (c .before .before .add-named .ensures .0), omega (arith, c .before .before .add-named .ensures .1))
 
 pub add-label-spec : {M : Type 1} → statement M
 add-label-spec =

@@ -28,7 +28,10 @@ same-length-4 : tie.Need-same-length-4
 same-length-4 c = search needs
 
 returns : tie.Need-returns
-returns c = shows-decoded (c .before .before .before .before .before .before .before .before .before .before .before .before .before .decode-hex .ensures .0) (c .before .before .before .before .before .before .is-taken .ensures)
+returns c =
+    let the-decode-hex = c .before .before .before .before .before .before .before .before .before .before .before .before .before .decode-hex in
+    let the-is-taken = c .before .before .before .before .before .before .is-taken in
+    shows-decoded (the-decode-hex .ensures .0) (the-is-taken .ensures)
 
 pub is-taken-hex-spec : {M : Type 1} → statement M
 is-taken-hex-spec =

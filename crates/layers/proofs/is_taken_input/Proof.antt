@@ -13,17 +13,24 @@ hex-end-requires : tie.Need-hex-end-requires
 hex-end-requires c κs = search needs
 
 slice-aggregate-is-hex-to : tie.Need-slice-aggregate-is-hex-to
-slice-aggregate-is-hex-to c = sym (length-take-le _ (c .before .before .before .before .before .before .before .args .input .now) (c .before .hex-end .ensures .1))
+slice-aggregate-is-hex-to c =
+    let start = c .before .before .before .before .before .before .before in
+    sym (length-take-le _ (start .args .input .now) (c .before .hex-end .ensures .1))
 
 is-hex-to-requires : tie.Need-is-hex-to-requires
 is-hex-to-requires c κs = search needs
 
 slice-aggregate-is-taken-hex : tie.Need-slice-aggregate-is-taken-hex
-slice-aggregate-is-taken-hex c = sym (length-take-le _ (c .before .before .before .before .before .before .before .before .before .before .args .input .now) (c .before .before .before .before .hex-end .ensures .1))
+slice-aggregate-is-taken-hex c =
+    let start = c .before .before .before .before .before .before .before .before .before .before in
+    let the-hex-end = c .before .before .before .before .hex-end in
+    sym (length-take-le _ (start .args .input .now) (the-hex-end .ensures .1))
 
 is-taken-hex-requires : tie.Need-is-taken-hex-requires
 is-taken-hex-requires c κs =
-    let short = hex-short (2 * saveLimit new) _ (omega arith) (sym (c .before .before .before .before .before .before .is-hex-to .ensures) ∙ c .before .before .before .before .before .if1 .taken) in
+    let the-is-hex-to = c .before .before .before .before .before .before .is-hex-to in
+    let the-if1 = c .before .before .before .before .before .if1 in
+    let short = hex-short (2 * saveLimit new) _ (omega arith) (sym (the-is-hex-to .ensures) ∙ the-if1 .taken) in
     (short, search needs, search needs, search needs, search needs)
 
 same-length : tie.Need-same-length
@@ -39,10 +46,18 @@ same-length-4 : tie.Need-same-length-4
 same-length-4 c = search needs
 
 returns : tie.Need-returns
-returns c = shows-hex (c .before .before .before .before .before .before .before .before .before .before .before .before .before .before .before .before .before .before .before .before .before .before .before .args .input .now) _ (c .before .before .before .before .before .before .before .before .before .before .before .before .before .before .before .before .before .hex-end .ensures .0) _ (c .before .before .before .before .before .before .before .before .before .before .before .before .before .before .before .is-hex-to .ensures) (c .before .before .before .before .before .before .before .before .before .before .before .before .before .before .if1 .taken) (c .before .before .before .before .before .before .before .before .is-taken-hex .ensures)
+returns c =
+    let start = c .before .before .before .before .before .before .before .before .before .before .before .before .before .before .before .before .before .before .before .before .before .before .before in
+    let the-hex-end = c .before .before .before .before .before .before .before .before .before .before .before .before .before .before .before .before .before .hex-end in
+    let the-is-hex-to = c .before .before .before .before .before .before .before .before .before .before .before .before .before .before .before .is-hex-to in
+    let the-if1 = c .before .before .before .before .before .before .before .before .before .before .before .before .before .before .if1 in
+    let the-is-taken-hex = c .before .before .before .before .before .before .before .before .is-taken-hex in
+    shows-hex (start .args .input .now) _ (the-hex-end .ensures .0) _ (the-is-hex-to .ensures) (the-if1 .taken) (the-is-taken-hex .ensures)
 
 returns-2 : tie.Need-returns-2
-returns-2 c = shows-other (c .before .before .before .before .before .before .before .before .before .args .input .now) _ (c .before .before .before .hex-end .ensures .0) _ (c .before .is-hex-to .ensures) (c .if1 .left)
+returns-2 c =
+    let start = c .before .before .before .before .before .before .before .before .before in
+    shows-other (start .args .input .now) _ (c .before .before .before .hex-end .ensures .0) _ (c .before .is-hex-to .ensures) (c .if1 .left)
 
 pub is-taken-input-spec : {M : Type 1} → statement M
 is-taken-input-spec =

@@ -1,4 +1,4 @@
-use Prim.Native.Nat.{_+_, _-_, _*_, _≤_, _<_}
+use Prim.Native.Nat.{_-_, _*_, _≤_}
 use native.Mathlib.Omega.{arith}
 use mathlib.Core.Path.{_≡_, refl, sym, _∙_}
 use lib.ListN.{length, take}
@@ -23,7 +23,9 @@ tree-count-requires : tie.Need-tree-count-requires Inv-loop μ-loop
 tree-count-requires c κs = search needs
 
 loop-holds : tie.Need-loop-holds Inv-loop μ-loop
-loop-holds c = (omega arith, refl, omega arith, unfold treesText in (adds-none (c .before .before .before .before .args .text .now) 0))
+loop-holds c =
+    let start = c .before .before .before .before in
+    (omega arith, refl, omega arith, unfold treesText in (adds-none (start .args .text .now) 0))
 
 add-tree-requires : tie.Need-add-tree-requires Inv-loop μ-loop
 add-tree-requires c κs =
@@ -42,10 +44,12 @@ loop-less c = search needs
 
 loop-again : tie.Need-loop-again Inv-loop μ-loop
 loop-again c =
+    let the-tree-count = c .before .before .before .before .before .before .tree-count in
+    let the-loop-test = c .before .before .before .before .loop-test in
     let start = c .before .before .before .before .before .before .before .before .before .before in
-    let count = c .before .before .before .before .before .before .tree-count .ensures in
+    let count = the-tree-count .ensures in
     let at-loop = c .before .before .before .before .before in
-    let test = c .before .before .before .before .loop-test .taken in
+    let test = the-loop-test .taken in
     let line = c .before .before .add-tree in
     let few = trees-length (start .args .numbers .now) (start .args .names .now) in
     let more = trees-more (cardOf (start .args .numbers .now) (start .args .names .now)) (at-loop .loop .i) (omega (arith, few, count .0, test)) in (

@@ -8,10 +8,16 @@ is-taken-input-requires : tie.Need-is-taken-input-requires
 is-taken-input-requires c κs = search needs
 
 put-trees-requires : tie.Need-put-trees-requires
-put-trees-requires c κs = (search needs, search needs, c .before .before .before .before .before .before .is-taken-input .ensures .named (c .before .before .before .before .before .if1 .taken), search needs)
+put-trees-requires c κs =
+    let the-is-taken-input = c .before .before .before .before .before .before .is-taken-input in
+    let the-if1 = c .before .before .before .before .before .if1 in
+    (search needs, search needs, the-is-taken-input .ensures .named (the-if1 .taken), search needs)
 
 returns : tie.Need-returns
-returns c = let put = c .put-trees .ensures in (put .0 ∙ shown-taken (c .before .before .before .before .before .before .before .is-taken-input .ensures) (c .before .before .before .before .before .before .if1 .taken), put .1)
+returns c =
+    let the-is-taken-input = c .before .before .before .before .before .before .before .is-taken-input in
+    let the-if1 = c .before .before .before .before .before .before .if1 in
+    let put = c .put-trees .ensures in (put .0 ∙ shown-taken (the-is-taken-input .ensures) (the-if1 .taken), put .1)
 
 put-refused-requires : tie.Need-put-refused-requires
 put-refused-requires c κs = search needs

@@ -21,9 +21,11 @@ same-length c = search needs
 returns : tie.Need-returns
 unfolding ascii
 returns c =
-    let start = c .before .before .before .before .before .before .before .before in (
+    let the-before = c .before .before .before .before .before .before .before .before in
+    let the-if1 = c .before .before .before .before .before .if1 in
+    let start = the-before in (
       omega arith,
-      λ o p e. says-bad _ _ _ _ o (too-long (start .args .line .now) (start .args .kept) o (c .before .before .before .before .before .if1 .taken) p e) (omega arith) (c .before .before .put-count .ensures .0),
+      λ o p e. says-bad _ _ _ _ o (too-long (start .args .line .now) (start .args .kept) o (the-if1 .taken) p e) (omega arith) (c .before .before .put-count .ensures .0),
     )
 
 slice-aggregate-whole : tie.Need-slice-aggregate-whole
@@ -43,10 +45,14 @@ same-length-2 c = search needs
 
 returns-2 : tie.Need-returns-2
 returns-2 c =
+    let the-is-own = c .before .before .before .before .before .before .before .before .before .before .before .before .is-own in
+    let the-if2 = c .before .before .before .before .before .before .before .before .before .before .before .if2 in
+    let the-if1 = c .before .before .before .before .before .before .before .before .before .before .before .before .before .before .before .if1 in
+    let the-read-ask = c .before .before .before .before .before .before .before .before .before .before .before .before .before .read-ask in
     let start = c .before .before .before .before .before .before .before .before .before .before .before .before .before .before .before .before .before .before in
-    let said = c .before .before .answer .ensures (sym (c .before .before .before .before .before .before .before .before .before .before .before .before .is-own .ensures) ∙ c .before .before .before .before .before .before .before .before .before .before .before .if2 .taken) (start .args .number) in (
+    let said = c .before .before .answer .ensures (sym (the-is-own .ensures) ∙ the-if2 .taken) (start .args .number) in (
       said .short,
-      λ o p e. rw (sym (keeps-line (start .args .line .now) (start .args .kept) o (c .before .before .before .before .before .before .before .before .before .before .before .before .before .before .before .if1 .left) p)) (says-own _ _ _ _ _ _ (c .before .before .before .before .before .before .before .before .before .before .before .before .before .read-ask .ensures) said),
+      λ o p e. rw (sym (keeps-line (start .args .line .now) (start .args .kept) o (the-if1 .left) p)) (says-own _ _ _ _ _ _ (the-read-ask .ensures) said),
     )
 
 answer-requires-2 : tie.Need-answer-requires-2
@@ -57,11 +63,15 @@ same-length-3 c = search needs
 
 returns-3 : tie.Need-returns-3
 returns-3 c =
+    let the-if1 = c .before .before .before .before .before .before .before .before .before .before .if1 in
+    let the-read-ask = c .before .before .before .before .before .before .before .before .read-ask in
+    let the-is-own = c .before .before .before .before .before .before .before .is-own in
+    let the-if2 = c .before .before .before .before .before .before .if2 in
     let start = c .before .before .before .before .before .before .before .before .before .before .before .before .before in
     let said = c .before .before .answer2 .ensures in (
       omega (arith, said .says .short),
-      λ o p e. rw (sym (keeps-line (start .args .line .now) (start .args .kept) o (c .before .before .before .before .before .before .before .before .before .before .if1 .left) p))
-          (says-bench _ _ _ _ _ _ (c .before .before .before .before .before .before .before .before .read-ask .ensures) (sym (c .before .before .before .before .before .before .before .is-own .ensures) ∙ c .before .before .before .before .before .before .if2 .left) said),
+      λ o p e. rw (sym (keeps-line (start .args .line .now) (start .args .kept) o (the-if1 .left) p))
+          (says-bench _ _ _ _ _ _ (the-read-ask .ensures) (sym (the-is-own .ensures) ∙ the-if2 .left) said),
     )
 
 pub reply-spec : {M : Type 1} → statement M

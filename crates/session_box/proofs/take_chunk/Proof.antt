@@ -1,7 +1,7 @@
 -- `session_box::take_chunk` meets its contract. Assumes nothing.
 use Prim.Native.Nat.{_-_, _≤_, _<_}
 use native.Mathlib.Omega.{arith}
-use mathlib.Core.Path.{_≡_, refl, sym}
+use mathlib.Core.Path.{sym}
 use lib.ListN.{length, take}
 use lib.Seq.{take-all}
 use Rattle.card.specs.Table.{cardOf}
@@ -33,17 +33,24 @@ take-octet-requires : tie.Need-take-octet-requires Inv-loop μ-loop
 take-octet-requires c κs = search needs
 
 add-i : tie.Need-add-i Inv-loop μ-loop
-add-i c = let t = c .before .before .before .before .before .before .before .before .before .before .before .loop-test .taken in let good = c .before .before .before .before .before .before .before .before .before .before .before .before .before .before .good in search needs
+add-i c =
+    let the-loop-test = c .before .before .before .before .before .before .before .before .before .before .before .loop-test in
+    let the-good = c .before .before .before .before .before .before .before .before .before .before .before .before .before .before .good in
+    let t = the-loop-test .taken in let good = the-good in search needs
 
 loop-less : tie.Need-loop-less Inv-loop μ-loop
-loop-less c = let t = c .before .before .before .before .before .before .before .before .before .before .before .loop-test .taken in omega (arith, t)
+loop-less c =
+    let the-loop-test = c .before .before .before .before .before .before .before .before .before .before .before .loop-test in
+    let t = the-loop-test .taken in omega (arith, t)
 
 loop-again : tie.Need-loop-again Inv-loop μ-loop
 loop-again c =
+    let start = c .before .before .before .before .before .before .before .before .before .before .before .before .before .before in
+    let the-loop-test = c .before .before .before .before .before .before .before .before .before .before .before .loop-test in
     let at-loop = c .before .before .before .before .before .before .before .before .before .before .before .before in
-    let chunk = c .before .before .before .before .before .before .before .before .before .before .before .before .before .before .args .chunk .now in
+    let chunk = start .args .chunk .now in
     let i = at-loop .loop .i in
-    let h : i < length chunk = c .before .before .before .before .before .before .before .before .before .before .before .loop-test .taken in
+    let h : i < length chunk = the-loop-test .taken in
     (omega (arith, h), λ s k. rw (sym (after-next boxLeft s chunk i h)) (c .take-octet .ensures _ (at-loop .loop .inv .1 s k)))
 
 returns : tie.Need-returns Inv-loop μ-loop

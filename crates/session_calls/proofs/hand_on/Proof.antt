@@ -21,7 +21,9 @@ part-tell-label-start : tie.Need-part-tell-label-start
 part-tell-label-start c = search needs
 
 part-tell-label-end : tie.Need-part-tell-label-end
-part-tell-label-end c = omega (arith, message-ends _ _ _ _ (c .before .before .before .left-of .ensures .0) (c .before .before .place-of .ensures .1) (c .before .before .before .before .before .before .before .pre .3), c .before .before .before .before .before .before .before .pre .1)
+part-tell-label-end c =
+    let start = c .before .before .before .before .before .before .before in
+    omega (arith, message-ends _ _ _ _ (c .before .before .before .left-of .ensures .0) (c .before .before .place-of .ensures .1) (start .pre .3), start .pre .1)
 
 tell-label-requires : tie.Need-tell-label-requires
 tell-label-requires c κs = search needs
@@ -30,7 +32,10 @@ same-length : tie.Need-same-length
 same-length c = search needs
 
 returns : tie.Need-returns
-returns c = message-does _ _ _ _ _ _ _ _ _ _ _ (c .before .before .before .before .before .before .before .before .place-of .ensures .0) (c .before .before .before .before .before .before .before .before .before .before .before .before .before .pre .3) (c .before .before .tell-label .ensures)
+returns c =
+    let the-place-of = c .before .before .before .before .before .before .before .before .place-of in
+    let start = c .before .before .before .before .before .before .before .before .before .before .before .before .before in
+    message-does _ _ _ _ _ _ _ _ _ _ _ (the-place-of .ensures .0) (start .pre .3) (c .before .before .tell-label .ensures)
 
 pub hand-on-spec : {M : Type 1} → statement M
 hand-on-spec =

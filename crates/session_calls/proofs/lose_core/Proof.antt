@@ -14,13 +14,17 @@ same-length : tie.Need-same-length
 same-length c = search needs
 
 returns : tie.Need-returns
-returns c = (c .before .before .before .before .before .before .lost-core .ensures, λ b. emptied _ _ _ (c .before .before .if1 .taken) (c .clear .ensures .1 b))
+returns c =
+    let the-lost-core = c .before .before .before .before .before .before .lost-core in
+    (the-lost-core .ensures, λ b. emptied _ _ _ (c .before .before .if1 .taken) (c .clear .ensures .1 b))
 
 same-length-2 : tie.Need-same-length-2
 same-length-2 c = search needs
 
 returns-2 : tie.Need-returns-2
-returns-2 c = (c .before .before .before .before .lost-core .ensures, λ b. untouched _ _ (c .if1 .left))
+returns-2 c =
+    let the-lost-core = c .before .before .before .before .lost-core in
+    (the-lost-core .ensures, λ b. untouched _ _ (c .if1 .left))
 
 pub lose-core-spec : {M : Type 1} → statement M
 lose-core-spec =

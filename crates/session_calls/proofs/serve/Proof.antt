@@ -9,13 +9,17 @@ serve-core-requires : tie.Need-serve-core-requires
 serve-core-requires c κs = search needs
 
 slice-aggregate-result : tie.Need-slice-aggregate-result
-slice-aggregate-result c = handed-over-count _ _ _ _ _ _ _ _ (c .before .before .before .before .before .serve-core .ensures)
+slice-aggregate-result c =
+    let the-serve-core = c .before .before .before .before .before .serve-core in
+    handed-over-count _ _ _ _ _ _ _ _ (the-serve-core .ensures)
 
 same-length : tie.Need-same-length
 same-length c = search needs
 
 returns : tie.Need-returns
-returns c = (handed-over _ _ _ _ _ _ _ _ (c .before .before .before .before .before .serve-core .ensures), refl)
+returns c =
+    let the-serve-core = c .before .before .before .before .before .serve-core in
+    (handed-over _ _ _ _ _ _ _ _ (the-serve-core .ensures), refl)
 
 pub serve-spec : {M : Type 1} → statement M
 serve-spec =

@@ -23,7 +23,12 @@ same-length-2 : tie.Need-same-length-2
 same-length-2 c = search needs
 
 returns-4 : tie.Need-returns-4
-returns-4 c = serves-accepted _ _ _ _ _ _ _ _ (c .before .before .before .before .before .before .before .before .before .before .before .before .before .before .before .if1 .left) (c .before .before .before .before .before .before .before .before .before .before .before .before .before .before .if2 .left) (c .before .before .before .before .before .before .before .before .before .before .before .before .before .if3 .left) _ _ _ _ _ _ (c .before .before .before .before .serve-open .ensures .1)
+returns-4 c =
+    let the-if1 = c .before .before .before .before .before .before .before .before .before .before .before .before .before .before .before .if1 in
+    let the-if2 = c .before .before .before .before .before .before .before .before .before .before .before .before .before .before .if2 in
+    let the-if3 = c .before .before .before .before .before .before .before .before .before .before .before .before .before .if3 in
+    let the-serve-open = c .before .before .before .before .serve-open in
+    serves-accepted _ _ _ _ _ _ _ _ (the-if1 .left) (the-if2 .left) (the-if3 .left) _ _ _ _ _ _ (the-serve-open .ensures .1)
 
 pub serve-core-spec : {M : Type 1} → statement M
 serve-core-spec =

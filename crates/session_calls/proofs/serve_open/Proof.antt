@@ -18,17 +18,25 @@ same-length-2 : tie.Need-same-length-2
 same-length-2 c = search needs
 
 returns : tie.Need-returns
-returns c = (c .before .before .before .before .before .offer .ensures .0, serves-none _ _ _ _ _ _ _ _ _ (c .before .before .before .before .before .offer .ensures .2 .none (c .if1 .taken)))
+returns c =
+    let the-offer = c .before .before .before .before .before .offer in
+    (the-offer .ensures .0, serves-none _ _ _ _ _ _ _ _ _ (the-offer .ensures .2 .none (c .if1 .taken)))
 
 hand-on-requires : tie.Need-hand-on-requires
 hand-on-requires c κs =
-    let found = c .before .before .before .before .before .before .before .before .before .before .before .offer .ensures .2 .some (positive _ (c .before .before .before .before .before .before .if1 .left)) in
-    (c .before .before .before .before .before .before .before .before .before .before .before .offer .ensures .0, omega (arith, c .before .before .before .before .before .before .before .before .before .before .before .offer .ensures .1, c .before .before .before .before .before .before .before .before .before .before .before .before .before .before .before .before .before .before .before .before .pre .1), found .within .0, found .within .1, c .before .before .before .before .before .before .before .before .before .before .before .before .before .before .before .before .before .before .before .before .pre .2)
+    let the-offer = c .before .before .before .before .before .before .before .before .before .before .before .offer in
+    let the-if1 = c .before .before .before .before .before .before .if1 in
+    let start = c .before .before .before .before .before .before .before .before .before .before .before .before .before .before .before .before .before .before .before .before in
+    let found = the-offer .ensures .2 .some (positive _ (the-if1 .left)) in
+    (the-offer .ensures .0, omega (arith, the-offer .ensures .1, start .pre .1), found .within .0, found .within .1, start .pre .2)
 
 work-off-requires : tie.Need-work-off-requires
 work-off-requires c κs =
-    let found = c .before .before .before .before .before .before .before .before .before .before .before .before .before .before .before .before .offer .ensures .2 .some (positive _ (c .before .before .before .before .before .before .before .before .before .before .before .if1 .left)) in
-    (c .before .before .before .before .before .before .before .before .before .before .before .before .before .before .before .before .offer .ensures .0, omega (arith, c .before .before .before .before .before .before .before .before .before .before .before .before .before .before .before .before .offer .ensures .1, c .before .before .before .before .before .before .before .before .before .before .before .before .before .before .before .before .before .before .before .before .before .before .before .before .before .pre .1), positive _ (c .before .before .before .before .before .before .before .before .before .before .before .if1 .left), found .within .0, found .within .1)
+    let the-offer = c .before .before .before .before .before .before .before .before .before .before .before .before .before .before .before .before .offer in
+    let the-if1 = c .before .before .before .before .before .before .before .before .before .before .before .if1 in
+    let start = c .before .before .before .before .before .before .before .before .before .before .before .before .before .before .before .before .before .before .before .before .before .before .before .before .before in
+    let found = the-offer .ensures .2 .some (positive _ (the-if1 .left)) in
+    (the-offer .ensures .0, omega (arith, the-offer .ensures .1, start .pre .1), positive _ (the-if1 .left), found .within .0, found .within .1)
 
 same-length-3 : tie.Need-same-length-3
 same-length-3 c = search needs
@@ -41,9 +49,12 @@ same-length-5 c = search needs
 
 returns-2 : tie.Need-returns-2
 returns-2 c =
-    let found = c .before .before .before .before .before .before .before .before .before .before .before .before .before .before .before .before .before .before .before .before .offer .ensures .2 .some (positive _ (c .before .before .before .before .before .before .before .before .before .before .before .before .before .before .before .if1 .left)) in
+    let the-offer = c .before .before .before .before .before .before .before .before .before .before .before .before .before .before .before .before .before .before .before .before .offer in
+    let the-if1 = c .before .before .before .before .before .before .before .before .before .before .before .before .before .before .before .if1 in
+    let the-hand-on = c .before .before .before .before .before .before .before .before .hand-on in
+    let found = the-offer .ensures .2 .some (positive _ (the-if1 .left)) in
     let left = c .before .before .before .work-off .ensures in
-    (left .0, serves-message _ _ _ _ _ _ _ _ _ _ found _ _ _ _ (c .before .before .before .before .before .before .before .before .hand-on .ensures) _ _ (left .1) (eaten-stopped _ _ _ (sym (c .if2 .taken) ∙ left .2 ∙ ap isStopped (sym (left .1)))))
+    (left .0, serves-message _ _ _ _ _ _ _ _ _ _ found _ _ _ _ (the-hand-on .ensures) _ _ (left .1) (eaten-stopped _ _ _ (sym (c .if2 .taken) ∙ left .2 ∙ ap isStopped (sym (left .1)))))
 
 same-length-6 : tie.Need-same-length-6
 same-length-6 c = search needs
@@ -56,9 +67,12 @@ same-length-8 c = search needs
 
 returns-3 : tie.Need-returns-3
 returns-3 c =
-    let found = c .before .before .before .before .before .before .before .before .before .before .before .before .before .before .before .before .before .before .before .before .offer .ensures .2 .some (positive _ (c .before .before .before .before .before .before .before .before .before .before .before .before .before .before .before .if1 .left)) in
+    let the-offer = c .before .before .before .before .before .before .before .before .before .before .before .before .before .before .before .before .before .before .before .before .offer in
+    let the-if1 = c .before .before .before .before .before .before .before .before .before .before .before .before .before .before .before .if1 in
+    let the-hand-on = c .before .before .before .before .before .before .before .before .hand-on in
+    let found = the-offer .ensures .2 .some (positive _ (the-if1 .left)) in
     let left = c .before .before .before .work-off .ensures in
-    (left .0, serves-message _ _ _ _ _ _ _ _ _ _ found _ _ _ _ (c .before .before .before .before .before .before .before .before .hand-on .ensures) _ _ (left .1) (eaten-going _ _ _ (sym (c .if2 .left) ∙ left .2 ∙ ap isStopped (sym (left .1)))))
+    (left .0, serves-message _ _ _ _ _ _ _ _ _ _ found _ _ _ _ (the-hand-on .ensures) _ _ (left .1) (eaten-going _ _ _ (sym (c .if2 .left) ∙ left .2 ∙ ap isStopped (sym (left .1)))))
 
 pub serve-open-spec : {M : Type 1} → statement M
 serve-open-spec =

@@ -12,7 +12,9 @@ slice-relend-prefix-receive-core : tie.Need-slice-relend-prefix-receive-core
 slice-relend-prefix-receive-core c = search needs
 
 slice-aggregate-receive-core : tie.Need-slice-aggregate-receive-core
-slice-aggregate-receive-core c = sym (length-take-le messageRoom (now (c .before .before .before .before .before .args .out)) (c .before .before .before .before .before .pre))
+slice-aggregate-receive-core c =
+    let start = c .before .before .before .before .before in
+    sym (length-take-le messageRoom (now (start .args .out)) (start .pre))
 
 receive-core-requires : tie.Need-receive-core-requires
 receive-core-requires c κs = search needs
@@ -21,7 +23,9 @@ same-length : tie.Need-same-length
 same-length c = search needs
 
 returns : tie.Need-returns
-returns c = front-does _ _ _ _ _ _ _ _ (c .before .before .before .before .before .before .before .before .before .pre) (c .before .before .receive-core .ensures)
+returns c =
+    let start = c .before .before .before .before .before .before .before .before .before in
+    front-does _ _ _ _ _ _ _ _ (start .pre) (c .before .before .receive-core .ensures)
 
 pub tell-label-spec : {M : Type 1} → statement M
 tell-label-spec =

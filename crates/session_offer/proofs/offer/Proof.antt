@@ -13,7 +13,9 @@ same-length : tie.Need-same-length
 same-length c = search needs
 
 returns : tie.Need-returns
-returns c = (c .before .before .before .before .before .before .before .pre .0, refl, offer-stopped _ _ _ _ (sym (c .if1 .taken) ∙ c .before .is-stopped .ensures _))
+returns c =
+    let start = c .before .before .before .before .before .before .before in
+    (start .pre .0, refl, offer-stopped _ _ _ _ (sym (c .if1 .taken) ∙ c .before .is-stopped .ensures _))
 
 take-in-requires : tie.Need-take-in-requires
 take-in-requires c κs = search needs
@@ -56,8 +58,11 @@ same-length-3 c = search needs
 
 returns-2 : tie.Need-returns-2
 returns-2 c =
+    let the-if1 = c .before .before .before .before .before .before .before .before .before .before .before .before .before .before .before .before .before .before .before .before .before .before .if1 in
+    let the-is-stopped = c .before .before .before .before .before .before .before .before .before .before .before .before .before .before .before .before .before .before .before .before .before .before .before .is-stopped in
+    let the-match = c .before .before .before .before .before .match in
     let start = c .before .before .before .before .before .before .before .before .before .before .before .before .before .before .before .before .before .before .before .before .before .before .before .before .before .before .before .before .before in
-    let goes = sym (c .before .before .before .before .before .before .before .before .before .before .before .before .before .before .before .before .before .before .before .before .before .before .if1 .left) ∙ c .before .before .before .before .before .before .before .before .before .before .before .before .before .before .before .before .before .before .before .before .before .before .before .is-stopped .ensures (now (start .args .buffer)) in
+    let goes = sym (the-if1 .left) ∙ the-is-stopped .ensures (now (start .args .buffer)) in
     let took = c .before .before .before .before .before .before .before .before .before .before .before .before .before .before .before .before .before .before .before .take-in in
     let the-left = c .before .before .before .before .before .before .before .before .before .before .before .before .before .left-of in
     let the-place = c .before .before .before .before .before .before .before .before .before .before .before .place-of in
@@ -67,7 +72,7 @@ returns-2 c =
       the-stop .ensures .0,
       took .ensures .1,
       offer-bad (now (start .args .expected)) (now (start .args .stream)) (now (start .args .buffer)) (now (start .args .offered)) (took .last .0) (took .last .1 .0)
-          (took .result) (the-left .result) (the-place .result) (the-count .result) goes (took .ensures .2) (the-left .ensures .0) (the-place .ensures .0) (the-count .ensures .0) (the-look .result) (the-look .ensures) (the-stop .last .0) (c .before .before .before .before .before .match .keys1) (the-stop .ensures .1 (took .last .1 .0)),
+          (took .result) (the-left .result) (the-place .result) (the-count .result) goes (took .ensures .2) (the-left .ensures .0) (the-place .ensures .0) (the-count .ensures .0) (the-look .result) (the-look .ensures) (the-stop .last .0) (the-match .keys1) (the-stop .ensures .1 (took .last .1 .0)),
     )
 
 enum-known-shows : tie.Need-enum-known-shows
@@ -81,13 +86,16 @@ same-length-5 c = search needs
 
 returns-3 : tie.Need-returns-3
 returns-3 c =
+    let the-if1 = c .before .before .before .before .before .before .before .before .before .before .before .before .before .before .before .before .before .before .before .before .if1 in
+    let the-is-stopped = c .before .before .before .before .before .before .before .before .before .before .before .before .before .before .before .before .before .before .before .before .before .is-stopped in
+    let the-look-2 = c .before .before .before .before .look in
     let start = c .before .before .before .before .before .before .before .before .before .before .before .before .before .before .before .before .before .before .before .before .before .before .before .before .before .before .before in
-    let goes = sym (c .before .before .before .before .before .before .before .before .before .before .before .before .before .before .before .before .before .before .before .before .if1 .left) ∙ c .before .before .before .before .before .before .before .before .before .before .before .before .before .before .before .before .before .before .before .before .before .is-stopped .ensures (now (start .args .buffer)) in
+    let goes = sym (the-if1 .left) ∙ the-is-stopped .ensures (now (start .args .buffer)) in
     let took = c .before .before .before .before .before .before .before .before .before .before .before .before .before .before .before .before .before .take-in in
     let the-left = c .before .before .before .before .before .before .before .before .before .before .before .left-of in
     let the-place = c .before .before .before .before .before .before .before .before .before .place-of in
     let the-count = c .before .before .before .before .before .before .before .count-of in
-    let the-look = c .before .before .before .before .look in (
+    let the-look = the-look-2 in (
       took .ensures .0,
       took .ensures .1,
       offer-message (now (start .args .expected)) (now (start .args .stream)) (now (start .args .buffer)) (now (start .args .offered)) (took .last .0) (took .last .1 .0)
@@ -102,8 +110,10 @@ same-length-7 c = search needs
 
 returns-4 : tie.Need-returns-4
 returns-4 c =
+    let the-if1 = c .before .before .before .before .before .before .before .before .before .before .before .before .before .before .before .before .before .before .if1 in
+    let the-is-stopped = c .before .before .before .before .before .before .before .before .before .before .before .before .before .before .before .before .before .before .before .is-stopped in
     let start = c .before .before .before .before .before .before .before .before .before .before .before .before .before .before .before .before .before .before .before .before .before .before .before .before .before in
-    let goes = sym (c .before .before .before .before .before .before .before .before .before .before .before .before .before .before .before .before .before .before .if1 .left) ∙ c .before .before .before .before .before .before .before .before .before .before .before .before .before .before .before .before .before .before .before .is-stopped .ensures (now (start .args .buffer)) in
+    let goes = sym (the-if1 .left) ∙ the-is-stopped .ensures (now (start .args .buffer)) in
     let took = c .before .before .before .before .before .before .before .before .before .before .before .before .before .before .before .take-in in
     let the-left = c .before .before .before .before .before .before .before .before .before .left-of in
     let the-place = c .before .before .before .before .before .before .before .place-of in

@@ -61,6 +61,7 @@ same-length-2 c = search needs
 
 returns : tie.Need-returns
 returns c =
+    let the-if1 = c .before .before .before .before .if1 in
     let start = c .before .before .before .before .before .before .before .before .before .before .before .before .before .before .before .before .before .before .before .before .before .before .before in
     let ns = now (start .args .stream) in
     let buffer = now (start .args .buffer) in
@@ -77,7 +78,7 @@ returns c =
       took-on ns buffer offered (the-left .result) (the-place .result) (the-count .result) (the-limit .result) (the-fill .result) (the-fill .last .0)
           (the-left .ensures .0) (the-place .ensures .0) (the-count .ensures .0) (the-left .ensures .1) (the-limit .ensures .0) (the-place .ensures .1) (the-count .ensures .1) (start .pre .1)
           (the-fill .ensures .0) (the-fill .ensures .4) (now (start .args .expected)) (the-set .last .0)
-          (sym (c .before .before .before .before .if1 .taken) ∙ the-head .ensures .0) (the-set .ensures),
+          (sym (the-if1 .taken) ∙ the-head .ensures .0) (the-set .ensures),
     )
 
 sub-fill : tie.Need-sub-fill
@@ -106,6 +107,8 @@ same-length-4 c = search needs
 
 returns-2 : tie.Need-returns-2
 returns-2 c =
+    let the-fill2 = c .before .before .before .before .before .before .fill2 in
+    let the-if1 = c .before .before .before .before .before .before .before .before .before .if1 in
     let start = c .before .before .before .before .before .before .before .before .before .before .before .before .before .before .before .before .before .before .before .before .before .before .before .before .before .before .before .before in
     let ns = now (start .args .stream) in
     let buffer = now (start .args .buffer) in
@@ -117,13 +120,13 @@ returns-2 c =
     let the-fill = c .before .before .before .before .before .before .before .before .before .before .before .before .before .before .before .fill in
     let the-head = c .before .before .before .before .before .before .before .before .before .before .whole-head in
     let the-set = c .before .before .set2 in
-    let more = c .before .before .before .before .before .before .fill2 in (
+    let more = the-fill2 in (
       ap length (the-set .ensures),
       more .ensures .3 ∙ the-fill .ensures .3,
       took-head ns buffer offered (the-left .result) (the-place .result) (the-count .result) (the-limit .result) (the-fill .result) (the-fill .last .0)
           (the-left .ensures .0) (the-place .ensures .0) (the-count .ensures .0) (the-left .ensures .1) (the-limit .ensures .0) (the-place .ensures .1) (the-count .ensures .1) (start .pre .1)
           (the-fill .ensures .0) (the-fill .ensures .4) (now (start .args .expected)) (the-set .last .0) _ (more .last .0) (the-head .result) (more .result)
-          (the-head .ensures .0) (c .before .before .before .before .before .before .before .before .before .if1 .left) (offered-rest (the-fill .result) offered) (more .ensures .0) (omega arith) (more .ensures .4) (the-set .ensures),
+          (the-head .ensures .0) (the-if1 .left) (offered-rest (the-fill .result) offered) (more .ensures .0) (omega arith) (more .ensures .4) (the-set .ensures),
     )
 
 pub take-in-spec : {M : Type 1} → statement M

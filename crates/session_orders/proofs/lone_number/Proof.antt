@@ -28,11 +28,17 @@ read-number-requires c κs = search needs
 
 returns-2 : tie.Need-returns-2
 unfolding loneNumber
-returns-2 c = rw (word-some (c .before .before .before .before .before .before .next-word .ensures) (c .before .before .before .before .before .if1 .left), word-none (c .before .before .before .before .next-word2 .ensures) (c .before .before .if2 .taken)) (c .read-number .ensures)
+returns-2 c =
+    let the-next-word = c .before .before .before .before .before .before .next-word in
+    let the-if1 = c .before .before .before .before .before .if1 in
+    let the-next-word2 = c .before .before .before .before .next-word2 in
+    rw (word-some (the-next-word .ensures) (the-if1 .left), word-none (the-next-word2 .ensures) (c .before .before .if2 .taken)) (c .read-number .ensures)
 
 returns-3 : tie.Need-returns-3
 unfolding loneNumber
-returns-3 c = rw (word-some (c .before .before .before .before .next-word .ensures) (c .before .before .before .if1 .left), word-some (c .before .before .next-word2 .ensures) (c .if2 .left))
+returns-3 c =
+    let the-next-word = c .before .before .before .before .next-word in
+    rw (word-some (the-next-word .ensures) (c .before .before .before .if1 .left), word-some (c .before .before .next-word2 .ensures) (c .if2 .left))
 
 pub lone-number-spec : {M : Type 1} → statement M
 lone-number-spec =

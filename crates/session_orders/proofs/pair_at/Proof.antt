@@ -38,11 +38,16 @@ is-hex-requires c κs = search needs
 
 returns-2 : tie.Need-returns-2
 returns-2 c =
+    let the-read-number = c .before .before .before .before .before .before .read-number in
+    let the-number = c .before .before .before .before .number in
     let start = c .before .before .before .before .before .before .before .before .before in
-    gives-pair _ _ _ _ _ _ _ (start .pre .2) (start .pre .3) (c .before .before .before .before .before .before .read-number .ensures) (c .before .before .before .before .number .given .1) (c .before .is-hex .ensures) (c .if1 .taken)
+    gives-pair _ _ _ _ _ _ _ (start .pre .2) (start .pre .3) (the-read-number .ensures) (the-number .given .1) (c .before .is-hex .ensures) (c .if1 .taken)
 
 returns-3 : tie.Need-returns-3
-returns-3 c = gives-none _ _ (no-hex _ _ _ _ _ (c .before .before .before .before .before .before .read-number .ensures) (c .before .before .before .before .number .given .1) (c .before .is-hex .ensures) (c .if1 .left))
+returns-3 c =
+    let the-read-number = c .before .before .before .before .before .before .read-number in
+    let the-number = c .before .before .before .before .number in
+    gives-none _ _ (no-hex _ _ _ _ _ (the-read-number .ensures) (the-number .given .1) (c .before .is-hex .ensures) (c .if1 .left))
 
 pub pair-at-spec : {M : Type 1} → statement M
 pair-at-spec =

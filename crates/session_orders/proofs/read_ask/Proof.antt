@@ -34,7 +34,11 @@ with-octets-requires c κs = search needs
 
 returns-3 : tie.Need-returns-3
 unfolding ascii
-returns-3 c = rw (octets-told _ _ _ (c .before .before .before .before .before .before .before .if1 .left) (word-some (c .before .before .before .before .before .before .next-word .ensures) (c .before .before .before .before .before .if2 .left)) _ (c .before .before .equal .ensures) (c .before .if3 .taken)) (c .with-octets .ensures)
+returns-3 c =
+    let the-if1 = c .before .before .before .before .before .before .before .if1 in
+    let the-next-word = c .before .before .before .before .before .before .next-word in
+    let the-if2 = c .before .before .before .before .before .if2 in
+    rw (octets-told _ _ _ (the-if1 .left) (word-some (the-next-word .ensures) (the-if2 .left)) _ (c .before .before .equal .ensures) (c .before .if3 .taken)) (c .with-octets .ensures)
 
 sub-equal-2 : tie.Need-sub-equal-2
 sub-equal-2 c = search needs
@@ -56,7 +60,13 @@ with-pack-requires c κs = search needs
 
 returns-4 : tie.Need-returns-4
 unfolding ascii
-returns-4 c = rw (pack-told _ _ _ (c .before .before .before .before .before .before .before .before .before .before .before .if1 .left) (word-some (c .before .before .before .before .before .before .before .before .before .before .next-word .ensures) (c .before .before .before .before .before .before .before .before .before .if2 .left)) _ _ (c .before .before .before .before .before .before .equal .ensures) (c .before .before .before .before .before .if3 .left) (c .before .before .equal2 .ensures) (c .before .if4 .taken)) (c .with-pack .ensures)
+returns-4 c =
+    let the-if1 = c .before .before .before .before .before .before .before .before .before .before .before .if1 in
+    let the-next-word = c .before .before .before .before .before .before .before .before .before .before .next-word in
+    let the-if2 = c .before .before .before .before .before .before .before .before .before .if2 in
+    let the-equal = c .before .before .before .before .before .before .equal in
+    let the-if3 = c .before .before .before .before .before .if3 in
+    rw (pack-told _ _ _ (the-if1 .left) (word-some (the-next-word .ensures) (the-if2 .left)) _ _ (the-equal .ensures) (the-if3 .left) (c .before .before .equal2 .ensures) (c .before .if4 .taken)) (c .with-pack .ensures)
 
 sub-equal-3 : tie.Need-sub-equal-3
 sub-equal-3 c = search needs
@@ -78,11 +88,27 @@ with-lost-requires c κs = search needs
 
 returns-5 : tie.Need-returns-5
 unfolding ascii
-returns-5 c = rw (lost-told _ _ _ (c .before .before .before .before .before .before .before .before .before .before .before .before .before .before .before .if1 .left) (word-some (c .before .before .before .before .before .before .before .before .before .before .before .before .before .before .next-word .ensures) (c .before .before .before .before .before .before .before .before .before .before .before .before .before .if2 .left)) _ _ _ (c .before .before .before .before .before .before .before .before .before .before .equal .ensures) (c .before .before .before .before .before .before .before .before .before .if3 .left) (c .before .before .before .before .before .before .equal2 .ensures) (c .before .before .before .before .before .if4 .left) (c .before .before .equal3 .ensures) (c .before .if5 .taken)) (c .with-lost .ensures)
+returns-5 c =
+    let the-if1 = c .before .before .before .before .before .before .before .before .before .before .before .before .before .before .before .if1 in
+    let the-next-word = c .before .before .before .before .before .before .before .before .before .before .before .before .before .before .next-word in
+    let the-if2 = c .before .before .before .before .before .before .before .before .before .before .before .before .before .if2 in
+    let the-equal = c .before .before .before .before .before .before .before .before .before .before .equal in
+    let the-if3 = c .before .before .before .before .before .before .before .before .before .if3 in
+    let the-equal2 = c .before .before .before .before .before .before .equal2 in
+    let the-if4 = c .before .before .before .before .before .if4 in
+    rw (lost-told _ _ _ (the-if1 .left) (word-some (the-next-word .ensures) (the-if2 .left)) _ _ _ (the-equal .ensures) (the-if3 .left) (the-equal2 .ensures) (the-if4 .left) (c .before .before .equal3 .ensures) (c .before .if5 .taken)) (c .with-lost .ensures)
 
 returns-6 : tie.Need-returns-6
 unfolding ascii
-returns-6 c = tells-bench _ _ (other-told _ _ _ (c .before .before .before .before .before .before .before .before .before .before .before .before .before .before .if1 .left) (word-some (c .before .before .before .before .before .before .before .before .before .before .before .before .before .next-word .ensures) (c .before .before .before .before .before .before .before .before .before .before .before .before .if2 .left)) _ _ _ (c .before .before .before .before .before .before .before .before .before .equal .ensures) (c .before .before .before .before .before .before .before .before .if3 .left) (c .before .before .before .before .before .equal2 .ensures) (c .before .before .before .before .if4 .left) (c .before .equal3 .ensures) (c .if5 .left))
+returns-6 c =
+    let the-if1 = c .before .before .before .before .before .before .before .before .before .before .before .before .before .before .if1 in
+    let the-next-word = c .before .before .before .before .before .before .before .before .before .before .before .before .before .next-word in
+    let the-if2 = c .before .before .before .before .before .before .before .before .before .before .before .before .if2 in
+    let the-equal = c .before .before .before .before .before .before .before .before .before .equal in
+    let the-if3 = c .before .before .before .before .before .before .before .before .if3 in
+    let the-equal2 = c .before .before .before .before .before .equal2 in
+    let the-if4 = c .before .before .before .before .if4 in
+    tells-bench _ _ (other-told _ _ _ (the-if1 .left) (word-some (the-next-word .ensures) (the-if2 .left)) _ _ _ (the-equal .ensures) (the-if3 .left) (the-equal2 .ensures) (the-if4 .left) (c .before .equal3 .ensures) (c .if5 .left))
 
 pub read-ask-spec : {M : Type 1} → statement M
 read-ask-spec =

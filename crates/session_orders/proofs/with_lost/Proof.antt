@@ -16,10 +16,14 @@ returns : tie.Need-returns
 returns c = lost-none _ _ _ (c .before .before .lone-number .ensures) (c .enum-told .given .1)
 
 returns-2 : tie.Need-returns-2
-returns-2 c = lost-taken _ _ _ _ (c .before .before .before .before .lone-number .ensures) (c .before .before .neighbour .given .1) (c .if1 .taken)
+returns-2 c =
+    let the-lone-number = c .before .before .before .before .lone-number in
+    lost-taken _ _ _ _ (the-lone-number .ensures) (c .before .before .neighbour .given .1) (c .if1 .taken)
 
 returns-3 : tie.Need-returns-3
-returns-3 c = lost-passed _ _ _ _ (c .before .before .before .before .lone-number .ensures) (c .before .before .neighbour .given .1) (c .if1 .left)
+returns-3 c =
+    let the-lone-number = c .before .before .before .before .lone-number in
+    lost-passed _ _ _ _ (the-lone-number .ensures) (c .before .before .neighbour .given .1) (c .if1 .left)
 
 pub with-lost-spec : {M : Type 1} → statement M
 with-lost-spec =

@@ -19,11 +19,15 @@ returns c = octets-none _ _ _ (c .before .before .number-hex .ensures) (c .enum-
 
 returns-2 : tie.Need-returns-2
 unfolding mayOffer
-returns-2 c = octets-taken _ _ _ (c .before .before .before .before .number-hex .ensures) _ _ _ _ (c .before .before .neighbour .given .1) refl (c .if1 .taken)
+returns-2 c =
+    let the-number-hex = c .before .before .before .before .number-hex in
+    octets-taken _ _ _ (the-number-hex .ensures) _ _ _ _ (c .before .before .neighbour .given .1) refl (c .if1 .taken)
 
 returns-3 : tie.Need-returns-3
 unfolding mayOffer
-returns-3 c = octets-passed _ _ _ (c .before .before .before .before .number-hex .ensures) _ _ _ _ (c .before .before .neighbour .given .1) refl (c .if1 .left)
+returns-3 c =
+    let the-number-hex = c .before .before .before .before .number-hex in
+    octets-passed _ _ _ (the-number-hex .ensures) _ _ _ _ (c .before .before .neighbour .given .1) refl (c .if1 .left)
 
 pub with-octets-spec : {M : Type 1} → statement M
 with-octets-spec =

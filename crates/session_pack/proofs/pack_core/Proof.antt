@@ -22,7 +22,11 @@ same-length : tie.Need-same-length
 same-length c = search needs
 
 returns-3 : tie.Need-returns-3
-returns-3 c = packs-all _ _ _ _ _ (c .before .before .before .before .before .before .before .before .if1 .left) (sym (c .before .before .before .before .before .before .has-room .ensures) ∙ not-false _ (c .before .before .before .before .before .if2 .left)) _ _ (c .before .before .put-all .ensures .0) (c .before .before .put-all .ensures .1)
+returns-3 c =
+    let the-if1 = c .before .before .before .before .before .before .before .before .if1 in
+    let the-has-room = c .before .before .before .before .before .before .has-room in
+    let the-if2 = c .before .before .before .before .before .if2 in
+    packs-all _ _ _ _ _ (the-if1 .left) (sym (the-has-room .ensures) ∙ not-false _ (the-if2 .left)) _ _ (c .before .before .put-all .ensures .0) (c .before .before .put-all .ensures .1)
 
 pub pack-core-spec : {M : Type 1} → statement M
 pack-core-spec =

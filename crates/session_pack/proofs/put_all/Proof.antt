@@ -17,7 +17,9 @@ find-requires : tie.Need-find-requires Inv-loop μ-loop
 find-requires c κs = search needs
 
 loop-holds : tie.Need-loop-holds Inv-loop μ-loop
-loop-holds c = writes-start _ (c .before .before .before .before .pre .0) _ _ _ _ (c .find .ensures)
+loop-holds c =
+    let start = c .before .before .before .before in
+    writes-start _ (start .pre .0) _ _ _ _ (c .find .ensures)
 
 message-size-requires : tie.Need-message-size-requires Inv-loop μ-loop
 message-size-requires c κs = search needs
@@ -42,34 +44,53 @@ part-put-message-end c = next-inside _ _ _ _ (c .before .before .before .loop .i
 
 put-message-requires : tie.Need-put-message-requires Inv-loop μ-loop
 put-message-requires c κs =
-    let stand = c .before .before .before .before .loop .inv .stand in
+    let the-loop = c .before .before .before .before .loop in
+    let start = c .before .before .before .before .before .before .before .before .before in
+    let stand = the-loop .inv .stand in
     let here = c .before .before .before .loop-test .taken in
     let size = c .before .before .message-size .ensures .0 in
     let small = message-small _ _ _ _ stand here size in
     let long = part-long _ _ _ _ stand here size in
-    (c .before .before .before .before .before .before .before .before .before .pre .0, omega (arith, long, small .0), omega (arith, long, small .1), c .before .before .before .before .loop .inv .low, c .before .before .before .before .loop .inv .opened, rw long (writes-room _ (c .before .before .before .before .before .before .before .before .before .pre .0) _ _ _ _ _ _ _ (c .before .before .before .before .loop .inv) here _ size (c .before .before .before .before .before .before .before .before .before .pre .1)))
+    (start .pre .0, omega (arith, long, small .0), omega (arith, long, small .1), the-loop .inv .low, the-loop .inv .opened, rw long (writes-room _ (start .pre .0) _ _ _ _ _ _ _ (the-loop .inv) here _ size (start .pre .1)))
 
 body-after-requires : tie.Need-body-after-requires Inv-loop μ-loop
-body-after-requires c κs = (c .before .before .before .before .before .before .before .loop .inv .low, message-small _ _ _ _ (c .before .before .before .before .before .before .before .loop .inv .stand) (c .before .before .before .before .before .before .loop-test .taken) (c .before .before .before .before .before .message-size .ensures .0) .1)
+body-after-requires c κs =
+    let the-loop = c .before .before .before .before .before .before .before .loop in
+    let the-loop-test = c .before .before .before .before .before .before .loop-test in
+    let the-message-size = c .before .before .before .before .before .message-size in
+    (the-loop .inv .low, message-small _ _ _ _ (the-loop .inv .stand) (the-loop-test .taken) (the-message-size .ensures .0) .1)
 
 find-requires-2 : tie.Need-find-requires-2 Inv-loop μ-loop
-find-requires-2 c κs = next-inside _ _ _ _ (c .before .before .before .before .before .before .before .before .loop .inv .stand) (c .before .before .before .before .before .before .before .loop-test .taken) (c .before .before .before .before .before .before .message-size .ensures .0)
+find-requires-2 c κs =
+    let the-loop = c .before .before .before .before .before .before .before .before .loop in
+    let the-loop-test = c .before .before .before .before .before .before .before .loop-test in
+    let the-message-size = c .before .before .before .before .before .before .message-size in
+    next-inside _ _ _ _ (the-loop .inv .stand) (the-loop-test .taken) (the-message-size .ensures .0)
 
 loop-less : tie.Need-loop-less Inv-loop μ-loop
-loop-less c = omega (arith, c .find2 .ensures .later, c .find2 .ensures .ends, c .before .before .before .before .before .before .before .before .loop-test .taken)
+loop-less c =
+    let the-loop-test = c .before .before .before .before .before .before .before .before .loop-test in
+    omega (arith, c .find2 .ensures .later, c .find2 .ensures .ends, the-loop-test .taken)
 
 loop-again : tie.Need-loop-again Inv-loop μ-loop
 loop-again c =
-    let stand = c .before .before .before .before .before .before .before .before .before .loop .inv .stand in
-    let here = c .before .before .before .before .before .before .before .before .loop-test .taken in
-    let size = c .before .before .before .before .before .before .before .message-size .ensures .0 in
-    writes-step _ (c .before .before .before .before .before .before .before .before .before .before .before .before .before .before .pre .0) _ _ _ _ _ _ _ (c .before .before .before .before .before .before .before .before .before .loop .inv) here _ _ _ _ _ _ size (message-part _ _ _ _ stand here size) (c .before .before .before .before .put-message .ensures) (c .before .body-after .ensures .0) (c .before .body-after .ensures .1) (c .find2 .ensures)
+    let the-loop = c .before .before .before .before .before .before .before .before .before .loop in
+    let the-loop-test = c .before .before .before .before .before .before .before .before .loop-test in
+    let the-message-size = c .before .before .before .before .before .before .before .message-size in
+    let start = c .before .before .before .before .before .before .before .before .before .before .before .before .before .before in
+    let the-put-message = c .before .before .before .before .put-message in
+    let stand = the-loop .inv .stand in
+    let here = the-loop-test .taken in
+    let size = the-message-size .ensures .0 in
+    writes-step _ (start .pre .0) _ _ _ _ _ _ _ (the-loop .inv) here _ _ _ _ _ _ size (message-part _ _ _ _ stand here size) (the-put-message .ensures) (c .before .body-after .ensures .0) (c .before .body-after .ensures .1) (c .find2 .ensures)
 
 same-length : tie.Need-same-length Inv-loop μ-loop
 same-length c = c .before .loop .inv .long
 
 returns : tie.Need-returns Inv-loop μ-loop
-returns c = writes-end _ (c .before .before .before .before .before .before .pre .0) _ _ _ _ _ _ _ (c .before .loop .inv) (c .loop-test .left)
+returns c =
+    let start = c .before .before .before .before .before .before in
+    writes-end _ (start .pre .0) _ _ _ _ _ _ _ (c .before .loop .inv) (c .loop-test .left)
 
 pub put-all-spec : {M : Type 1} → statement M
 put-all-spec =

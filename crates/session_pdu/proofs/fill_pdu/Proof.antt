@@ -50,7 +50,10 @@ same-length : tie.Need-same-length
 same-length c = search needs
 
 returns : tie.Need-returns
-returns c = fill-parts (c .before .before .before .before .before .before .before .before .before .before .args .at) (c .before .before .before .before .before .before .before .before .before .before .args .body) (c .before .before .before .before .before .before .before .before .before .before .args .out .now) _ _ (c .before .before .before .before .before .before .before .before .before .before .args .message .now) (c .before .before .before .before .before .before .put-length .ensures) (c .before .before .copy .ensures)
+returns c =
+    let start = c .before .before .before .before .before .before .before .before .before .before in
+    let the-put-length = c .before .before .before .before .before .before .put-length in
+    fill-parts (start .args .at) (start .args .body) (start .args .out .now) _ _ (start .args .message .now) (the-put-length .ensures) (c .before .before .copy .ensures)
 
 pub fill-pdu-spec : {M : Type 1} → statement M
 fill-pdu-spec =

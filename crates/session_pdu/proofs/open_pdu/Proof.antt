@@ -50,7 +50,11 @@ same-length : tie.Need-same-length
 same-length c = search needs
 
 returns : tie.Need-returns
-returns c = open-parts (c .before .before .before .before .before .before .before .before .before .before .before .before .before .before .before .args .out .now) _ _ _ (c .before .before .before .before .before .before .before .before .before .before .before .before .before .before .before .args .id .now) (c .before .before .before .before .before .before .before .before .before .before .before .before .before .before .before .args .message .now) (c .before .before .before .before .before .before .before .before .before .before .before .before .before .before .before .pre .0) (c .before .before .before .before .before .before .before .before .before .before .before .before .before .before .before .pre .2) (c .before .before .before .before .before .before .before .before .before .before .put-head .ensures) (c .before .before .before .before .before .before .copy .ensures) (c .before .before .copy2 .ensures)
+returns c =
+    let start = c .before .before .before .before .before .before .before .before .before .before .before .before .before .before .before in
+    let the-put-head = c .before .before .before .before .before .before .before .before .before .before .put-head in
+    let the-copy = c .before .before .before .before .before .before .copy in
+    open-parts (start .args .out .now) _ _ _ (start .args .id .now) (start .args .message .now) (start .pre .0) (start .pre .2) (the-put-head .ensures) (the-copy .ensures) (c .before .before .copy2 .ensures)
 
 pub open-pdu-spec : {M : Type 1} → statement M
 open-pdu-spec =

@@ -10,7 +10,9 @@ add-if1 : tie.Need-add-if1
 add-if1 c = search needs
 
 fill-pdu-requires : tie.Need-fill-pdu-requires
-fill-pdu-requires c κs = (c .before .if1 .taken, c .before .before .before .before .before .pre .4 (omega (arith, c .before .if1 .taken, c .before .before .before .before .before .pre .1)), omega (arith, c .before .before .before .before .before .pre .5, added-more _ _ (c .before .if1 .taken)))
+fill-pdu-requires c κs =
+    let start = c .before .before .before .before .before in
+    (c .before .if1 .taken, start .pre .4 (omega (arith, c .before .if1 .taken, start .pre .1)), omega (arith, start .pre .5, added-more _ _ (c .before .if1 .taken)))
 
 add-result : tie.Need-add-result
 add-result c = search needs
@@ -20,9 +22,11 @@ same-length c = search needs
 
 returns : tie.Need-returns
 returns c =
+    let the-if1 = c .before .before .before .before .if1 in
+    let start = c .before .before .before .before .before .before .before .before in
     let a = c .before .before .before .before .before .before .before .before .args in
-    let fits = c .before .before .before .before .if1 .taken in
-    put-more (a .id .now) (a .at) (a .body) (a .out .now) (a .message .now) (omega (arith, c .before .before .before .before .before .before .before .before .pre .5, added-more _ _ fits)) fits (c .before .before .before .before .before .before .before .before .pre .4 (omega (arith, fits, c .before .before .before .before .before .before .before .before .pre .1))) _ (c .before .before .fill-pdu .ensures)
+    let fits = the-if1 .taken in
+    put-more (a .id .now) (a .at) (a .body) (a .out .now) (a .message .now) (omega (arith, start .pre .5, added-more _ _ fits)) fits (start .pre .4 (omega (arith, fits, start .pre .1))) _ (c .before .before .fill-pdu .ensures)
 
 add-end : tie.Need-add-end
 add-end c = search needs
@@ -37,7 +41,9 @@ part-open-pdu-start : tie.Need-part-open-pdu-start
 part-open-pdu-start c = search needs
 
 part-open-pdu-end : tie.Need-part-open-pdu-end
-part-open-pdu-end c = omega (arith, c .before .before .before .before .pre .5, added-new _ _ (c .if1 .left))
+part-open-pdu-end c =
+    let start = c .before .before .before .before in
+    omega (arith, start .pre .5, added-new _ _ (c .if1 .left))
 
 open-pdu-requires : tie.Need-open-pdu-requires
 open-pdu-requires c κs = search needs
@@ -47,8 +53,10 @@ same-length-2 c = search needs
 
 returns-2 : tie.Need-returns-2
 returns-2 c =
+    let start = c .before .before .before .before .before .before .before .before in
+    let the-if1 = c .before .before .before .before .if1 in
     let a = c .before .before .before .before .before .before .before .before .args in
-    put-new (a .id .now) (a .at) (a .body) (a .out .now) (a .message .now) (c .before .before .before .before .before .before .before .before .pre .0) (omega (arith, c .before .before .before .before .before .before .before .before .pre .5, added-new _ _ (c .before .before .before .before .if1 .left))) (c .before .before .before .before .if1 .left) _ _ (c .before .before .open-pdu .ensures) refl
+    put-new (a .id .now) (a .at) (a .body) (a .out .now) (a .message .now) (start .pre .0) (omega (arith, start .pre .5, added-new _ _ (the-if1 .left))) (the-if1 .left) _ _ (c .before .before .open-pdu .ensures) refl
 
 pub put-message-spec : {M : Type 1} → statement M
 put-message-spec =

@@ -32,7 +32,9 @@ is-record-requires : tie.Need-is-record-requires Inv-loop μ-loop
 is-record-requires c κs = search needs
 
 returns : tie.Need-returns Inv-loop μ-loop
-returns c = finds-none _ _ _ _ (c .before .before .before .before .loop .inv .0) (c .before .before .before .before .loop .inv .1) (c .before .before .before .before .loop .inv .2) (sym (c .before .is-record .ensures) ∙ not-true _ (c .if1 .taken))
+returns c =
+    let the-loop = c .before .before .before .before .loop in
+    finds-none _ _ _ _ (the-loop .inv .0) (the-loop .inv .1) (the-loop .inv .2) (sym (c .before .is-record .ensures) ∙ not-true _ (c .if1 .taken))
 
 add-two-at : tie.Need-add-two-at Inv-loop μ-loop
 add-two-at c = search needs
@@ -41,30 +43,46 @@ two-at-requires : tie.Need-two-at-requires Inv-loop μ-loop
 two-at-requires c κs = search needs
 
 returns-2 : tie.Need-returns-2 Inv-loop μ-loop
-returns-2 c = finds-there _ _ _ _ (c .before .before .before .before .before .before .loop .inv .0) (c .before .before .before .before .before .before .loop .inv .1) (c .before .before .before .before .before .before .loop .inv .2) (c .before .before .before .before .before .loop-test .taken) (sym (c .before .before .before .is-record .ensures) ∙ not-false _ (c .before .before .if1 .left)) (sym (c .before .two-at .ensures .0) ∙ c .if2 .taken)
+returns-2 c =
+    let the-loop = c .before .before .before .before .before .before .loop in
+    let the-loop-test = c .before .before .before .before .before .loop-test in
+    finds-there _ _ _ _ (the-loop .inv .0) (the-loop .inv .1) (the-loop .inv .2) (the-loop-test .taken) (sym (c .before .before .before .is-record .ensures) ∙ not-false _ (c .before .before .if1 .left)) (sym (c .before .two-at .ensures .0) ∙ c .if2 .taken)
 
 message-size-requires : tie.Need-message-size-requires Inv-loop μ-loop
 message-size-requires c κs = search needs
 
 add-i : tie.Need-add-i Inv-loop μ-loop
 add-i c =
-    let more = finds-on (c .before .before .before .before .before .before .before .before .before .args .to) (c .before .before .before .before .before .before .before .before .before .args .from) (c .before .before .before .before .before .before .before .before .before .args .records .now) (c .before .before .before .before .before .before .before .loop .i) (c .before .before .before .before .before .before .before .loop .inv .0) (c .before .before .before .before .before .before .before .loop .inv .1) (c .before .before .before .before .before .before .before .loop .inv .2) _ (c .message-size .ensures .0) (sym (c .before .before .before .before .is-record .ensures) ∙ not-false _ (c .before .before .before .if1 .left)) (λ e. c .before .if2 .left (c .before .before .two-at .ensures .0 ∙ e)) in
+    let start = c .before .before .before .before .before .before .before .before .before in
+    let the-loop = c .before .before .before .before .before .before .before .loop in
+    let the-is-record = c .before .before .before .before .is-record in
+    let more = finds-on (start .args .to) (start .args .from) (start .args .records .now) (the-loop .i) (the-loop .inv .0) (the-loop .inv .1) (the-loop .inv .2) _ (c .message-size .ensures .0) (sym (the-is-record .ensures) ∙ not-false _ (c .before .before .before .if1 .left)) (λ e. c .before .if2 .left (c .before .before .two-at .ensures .0 ∙ e)) in
     omega (arith, c .message-size .ensures .1)
 
 add-i-2 : tie.Need-add-i-2 Inv-loop μ-loop
 add-i-2 c =
-    let more = finds-on (c .before .before .before .before .before .before .before .before .before .args .to) (c .before .before .before .before .before .before .before .before .before .args .from) (c .before .before .before .before .before .before .before .before .before .args .records .now) (c .before .before .before .before .before .before .before .loop .i) (c .before .before .before .before .before .before .before .loop .inv .0) (c .before .before .before .before .before .before .before .loop .inv .1) (c .before .before .before .before .before .before .before .loop .inv .2) _ (c .message-size .ensures .0) (sym (c .before .before .before .before .is-record .ensures) ∙ not-false _ (c .before .before .before .if1 .left)) (λ e. c .before .if2 .left (c .before .before .two-at .ensures .0 ∙ e)) in
+    let start = c .before .before .before .before .before .before .before .before .before in
+    let the-loop = c .before .before .before .before .before .before .before .loop in
+    let the-is-record = c .before .before .before .before .is-record in
+    let more = finds-on (start .args .to) (start .args .from) (start .args .records .now) (the-loop .i) (the-loop .inv .0) (the-loop .inv .1) (the-loop .inv .2) _ (c .message-size .ensures .0) (sym (the-is-record .ensures) ∙ not-false _ (c .before .before .before .if1 .left)) (λ e. c .before .if2 .left (c .before .before .two-at .ensures .0 ∙ e)) in
     omega (arith, more .0)
 
 loop-less : tie.Need-loop-less Inv-loop μ-loop
 loop-less c =
-    let more = finds-on (c .before .before .before .before .before .before .before .before .before .args .to) (c .before .before .before .before .before .before .before .before .before .args .from) (c .before .before .before .before .before .before .before .before .before .args .records .now) (c .before .before .before .before .before .before .before .loop .i) (c .before .before .before .before .before .before .before .loop .inv .0) (c .before .before .before .before .before .before .before .loop .inv .1) (c .before .before .before .before .before .before .before .loop .inv .2) _ (c .message-size .ensures .0) (sym (c .before .before .before .before .is-record .ensures) ∙ not-false _ (c .before .before .before .if1 .left)) (λ e. c .before .if2 .left (c .before .before .two-at .ensures .0 ∙ e)) in
-    omega (arith, more .0, c .before .before .before .before .before .before .loop-test .taken)
+    let start = c .before .before .before .before .before .before .before .before .before in
+    let the-loop = c .before .before .before .before .before .before .before .loop in
+    let the-is-record = c .before .before .before .before .is-record in
+    let the-loop-test = c .before .before .before .before .before .before .loop-test in
+    let more = finds-on (start .args .to) (start .args .from) (start .args .records .now) (the-loop .i) (the-loop .inv .0) (the-loop .inv .1) (the-loop .inv .2) _ (c .message-size .ensures .0) (sym (the-is-record .ensures) ∙ not-false _ (c .before .before .before .if1 .left)) (λ e. c .before .if2 .left (c .before .before .two-at .ensures .0 ∙ e)) in
+    omega (arith, more .0, the-loop-test .taken)
 
 loop-again : tie.Need-loop-again Inv-loop μ-loop
 loop-again c =
-    let more = finds-on (c .before .before .before .before .before .before .before .before .before .args .to) (c .before .before .before .before .before .before .before .before .before .args .from) (c .before .before .before .before .before .before .before .before .before .args .records .now) (c .before .before .before .before .before .before .before .loop .i) (c .before .before .before .before .before .before .before .loop .inv .0) (c .before .before .before .before .before .before .before .loop .inv .1) (c .before .before .before .before .before .before .before .loop .inv .2) _ (c .message-size .ensures .0) (sym (c .before .before .before .before .is-record .ensures) ∙ not-false _ (c .before .before .before .if1 .left)) (λ e. c .before .if2 .left (c .before .before .two-at .ensures .0 ∙ e)) in
-    (omega (arith, c .before .before .before .before .before .before .before .loop .inv .0), more .0, more .1)
+    let start = c .before .before .before .before .before .before .before .before .before in
+    let the-loop = c .before .before .before .before .before .before .before .loop in
+    let the-is-record = c .before .before .before .before .is-record in
+    let more = finds-on (start .args .to) (start .args .from) (start .args .records .now) (the-loop .i) (the-loop .inv .0) (the-loop .inv .1) (the-loop .inv .2) _ (c .message-size .ensures .0) (sym (the-is-record .ensures) ∙ not-false _ (c .before .before .before .if1 .left)) (λ e. c .before .if2 .left (c .before .before .two-at .ensures .0 ∙ e)) in
+    (omega (arith, the-loop .inv .0), more .0, more .1)
 
 returns-3 : tie.Need-returns-3 Inv-loop μ-loop
 returns-3 c = finds-end _ _ _ _ (c .before .loop .inv .0) (c .before .loop .inv .1) (c .before .loop .inv .2) (c .loop-test .left)

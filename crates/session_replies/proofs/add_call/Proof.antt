@@ -29,7 +29,10 @@ same-length c = search needs
 
 returns : tie.Need-returns
 unfolding callText ascii
-returns c = (adds-then (c .before .before .before .before .before .before .before .before .before .before .before .before .add-named .ensures .0) (adds-then (c .before .before .before .before .before .before .before .add-named2 .ensures .0) (c .before .before .add-records .ensures .0)), omega arith)
+returns c =
+    let the-add-named = c .before .before .before .before .before .before .before .before .before .before .before .before .add-named in
+    let the-add-named2 = c .before .before .before .before .before .before .before .add-named2 in
+    (adds-then (the-add-named .ensures .0) (adds-then (the-add-named2 .ensures .0) (c .before .before .add-records .ensures .0)), omega arith)
 
 pub add-call-spec : {M : Type 1} → statement M
 add-call-spec =

@@ -30,7 +30,9 @@ copy-numbers-requires : tie.Need-copy-numbers-requires
 copy-numbers-requires c κs = search needs
 
 returns : tie.Need-returns
-returns c = rw (width (c .before .before .before .before .before .args .n * 4) 4) at (c .before .copy-numbers .ensures)
+returns c =
+    let start = c .before .before .before .before .before in
+    rw (width (start .args .n * 4) 4) at (c .before .copy-numbers .ensures)
 
 pub numbers-of-spec : {M : Type 1} → statement M
 numbers-of-spec =

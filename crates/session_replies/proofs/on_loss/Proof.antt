@@ -25,18 +25,21 @@ same-length-2 : tie.Need-same-length-2
 same-length-2 c = search needs
 
 returns : tie.Need-returns
-returns c = λ number bs.
+returns c =
+    let the-tell-loss = c .before .before .before .before .before .before .before .tell-loss in
+    let the-numbers-of = c .before .before .before .before .before .before .before .before .before .before .before .before .numbers-of in
+    λ number bs.
     let start = c .before .before .before .before .before .before .before .before .before .before .before .before .before .before .before .before in
-    let told = c .before .before .before .before .before .before .before .tell-loss .ensures in
+    let told = the-tell-loss .ensures in
     let put = c .before .before .put-numbers .ensures in
     let h : start .args .neighbour < 4 = start .pre .0 in
     let streams = start .args .streams .now in
-    let stream = c .before .before .before .before .before .before .before .tell-loss .last .1 .1 .0 in
+    let stream = the-tell-loss .last .1 .1 .0 in
     says-loss (start .args .neighbour) (start .args .room) (cardOf (start .args .numbers .now) (start .args .names .now)) streams stream (c .before .before .put-numbers .last .0) bs
     h
     (rw (put .1) (four-numbers streams stream (start .args .neighbour) h (start .pre .1) (put .0) bs))
     (told .0)
-    (rw (sym (c .before .before .before .before .before .before .before .before .before .before .before .before .numbers-of .ensures)) (told .1 (bufferOf bs (start .args .neighbour))))
+    (rw (sym (the-numbers-of .ensures)) (told .1 (bufferOf bs (start .args .neighbour))))
     number
 
 pub on-loss-spec : {M : Type 1} → statement M

@@ -29,7 +29,10 @@ same-length-2 : tie.Need-same-length-2
 same-length-2 c = search needs
 
 returns : tie.Need-returns
-returns c = λ number bs l e. says-decoded _ _ _ _ (c .before .before .before .before .before .before .before .before .before .before .before .before .decode-hex .ensures .0) (c .before .before .before .before .take-turns .ensures number bs l e)
+returns c =
+    let the-decode-hex = c .before .before .before .before .before .before .before .before .before .before .before .before .decode-hex in
+    let the-take-turns = c .before .before .before .before .take-turns in
+    λ number bs l e. says-decoded _ _ _ _ (the-decode-hex .ensures .0) (the-take-turns .ensures number bs l e)
 
 pub on-octets-spec : {M : Type 1} → statement M
 on-octets-spec =

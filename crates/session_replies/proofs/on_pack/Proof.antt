@@ -41,9 +41,13 @@ slice-aggregate-put-event c = search needs
 
 put-event-requires : tie.Need-put-event-requires
 put-event-requires c κs =
+    let the-pdus = c .before .before .before .before .before .before .before .before .before .before .pdus in
+    let the-lent = c .before .before .before .before .before .lent in
+    let the-decode-hex = c .before .before .before .before .before .before .before .before .before .before .before .before .decode-hex in
+    let the-identifier = c .before .before .before .before .before .before .before .before .before .identifier in
     let start = c .before .before .before .before .before .before .before .before .before .before .before .before .before .before .before .before .before in
     let made = c .before .before .before .pack .ensures in
-    (omega arith, pack-short (start .args .neighbour) (start .args .room) (c .before .before .before .before .before .before .before .before .before .before .pdus .ensures) (c .before .before .before .before .before .lent .ensures .1) (c .before .before .before .before .before .before .before .before .before .before .before .before .decode-hex .ensures .0) (c .before .before .before .before .before .before .before .before .before .identifier .ensures) (made .0) (made .1), start .pre .1)
+    (omega arith, pack-short (start .args .neighbour) (start .args .room) (the-pdus .ensures) (the-lent .ensures .1) (the-decode-hex .ensures .0) (the-identifier .ensures) (made .0) (made .1), start .pre .1)
 
 same-length : tie.Need-same-length
 same-length c = search needs
@@ -51,10 +55,15 @@ same-length c = search needs
 returns : tie.Need-returns
 unfolding ascii
 returns c =
+    let the-pack = c .before .before .before .before .before .before .before .pack in
+    let the-pdus = c .before .before .before .before .before .before .before .before .before .before .before .before .before .before .pdus in
+    let the-lent = c .before .before .before .before .before .before .before .before .before .lent in
+    let the-decode-hex = c .before .before .before .before .before .before .before .before .before .before .before .before .before .before .before .before .decode-hex in
+    let the-identifier = c .before .before .before .before .before .before .before .before .before .before .before .before .before .identifier in
     let start = c .before .before .before .before .before .before .before .before .before .before .before .before .before .before .before .before .before .before .before .before .before in
-    let made = c .before .before .before .before .before .before .before .pack .ensures in
+    let made = the-pack .ensures in
     let told = c .before .before .before .put-event .ensures in
-    (told .1, pack-told (start .args .neighbour) (start .args .room) (c .before .before .before .before .before .before .before .before .before .before .before .before .before .before .pdus .ensures) (c .before .before .before .before .before .before .before .before .before .lent .ensures .1) (c .before .before .before .before .before .before .before .before .before .before .before .before .before .before .before .before .decode-hex .ensures .0) (c .before .before .before .before .before .before .before .before .before .before .before .before .before .identifier .ensures) (made .0) (made .1) _ (told .0))
+    (told .1, pack-told (start .args .neighbour) (start .args .room) (the-pdus .ensures) (the-lent .ensures .1) (the-decode-hex .ensures .0) (the-identifier .ensures) (made .0) (made .1) _ (told .0))
 
 pub on-pack-spec : {M : Type 1} → statement M
 on-pack-spec =

@@ -31,7 +31,9 @@ same-length : tie.Need-same-length
 same-length c = search needs
 
 returns : tie.Need-returns
-returns c = (search needs, rw (c .before .before .copy-numbers .ensures, width (c .before .before .before .before .before .before .args .n * 4) 4) refl)
+returns c =
+    let start = c .before .before .before .before .before .before in
+    (search needs, rw (c .before .before .copy-numbers .ensures, width (start .args .n * 4) 4) refl)
 
 pub put-numbers-spec : {M : Type 1} → statement M
 put-numbers-spec =

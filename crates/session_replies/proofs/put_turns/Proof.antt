@@ -43,9 +43,11 @@ loop-holds c =
 
 turn-requires : tie.Need-turn-requires Inv-loop μ-loop
 turn-requires c κs =
-    let inv = c .before .before .before .before .before .before .loop .inv in
+    let the-loop = c .before .before .before .before .before .before .loop in
+    let the-loop-test = c .before .before .before .before .before .loop-test in
+    let inv = the-loop .inv in
     let start = c .before .before .before .before .before .before .before .before .before .before .before .before .before .before .before in
-    (omega arith, inv .2 .within, omega (arith, inv .2 .space (c .before .before .before .before .before .loop-test .taken)))
+    (omega arith, inv .2 .within, omega (arith, inv .2 .space (the-loop-test .taken)))
 
 left-after-requires : tie.Need-left-after-requires Inv-loop μ-loop
 left-after-requires c κs = search needs
@@ -54,7 +56,11 @@ loop-less : tie.Need-loop-less Inv-loop μ-loop
 loop-less c = search needs
 
 loop-again : tie.Need-loop-again Inv-loop μ-loop
-loop-again c = (omega arith, omega arith, goes-next _ _ _ _ (c .before .before .before .before .before .before .before .before .before .before .before .before .loop .inv .2) (c .before .before .before .before .before .before .before .before .before .before .before .loop-test .taken) (c .before .before .before .before .before .turn .ensures) _ (c .left-after .ensures .0))
+loop-again c =
+    let the-loop = c .before .before .before .before .before .before .before .before .before .before .before .before .loop in
+    let the-loop-test = c .before .before .before .before .before .before .before .before .before .before .before .loop-test in
+    let the-turn = c .before .before .before .before .before .turn in
+    (omega arith, omega arith, goes-next _ _ _ _ (the-loop .inv .2) (the-loop-test .taken) (the-turn .ensures) _ (c .left-after .ensures .0))
 
 slice-aggregate-add-2 : tie.Need-slice-aggregate-add-2 Inv-loop μ-loop
 slice-aggregate-add-2 c = search needs
@@ -69,7 +75,10 @@ same-length-2 : tie.Need-same-length-2 Inv-loop μ-loop
 same-length-2 c = search needs
 
 returns : tie.Need-returns Inv-loop μ-loop
-returns c = goes-out _ _ _ _ (c .before .before .before .before .before .before .loop .inv .2) (c .before .before .before .before .before .loop-test .left) (c .before .before .add2 .ensures)
+returns c =
+    let the-loop = c .before .before .before .before .before .before .loop in
+    let the-loop-test = c .before .before .before .before .before .loop-test in
+    goes-out _ _ _ _ (the-loop .inv .2) (the-loop-test .left) (c .before .before .add2 .ensures)
 
 pub put-turns-spec : {M : Type 1} → statement M
 put-turns-spec =

@@ -22,18 +22,21 @@ same-length-2 : tie.Need-same-length-2
 same-length-2 c = search needs
 
 returns : tie.Need-returns
-returns c = λ number bs l e.
+returns c =
+    let the-put-turns = c .before .before .before .before .before .before .before .put-turns in
+    let the-numbers-of = c .before .before .before .before .before .before .before .before .before .before .before .before .before .numbers-of in
+    λ number bs l e.
     let start = c .before .before .before .before .before .before .before .before .before .before .before .before .before .before .before .before .before .before in
     let n = start .args .n in
-    let told = c .before .before .before .before .before .before .before .put-turns .ensures in
+    let told = the-put-turns .ensures in
     let put = c .before .before .put-numbers .ensures in
     let streams = start .args .streams .now in
-    let stream = c .before .before .before .before .before .before .before .put-turns .last .1 .1 .0 in
-    let buffer = c .before .before .before .before .before .before .before .put-turns .last .1 .1 .1 .0 in
+    let stream = the-put-turns .last .1 .1 .0 in
+    let buffer = the-put-turns .last .1 .1 .1 .0 in
     says-turns n (start .args .neighbour) (start .args .room) (cardOf (start .args .numbers .now) (start .args .names .now)) streams (start .args .octets .now) stream buffer _ bs _
     (start .pre .0)
     (rw (put .1) (four-both streams stream n (start .pre .0) (start .pre .1) (put .0) bs buffer l))
-    (rw (c .before .before .before .before .before .before .before .before .before .before .before .before .before .numbers-of .ensures, ← e) at told)
+    (rw (the-numbers-of .ensures, ← e) at told)
     number
 
 pub take-turns-spec : {M : Type 1} → statement M

@@ -28,9 +28,12 @@ slice-aggregate-put-event c = search needs
 
 put-event-requires : tie.Need-put-event-requires
 put-event-requires c κs =
-    let all = c .before .before .before .before .before .before .before .before .before .before .records .ensures in
-    let given = c .before .before .before .before .before .lent .ensures .1 in
-    (omega arith, part-fits _ (saveLimit new) (c .before .before .before .lose .ensures .0) (event-fits _ _ _) (omega arith), c .before .before .before .before .before .before .before .before .before .before .before .before .pre)
+    let the-records = c .before .before .before .before .before .before .before .before .before .before .records in
+    let the-lent = c .before .before .before .before .before .lent in
+    let start = c .before .before .before .before .before .before .before .before .before .before .before .before in
+    let all = the-records .ensures in
+    let given = the-lent .ensures .1 in
+    (omega arith, part-fits _ (saveLimit new) (c .before .before .before .lose .ensures .0) (event-fits _ _ _) (omega arith), start .pre)
 
 same-length : tie.Need-same-length
 same-length c = search needs
@@ -38,11 +41,14 @@ same-length c = search needs
 returns : tie.Need-returns
 unfolding replyTo ascii
 returns c =
+    let the-lose = c .before .before .before .before .before .before .before .lose in
+    let the-records = c .before .before .before .before .before .before .before .before .before .before .before .before .before .before .records in
+    let the-lent = c .before .before .before .before .before .before .before .before .before .lent in
     let start = c .before .before .before .before .before .before .before .before .before .before .before .before .before .before .before .before in
     let told = c .before .before .before .put-event .ensures in
-    let call = c .before .before .before .before .before .before .before .lose .ensures in
-    let all = c .before .before .before .before .before .before .before .before .before .before .before .before .before .before .records .ensures in
-    let given = c .before .before .before .before .before .before .before .before .before .lent .ensures .1 in (
+    let call = the-lose .ensures in
+    let all = the-records .ensures in
+    let given = the-lent .ensures .1 in (
       λ number. says-told (λ m. event m (cardOf (start .args .numbers .now) (start .args .names .now)) (lost (start .args .neighbour))) _ _ _ _ (omega arith) (call .0) (told .1) (told .0),
       λ buffer. loss-left (λ m. event m (cardOf (start .args .numbers .now) (start .args .names .now)) (lost (start .args .neighbour))) _ _ (omega arith) (call .0) (call .1 buffer),
     )

@@ -33,30 +33,42 @@ serve-requires c κs = search needs
 
 add-call-requires : tie.Need-add-call-requires
 add-call-requires c κs =
+    let the-identifier = c .before .before .before .before .before .before .before .before .before .before .before .before .before .before .before .before .identifier in
+    let the-lent = c .before .before .before .before .before .before .before .lent in
+    let the-output = c .before .before .before .before .before .before .before .before .before .before .before .before .before .before .before .output in
+    let the-serve = c .before .before .before .before .serve in
     let start = c .before .before .before .before .before .before .before .before .before .before .before .before .before .before .before .before .before .before .before .before in
     let o = start .args .octets .now in
     let card = cardOf (start .args .numbers .now) (start .args .names .now) in
     let stream = streamOf (start .args .stream .now) (start .args .buffer .now) in
-    let h = turn-hands (start .args .neighbour) (start .args .room) card stream o (start .args .from) (c .before .before .before .before .before .before .before .before .before .before .before .before .before .before .before .before .identifier .ensures) (c .before .before .before .before .before .before .before .lent .ensures .1) (c .before .before .before .before .before .before .before .before .before .before .before .before .before .before .before .output .ensures) (start .pre .0) (c .before .before .before .before .serve .ensures .0) in
+    let h = turn-hands (start .args .neighbour) (start .args .room) card stream o (start .args .from) (the-identifier .ensures) (the-lent .ensures .1) (the-output .ensures) (start .pre .0) (the-serve .ensures .0) in
     turn-text _ stream o (start .args .from) (start .args .at) (called-leaves _ _ _ _ _) h _ (start .pre .2)
 
 add-next : tie.Need-add-next
 add-next c =
+    let the-identifier = c .before .before .before .before .before .before .before .before .before .before .before .before .before .before .before .before .before .before .before .before .identifier in
+    let the-lent = c .before .before .before .before .before .before .before .before .before .before .before .lent in
+    let the-output = c .before .before .before .before .before .before .before .before .before .before .before .before .before .before .before .before .before .before .before .output in
+    let the-serve = c .before .before .before .before .before .before .before .before .serve in
     let start = c .before .before .before .before .before .before .before .before .before .before .before .before .before .before .before .before .before .before .before .before .before .before .before .before in
     let o = start .args .octets .now in
     let card = cardOf (start .args .numbers .now) (start .args .names .now) in
     let stream = streamOf (start .args .stream .now) (start .args .buffer .now) in
-    let h = turn-hands (start .args .neighbour) (start .args .room) card stream o (start .args .from) (c .before .before .before .before .before .before .before .before .before .before .before .before .before .before .before .before .before .before .before .before .identifier .ensures) (c .before .before .before .before .before .before .before .before .before .before .before .lent .ensures .1) (c .before .before .before .before .before .before .before .before .before .before .before .before .before .before .before .before .before .before .before .output .ensures) (start .pre .0) (c .before .before .before .before .before .before .before .before .serve .ensures .0) in
+    let h = turn-hands (start .args .neighbour) (start .args .room) card stream o (start .args .from) (the-identifier .ensures) (the-lent .ensures .1) (the-output .ensures) (start .pre .0) (the-serve .ensures .0) in
     let w = turn-within _ stream o (start .args .from) (start .args .at) (called-leaves _ _ _ _ _) h (start .pre .1) in
     search needs
 
 sub-is-last : tie.Need-sub-is-last
 sub-is-last c =
+    let the-identifier = c .before .before .before .before .before .before .before .before .before .before .before .before .before .before .before .before .before .before .before .before .identifier in
+    let the-lent = c .before .before .before .before .before .before .before .before .before .before .before .lent in
+    let the-output = c .before .before .before .before .before .before .before .before .before .before .before .before .before .before .before .before .before .before .before .output in
+    let the-serve = c .before .before .before .before .before .before .before .before .serve in
     let start = c .before .before .before .before .before .before .before .before .before .before .before .before .before .before .before .before .before .before .before .before .before .before .before .before in
     let o = start .args .octets .now in
     let card = cardOf (start .args .numbers .now) (start .args .names .now) in
     let stream = streamOf (start .args .stream .now) (start .args .buffer .now) in
-    let h = turn-hands (start .args .neighbour) (start .args .room) card stream o (start .args .from) (c .before .before .before .before .before .before .before .before .before .before .before .before .before .before .before .before .before .before .before .before .identifier .ensures) (c .before .before .before .before .before .before .before .before .before .before .before .lent .ensures .1) (c .before .before .before .before .before .before .before .before .before .before .before .before .before .before .before .before .before .before .before .output .ensures) (start .pre .0) (c .before .before .before .before .before .before .before .before .serve .ensures .0) in
+    let h = turn-hands (start .args .neighbour) (start .args .room) card stream o (start .args .from) (the-identifier .ensures) (the-lent .ensures .1) (the-output .ensures) (start .pre .0) (the-serve .ensures .0) in
     turn-within _ stream o (start .args .from) (start .args .at) (called-leaves _ _ _ _ _) h (start .pre .1)
 
 is-last-requires : tie.Need-is-last-requires
@@ -70,12 +82,17 @@ same-length-2 c = search needs
 
 returns : tie.Need-returns
 returns c =
+    let the-identifier = c .before .before .before .before .before .before .before .before .before .before .before .before .before .before .before .before .before .before .before .before .before .before .before .identifier in
+    let the-lent = c .before .before .before .before .before .before .before .before .before .before .before .before .before .before .lent in
+    let the-output = c .before .before .before .before .before .before .before .before .before .before .before .before .before .before .before .before .before .before .before .before .before .before .output in
+    let the-serve = c .before .before .before .before .before .before .before .before .before .before .before .serve in
+    let the-add-call = c .before .before .before .before .before .before .add-call in
     let start = c .before .before .before .before .before .before .before .before .before .before .before .before .before .before .before .before .before .before .before .before .before .before .before .before .before .before .before in
     let o = start .args .octets .now in
     let card = cardOf (start .args .numbers .now) (start .args .names .now) in
     let stream = streamOf (start .args .stream .now) (start .args .buffer .now) in
-    let h = turn-hands (start .args .neighbour) (start .args .room) card stream o (start .args .from) (c .before .before .before .before .before .before .before .before .before .before .before .before .before .before .before .before .before .before .before .before .before .before .before .identifier .ensures) (c .before .before .before .before .before .before .before .before .before .before .before .before .before .before .lent .ensures .1) (c .before .before .before .before .before .before .before .before .before .before .before .before .before .before .before .before .before .before .before .before .before .before .output .ensures) (start .pre .0) (c .before .before .before .before .before .before .before .before .before .before .before .serve .ensures .0) in
-    turn-did _ stream o (start .args .from) (start .args .at) (called-leaves _ _ _ _ _) h (start .pre .1) (c .before .before .before .before .before .before .add-call .ensures .0) (c .before .before .before .before .before .before .add-call .ensures .1) (c .is-last .ensures)
+    let h = turn-hands (start .args .neighbour) (start .args .room) card stream o (start .args .from) (the-identifier .ensures) (the-lent .ensures .1) (the-output .ensures) (start .pre .0) (the-serve .ensures .0) in
+    turn-did _ stream o (start .args .from) (start .args .at) (called-leaves _ _ _ _ _) h (start .pre .1) (the-add-call .ensures .0) (the-add-call .ensures .1) (c .is-last .ensures)
 
 pub turn-spec : {M : Type 1} → statement M
 turn-spec =

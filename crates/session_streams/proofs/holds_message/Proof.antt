@@ -46,13 +46,26 @@ enum-known-shows c = search needs
 
 returns-2 : tie.Need-returns-2
 returns-2 c =
-    let held = short-held _ _ _ _ _ _ (c .before .before .before .before .before .before .before .before .place-of .ensures .0) (c .before .before .before .before .before .before .count-of .ensures .0) (c .before .before .before .before .before .before .before .least .ensures .0) (c .before .before .before .before .before .least2 .ensures .0) in
-    holds-one _ _ _ (c .before .before .before .before .before .before .before .least .result) (c .before .before .before .before .before .least2 .result) (sym (c .before .before .before .before .before .before .before .before .before .before .if1 .left) ∙ c .before .before .before .before .before .before .before .before .before .before .before .is-stopped .ensures _) (c .before .before .before .before .before .before .before .before .before .left-of .ensures .0) held _ (c .before .before .before .look-message .ensures) _ (c .before .shows .given .1)
+    let the-place-of = c .before .before .before .before .before .before .before .before .place-of in
+    let the-count-of = c .before .before .before .before .before .before .count-of in
+    let the-least = c .before .before .before .before .before .before .before .least in
+    let the-least2 = c .before .before .before .before .before .least2 in
+    let the-if1 = c .before .before .before .before .before .before .before .before .before .before .if1 in
+    let the-is-stopped = c .before .before .before .before .before .before .before .before .before .before .before .is-stopped in
+    let the-left-of = c .before .before .before .before .before .before .before .before .before .left-of in
+    let held = short-held _ _ _ _ _ _ (the-place-of .ensures .0) (the-count-of .ensures .0) (the-least .ensures .0) (the-least2 .ensures .0) in
+    holds-one _ _ _ (the-least .result) (the-least2 .result) (sym (the-if1 .left) ∙ the-is-stopped .ensures _) (the-left-of .ensures .0) held _ (c .before .before .before .look-message .ensures) _ (c .before .shows .given .1)
 
 returns-3 : tie.Need-returns-3
 returns-3 c =
-    let held = short-held _ _ _ _ _ _ (c .before .before .before .before .before .before .place-of .ensures .0) (c .before .before .before .before .count-of .ensures .0) (c .before .before .before .before .before .least .ensures .0) (c .before .before .before .least2 .ensures .0) in
-    holds-none _ _ _ (c .before .before .before .before .before .least .result) (c .before .before .before .least2 .result) (sym (c .before .before .before .before .before .before .before .before .if1 .left) ∙ c .before .before .before .before .before .before .before .before .before .is-stopped .ensures _) (c .before .before .before .before .before .before .before .left-of .ensures .0) held _ (c .before .look-message .ensures) (c .match .keys2)
+    let the-place-of = c .before .before .before .before .before .before .place-of in
+    let the-count-of = c .before .before .before .before .count-of in
+    let the-least = c .before .before .before .before .before .least in
+    let the-if1 = c .before .before .before .before .before .before .before .before .if1 in
+    let the-is-stopped = c .before .before .before .before .before .before .before .before .before .is-stopped in
+    let the-left-of = c .before .before .before .before .before .before .before .left-of in
+    let held = short-held _ _ _ _ _ _ (the-place-of .ensures .0) (the-count-of .ensures .0) (the-least .ensures .0) (c .before .before .before .least2 .ensures .0) in
+    holds-none _ _ _ (the-least .result) (c .before .before .before .least2 .result) (sym (the-if1 .left) ∙ the-is-stopped .ensures _) (the-left-of .ensures .0) held _ (c .before .look-message .ensures) (c .match .keys2)
 
 pub holds-message-spec : {M : Type 1} → statement M
 holds-message-spec =

@@ -21,11 +21,15 @@ same-length c = search needs
 
 returns : tie.Need-returns
 returns c =
+    let the-left-of = c .before .before .before .before .before .before .before .before .before .left-of in
+    let the-place-of = c .before .before .before .before .before .before .before .place-of in
+    let the-count-of = c .before .before .before .before .before .count-of in
+    let the-if1 = c .before .before .before .before .if1 in
     let start = c .before .before .before .before .before .before .before .before .before .before .before .before in
-    let the-left = c .before .before .before .before .before .before .before .before .before .left-of .ensures in
-    let the-place = c .before .before .before .before .before .before .before .place-of .ensures in
-    let the-count = c .before .before .before .before .before .count-of .ensures in
-    pass-end _ _ _ _ _ _ (the-left .0) (the-place .0) (the-count .0) (the-left .1) (the-place .1) (the-count .1) (start .pre .1) (start .pre .2) (start .pre .3) (c .before .before .before .before .if1 .taken) (c .before .before .set .ensures)
+    let the-left = the-left-of .ensures in
+    let the-place = the-place-of .ensures in
+    let the-count = the-count-of .ensures in
+    pass-end _ _ _ _ _ _ (the-left .0) (the-place .0) (the-count .0) (the-left .1) (the-place .1) (the-count .1) (start .pre .1) (start .pre .2) (start .pre .3) (the-if1 .taken) (c .before .before .set .ensures)
 
 sub-set : tie.Need-sub-set
 sub-set c = search needs
@@ -44,11 +48,15 @@ same-length-2 c = search needs
 
 returns-2 : tie.Need-returns-2
 returns-2 c =
+    let the-left-of = c .before .before .before .before .before .before .before .before .before .left-of in
+    let the-place-of = c .before .before .before .before .before .before .before .place-of in
+    let the-count-of = c .before .before .before .before .before .count-of in
+    let the-if1 = c .before .before .before .before .if1 in
     let start = c .before .before .before .before .before .before .before .before .before .before .before .before in
-    let the-left = c .before .before .before .before .before .before .before .before .before .left-of .ensures in
-    let the-place = c .before .before .before .before .before .before .before .place-of .ensures in
-    let the-count = c .before .before .before .before .before .count-of .ensures in
-    pass-on _ _ _ _ _ _ (the-left .0) (the-place .0) (the-count .0) (the-left .1) (the-place .1) (the-count .1) (start .pre .1) (start .pre .2) (start .pre .3) (c .before .before .before .before .if1 .left) (c .before .before .set2 .ensures)
+    let the-left = the-left-of .ensures in
+    let the-place = the-place-of .ensures in
+    let the-count = the-count-of .ensures in
+    pass-on _ _ _ _ _ _ (the-left .0) (the-place .0) (the-count .0) (the-left .1) (the-place .1) (the-count .1) (start .pre .1) (start .pre .2) (start .pre .3) (the-if1 .left) (c .before .before .set2 .ensures)
 
 pub pass-spec : {M : Type 1} → statement M
 pass-spec =

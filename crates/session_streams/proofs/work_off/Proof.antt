@@ -42,13 +42,18 @@ same-length c = search needs
 
 returns : tie.Need-returns
 returns c =
-    let the-pass = c .before .before .before .before .before .before .before .before .before .before .before .before .before .before .before .before .pass .ensures in
-    let the-left = c .before .before .before .before .before .before .before .before .before .before .before .before .left-of .ensures in
-    let the-place = c .before .before .before .before .before .before .before .before .before .before .place-of .ensures in
-    let the-count = c .before .before .before .before .before .before .before .before .count-of .ensures in
+    let the-pass-2 = c .before .before .before .before .before .before .before .before .before .before .before .before .before .before .before .before .pass in
+    let the-left-of = c .before .before .before .before .before .before .before .before .before .before .before .before .left-of in
+    let the-place-of = c .before .before .before .before .before .before .before .before .before .before .place-of in
+    let the-count-of = c .before .before .before .before .before .before .before .before .count-of in
+    let the-match = c .before .before .before .before .before .match in
+    let the-pass = the-pass-2 .ensures in
+    let the-left = the-left-of .ensures in
+    let the-place = the-place-of .ensures in
+    let the-count = the-count-of .ensures in
     let the-look = c .before .before .before .before .before .before .look in
     let the-stop = c .before .before .stop .ensures in
-    let s = settles-bad _ _ _ _ _ _ _ _ (the-pass .1 _) (the-left .0) (the-place .0) (the-count .0) _ (the-look .ensures) _ (c .before .before .before .before .before .match .keys1) (the-stop .1 _) in
+    let s = settles-bad _ _ _ _ _ _ _ _ (the-pass .1 _) (the-left .0) (the-place .0) (the-count .0) _ (the-look .ensures) _ (the-match .keys1) (the-stop .1 _) in
     (the-stop .0, s .0, s .1)
 
 same-length-2 : tie.Need-same-length-2
@@ -56,9 +61,12 @@ same-length-2 c = search needs
 
 returns-2 : tie.Need-returns-2
 returns-2 c =
-    let the-pass = c .before .before .before .before .before .before .before .before .before .before .before .pass .ensures in
-    let the-left = c .before .before .before .before .before .before .before .left-of .ensures in
-    let the-place = c .before .before .before .before .before .place-of .ensures in
+    let the-pass-2 = c .before .before .before .before .before .before .before .before .before .before .before .pass in
+    let the-left-of = c .before .before .before .before .before .before .before .left-of in
+    let the-place-of = c .before .before .before .before .before .place-of in
+    let the-pass = the-pass-2 .ensures in
+    let the-left = the-left-of .ensures in
+    let the-place = the-place-of .ensures in
     let the-count = c .before .before .before .count-of .ensures in
     let the-look = c .before .look in
     let s = settles-on _ _ _ _ _ _ _ _ (the-pass .1 _) (the-left .0) (the-place .0) (the-count .0) _ (the-look .ensures) (c .match .keys2) in
