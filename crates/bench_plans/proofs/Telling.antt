@@ -14,7 +14,7 @@ use Rattle.bench_words.specs.Words.{ascii, numeral, hexOf, Puts}
 use Rattle.bench_verbs.specs.Line.{Said}
 use Rattle.bench_lines.specs.Text.{countLine, textSpace}
 use Rattle.bench_replies.specs.Reply.{replyTo, Says}
-use Rattle.bench_replies.proofs.Reply.{decoded, says-only}
+use Rattle.bench_replies.proofs.Reply.{says-only}
 use Rattle.meaning_plan.specs.Plan as Plan
 use Rattle.meaning_plan.specs.Plan.{Move}
 use Rattle.meaning_plan.specs.PlanOctets.{entrySize, listOf, listIn, list-length, list-back, plannedOctets, checkedOctets}
@@ -23,6 +23,7 @@ use Rattle.plan_check.specs.declared.Verdict.{Verdict}
 use Rattle.plan_make.specs.Plan.{planOf, listMade, entriesOf, Readable}
 use Rattle.plan_make.specs.declared.Planned.{Planned}
 use Rattle.bench_replies.specs.PlanText.{saidLine, moveText, movesText, movesLine, planLine, verdictLine}
+use Rattle.bench_words.proofs.Words.{front-is}
 
 -- ---- entries
 
@@ -114,16 +115,16 @@ pub plan-few : (v : Planned) (k : ℕ) → v ≡ Planned.Listed k → entriesOf 
 unfolding entriesOf
 plan-few v k e h = rw e at h
 
--- ---- replies: the sets, and a list, are decoded to the front of some space
+-- ---- replies: the sets, and a list, are front-is to the front of some space
 
 pub says-plan : (c : Card) (n room r : ℕ) {sets before after text : List ℕ} {k : ℕ} → Puts sets before after k → take r text ≡ planLine (plannedOctets c n (take k after)) → r ≤ textSpace → (number : ℕ) → Says (replyTo number room c (Said.plan n sets)) r text c
 unfolding replyTo
-says-plan c n room r p e h number = says-only _ _ c room r h (e ∙ ap (λ o. planLine (plannedOctets c n o)) (decoded p))
+says-plan c n room r p e h number = says-only _ _ c room r h (e ∙ ap (λ o. planLine (plannedOctets c n o)) (front-is p))
 
 pub says-verdict : (c : Card) (n room r : ℕ) {sets before after list before' after' text : List ℕ} {k l : ℕ} → Puts sets before after k → Puts list before' after' l → take r text ≡ verdictLine (checkedOctets c n (take k after) (take l after')) → r ≤ textSpace → (number : ℕ) → Says (replyTo number room c (Said.vet n sets list)) r text c
 unfolding replyTo
 says-verdict c n room r {sets} {after' = after'} {l = l} p q e h number =
     says-only _ _ c room r h
     (e
-    ∙ ap (λ o. verdictLine (checkedOctets c n o (take l after'))) (decoded p)
-    ∙ ap (λ o. verdictLine (checkedOctets c n sets o)) (decoded q))
+    ∙ ap (λ o. verdictLine (checkedOctets c n o (take l after'))) (front-is p)
+    ∙ ap (λ o. verdictLine (checkedOctets c n sets o)) (front-is q))

@@ -1,17 +1,16 @@
 -- Laws by which what is written is the reply. Assumes nothing.
 use Prim.Native.Nat.{ℕ, _-_, _≤_, _*_, min}
 use native.Mathlib.Omega.{arith}
-use mathlib.Core.Path.{_≡_, refl, sym, ap, _∙_}
+use mathlib.Core.Path.{_≡_, refl, ap, _∙_}
 use mathlib.Core.List.{List, [], _∷_}
 use lib.ListN.{length, take, drop, length-drop}
-use lib.Seq.{length-take-le, take-at}
+use lib.Seq.{length-take-le}
 use borrow.Author.Tests.{ltb-false}
 use denote.Enum.Declared.{tagOf}
 use types.Run.{OneOf, miss}
 use Rattle.meaning.specs.Lists.{by-test}
-use Rattle.meaning.specs.Wire.{records}
 use Rattle.meaning.specs.Card.{Card, Feed, sentLimit}
-use Rattle.meaning.specs.Events.{Out, Outcome, refused, taken, refuse, accept, roomShort, noNeighbour, finish, Event, outcome, event}
+use Rattle.meaning.specs.Events.{Out, refuse, accept, roomShort, noNeighbour, Event, outcome, event}
 use Rattle.meaning.specs.Notice.{noticeDue, noticeRecord, notice}
 use Rattle.meaning_save.specs.Save.{Form, new, saved, save, fitsSave, saveLimit}
 use Rattle.meaning.specs.Calls.{Hands}
@@ -21,16 +20,10 @@ use Rattle.bench_orders.specs.declared.Order.{Order}
 use Rattle.bench_orders.proofs.Order.{the-type}
 use Rattle.bench_lines.specs.Text.{countLine, eventLine, feedLine, textSpace}
 use Rattle.bench_replies.specs.Reply.{only, counted, told, shifted, eventRoom, replyTo, Says}
+use Rattle.meaning_laws.specs.Refusals.{finish-fits}
+use Rattle.bench_words.proofs.Words.{front-is}
 
 -- ---- octets that are no longer than the room
-
-finish-fits : (room : ℕ) (c : Card) (o : Outcome) → length (finish room c o .octets) ≤ room
-unfolding finish refuse accept roomShort
-finish-fits room c (refused n) = omega arith
-finish-fits room c (taken ms d) =
-    by-test (roomShort room (records (c .next) ms))
-    (λ e. rw e (omega arith))
-    (λ e. rw e (ltb-false room (length (records (c .next) ms)) e))
 
 pub event-fits : (room : ℕ) (c : Card) (e : Event) → length (event room c e .octets) ≤ room
 unfolding event
@@ -60,10 +53,7 @@ save-fits f room c =
 pub part-fits : {o : Out} {a : ℕ} {part : List ℕ} {card : Card} (room most : ℕ) → Hands o a part card → length (o .octets) ≤ room → room ≤ most → length part ≤ most
 part-fits room most h k l = rw (h .hands) (omega arith)
 
--- ---- what was decoded
-
-pub decoded : {ys before after : List ℕ} {r : ℕ} → Puts ys before after r → take r after ≡ ys
-decoded {ys} {before} {r = r} p = rw (p .whole) (take-at ys (drop r before) r (sym (p .count)))
+-- ---- what was front-is
 
 -- ---- replies
 
@@ -75,14 +65,14 @@ says-told f {a = a} {part} word text room r el h k e = record {
   leaves = rw (← el) (h .leaves);
 }
 
--- AN ORDER THAT WRITES RECORDS: HEX is decoded to the front of some space, a call f is lent as many octets of the output as the room says, and what it answers and hands back is told
+-- AN ORDER THAT WRITES RECORDS: HEX is front-is to the front of some space, a call f is lent as many octets of the output as the room says, and what it answers and hands back is told
 module _ (f : ℕ → List ℕ → Out) (room : ℕ) {l whole n a : ℕ} {os before after part : List ℕ} {card : Card}
     (all : sentLimit ≡ whole) (lent : l ≡ min room whole) (p : Puts os before after n) (h : Hands (f l (take n after)) a part card) where
   pub record-fits : ((l : ℕ) (s : List ℕ) → length (f l s .octets) ≤ l) → length part ≤ saveLimit new
   record-fits fits = part-fits l (saveLimit new) h (fits l _) (omega arith)
 
   pub says-record : (word text : List ℕ) (r : ℕ) → r ≤ textSpace → take r text ≡ eventLine word a part → Says (told word (f (eventRoom room) os) room) r text card
-  says-record word text r k e = says-told (λ m. f m os) word text room r (omega arith) (rw (decoded p) at h) k e
+  says-record word text r k e = says-told (λ m. f m os) word text room r (omega arith) (rw (front-is p) at h) k e
 
 pub says-counted : (o : Out) {a : ℕ} {card : Card} (word text : List ℕ) (room r : ℕ) → a ≡ o .answer → card ≡ o .card → r ≤ textSpace → take r text ≡ countLine word a → Says (counted word o room) r text card
 unfolding counted

@@ -7,11 +7,11 @@ use mathlib.Core.Path.{_≡_, refl, sym, ap, _∙_}
 use mathlib.Core.Bool.{Bool, true, false, _&&_, _||_}
 use mathlib.Core.List.{List, [], _∷_, _++_, append-assoc}
 use lib.ListN.{length, take, drop, getD, set, length-append, drop-of-length-le}
-use lib.Seq.{drop-cons, drop-drop, getD-drop, take-all, set-at}
+use lib.Seq.{drop-cons, drop-drop, getD-drop, take-all, set-at, take-at}
 use lib.Dec.{eqb, leb, ltb}
 use borrow.Author.Tests.{eqb-true, eqb-false, eq-eqb, ne-eqb, leb-true, ltb-true, ltb-false, lt-ltb, le-ltb, not-true, not-false}
 use Rattle.meaning.specs.Octets.{pick, same, all}
-use Rattle.meaning.specs.Lists.{by-test, same-eq}
+use Rattle.meaning.specs.Lists.{by-test, same-eq, never}
 use Rattle.octets.proofs.Parts.{front, front-more}
 use Rattle.bench_words.specs.Words.{ascii, part, NextWord, Puts, isGap, uncommented, lengthen, pieces, filled, words, isDigit, valueFrom, value, isNumber, isHexDigit, digit, isHexTo, octetsOf, glyph, hexOf, spell, numeral}
 use Rattle.bench_words.specs.Scan.{isLetter, letters, numberIn}
@@ -228,9 +228,6 @@ between a c b e =
     by-test (leb a c)
     (λ h. (leb-true a c h, leb-true c b (rw h at e)))
     (λ h. let z : false ≡ true = rw h at e in absurd (never z))
-  where
-    never : false ≡ true → ⊥
-    never z = let y : _≡_ {A = ℕ} 0 1 = cc in omega arith
 
 -- ---- what was written to the front
 
@@ -240,6 +237,9 @@ puts-front ys before after r i e h p q = record {
   within = h;
   whole = q ∙ rw (p, take-all r ys (omega arith));
 }
+
+pub front-is : {ys before after : List ℕ} {r : ℕ} → Puts ys before after r → take r after ≡ ys
+front-is {ys} {before} {r = r} p = rw (p .whole) (take-at ys (drop r before) r (sym (p .count)))
 
 -- a turn that stores two
 pub front-two : (src d e : List ℕ) (u v i : ℕ) → i * 2 + 1 < length src → i * 2 + 1 < length d → e ≡ front (i * 2) src d → u ≡ getD src (i * 2) 0 → v ≡ getD src (i * 2 + 1) 0 → set (set e (i * 2) u) (i * 2 + 1) v ≡ front ((i + 1) * 2) src d

@@ -19,10 +19,11 @@ use Rattle.bench_lines.specs.Text.{countLine, eventLine, textSpace}
 use Rattle.bench_layers.specs.LayerText.{layersLine, wrapLine, unwrappedLine, unwrapLine}
 use Rattle.bench_layers.proofs.Shown.{root-most, eight-most}
 use Rattle.bench_replies.specs.Reply.{only, Says}
-use Rattle.bench_replies.proofs.Reply.{decoded, says-only}
+use Rattle.bench_replies.proofs.Reply.{says-only}
+use Rattle.bench_words.proofs.Words.{front-is}
 
 pub says-layers : {n : ℕ} {name from at : List ℕ} → Puts name from at n → (text : List ℕ) (c : Card) (room r : ℕ) → r ≤ textSpace → take r text ≡ layersLine (read (take n at)) → Says (only (layersLine (read name)) c room) r text c
-says-layers p text c room r k e = says-only _ text c room r k (e ∙ ap (λ (o : List ℕ). layersLine (read o)) (decoded p))
+says-layers p text c room r k e = says-only _ text c room r k (e ∙ ap (λ (o : List ℕ). layersLine (read o)) (front-is p))
 
 -- ---- wrapping
 
@@ -33,7 +34,7 @@ wrap-fits room root eight name =
     (λ e. rw e (wrappable room root eight name (eqb-true _ _ e) .fits))
     (λ e. rw e (omega arith))
 
--- the three words of HEX are decoded, each to the front of some space
+-- the three words of HEX are front-is, each to the front of some space
 module _ (room : ℕ) {l most k m n a : ℕ} {root eight name from at from' at' from'' at'' part : List ℕ} (all : nameLimit ≡ most) (lent : l ≡ min room most)
     (p : Puts root from at k) (q : Puts eight from' at' m) (s : Puts name from'' at'' n)
     (h : HandsPart (wrap l (take k at) (take m at') (take n at'') .answer) (wrap l (take k at) (take m at') (take n at'') .octets) a part) where
@@ -47,7 +48,7 @@ module _ (room : ℕ) {l most k m n a : ℕ} {root eight name from at from' at' 
   pub says-wrap : (text : List ℕ) (c : Card) (r : ℕ) → r ≤ textSpace → take r text ≡ eventLine (ascii "wrap") a part → Says (only (wrapLine (wrap (min room nameLimit) root eight name)) c room) r text c
   says-wrap text c r j e =
       let room-is : l ≡ min room nameLimit = omega arith in
-      says-only _ text c room r j (e ∙ told ∙ rw (room-is, decoded p, decoded q, decoded s) refl)
+      says-only _ text c room r j (e ∙ told ∙ rw (room-is, front-is p, front-is q, front-is s) refl)
 
 -- ---- unwrapping
 
@@ -90,4 +91,4 @@ pub says-unwrap : (room : ℕ) {l most n : ℕ} {name from at : List ℕ} → na
     → Says (only (unwrapLine (unwrap (min room nameLimit) name)) c room) r text c
 says-unwrap room {l} all lent p text c r k e =
     let room-is : l ≡ min room nameLimit = omega arith in
-    says-only _ text c room r k (e ∙ rw (room-is, decoded p) refl)
+    says-only _ text c room r k (e ∙ rw (room-is, front-is p) refl)

@@ -1,14 +1,13 @@
 -- The laws by which the calls follow the definitions. Assumes nothing.
 use Prim.Native.Nat.{ℕ, _≤_, _<_}
-use native.Mathlib.Omega.{arith}
 use mathlib.Core.Path.{_≡_, refl, sym, ap}
 use mathlib.Core.Bool.{true, false, not, and-false}
 use mathlib.Core.List.{List}
 use lib.ListN.{length}
 use lib.Dec.{eqb, leb}
-use borrow.Author.Tests.{eq-eqb, ne-eqb, eqb-true, le-leb, lt-leb, le-ltb, lt-ltb}
+use borrow.Author.Tests.{eq-eqb, ne-eqb, le-leb, lt-leb, le-ltb, lt-ltb}
 use Rattle.meaning.specs.Octets.{_when_else_}
-use Rattle.meaning.specs.Lists.{positive, by-test}
+use Rattle.meaning.specs.Lists.{positive}
 use Rattle.meaning.specs.Wire.{elementRefusal, leastLabel}
 use Rattle.meaning.specs.Card.{Card, fresh, withNext, neighbourCount, mostBase, noRoute}
 use Rattle.meaning.specs.Events.{unless, refuse, accept, finish, noNeighbour, onOctets, onJoin, onLeave, notRoute, notRoot, onRoute, part, onLost, receive, join, leave, route, lost, outcome, event, baseOutside, start}
@@ -88,15 +87,6 @@ four-octets r e = rw (eq-eqb (length r) 4 e) refl
 pub other-length : (r : List ℕ) → (length r ≡ 4 → ⊥) → not (eqb (length r) 16) ≡ notRoot r
 unfolding notRoot
 other-length r e = rw (ne-eqb (length r) 4 e) refl
-
-pub root-fits : (r : List ℕ) → notRoot r ≡ false → length r ≤ 16
-unfolding notRoot
-root-fits r e =
-    by-test (eqb (length r) 4)
-    (λ k. omega (arith, eqb-true (length r) 4 k))
-    (λ k. by-test (eqb (length r) 16)
-    (λ l. omega (arith, eqb-true (length r) 16 l))
-    (λ l. let z : true ≡ false = rw (k, l) at e in let z′ : _≡_ {A = ℕ} 0 1 = cc in absurd (omega arith)))
 
 module _ (c : Card) (r : List ℕ) (via : ℕ) where
   pub route-far : noRoute < via → (t : List ℕ) → Does (event (length t) c (route r via)) 1 0 t t c

@@ -4,14 +4,14 @@ use native.Mathlib.Omega.{arith}
 use mathlib.Core.Path.{_≡_, refl, sym, ap, ap₂, _∙_}
 use mathlib.Core.List.{List, [], _∷_, _++_, append-assoc}
 use lib.ListN.{length, length-append}
-use Rattle.meaning.specs.Octets.{two, four}
 use Rattle.meaning.specs.Lists.{append-nil}
-use Rattle.meaning.specs.Wire.{tlv, octetsOf, Sent, recordOf, nextId, records, idsAfter, recordSize}
+use Rattle.meaning.specs.Wire.{Sent, recordOf, nextId, records, idsAfter, recordSize}
 use Rattle.meaning.specs.Card.{Card}
 use Rattle.meaning.specs.Events.{Moved, still, followedBy}
 use Rattle.octets.specs.Part.{mid}
 use Rattle.octets.proofs.Parts.{mid-mid, mid-none}
 use Rattle.event_holder.specs.Move.{Wrote}
+use Rattle.meaning_laws.specs.Losses.{record-size}
 
 -- ---- records one after the other
 
@@ -24,10 +24,6 @@ pub ids-append : (id : ℕ) (ms ns : List Sent) → idsAfter id (ms ++ ns) ≡ i
 unfolding idsAfter
 ids-append id [] ns = refl
 ids-append id (m ∷ ms) ns = ids-append (nextId id) ms ns
-
-pub record-size : (id : ℕ) (m : Sent) → length (recordOf id m) ≡ recordSize (m .message .name)
-unfolding recordOf octetsOf tlv two four
-record-size id m = simp length-append (omega arith)
 
 pub records-one : (id : ℕ) (m : Sent) → records id (m ∷ []) ≡ recordOf id m
 unfolding records

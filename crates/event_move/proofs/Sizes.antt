@@ -11,7 +11,8 @@ use Rattle.meaning.specs.Card.{Card, noRoute, treeAt, heldFor}
 use Rattle.meaning.specs.Events.{still, followedBy, giveUp, give, letGo, takeUp, moveLabel, relabel, needMove}
 use Rattle.event_holder.specs.Move.{moveSize, relabelSize}
 use Rattle.event_move.proofs.Alike.{let-go-stays}
-use Rattle.event_move.proofs.Records.{records-append, record-size, records-one}
+use Rattle.event_move.proofs.Records.{records-append, records-one}
+use Rattle.meaning_laws.specs.Losses.{record-size}
 
 -- ---- how many octets a move writes
 

@@ -7,7 +7,7 @@ use mathlib.Core.List.{List, _∷_}
 use lib.Dec.{eqb, ltb}
 use borrow.Author.Tests.{ltb-true, ltb-false, eq-eqb, ne-eqb, eqb-true, eqb-false}
 use Rattle.meaning.specs.Octets.{pick}
-use Rattle.meaning.specs.Lists.{by-test}
+use Rattle.meaning.specs.Lists.{by-test, never}
 use Rattle.meaning.specs.Card.{Tree, Use, Card, withTrees, withLabels, withLabel, treeAt, mappedTo, heldFor, labelCount, neighbourCount}
 use Rattle.meaning.specs.Events.{isOf, freedOf, usesWithout}
 use Rattle.octets.specs.Part.{tab}
@@ -15,7 +15,7 @@ use Rattle.octets.proofs.Tab.{tab-ext}
 use Rattle.memory.specs.Sizes.{nameSpace, rootOctets, rootNames, ownColumn}
 use Rattle.memory.specs.Memory.{treeCount, isFreeAt, markAt, markUse, labelIn, ownPlace, carriesAt, ownLabel, treeIn, cardOf, Relabelled}
 use Rattle.memory.proofs.Memory.{treeCount-le, own-same, tree-with, tree-at, but-rows, agree-refl}
-use Rattle.memory.proofs.Marks.{never, mapped-use, unmapped-free, label-free, label-mapped, label-awaiting, carried-out, not-far, not-mapped, own-none}
+use Rattle.memory.proofs.Marks.{mapped-use, unmapped-free, label-free, label-mapped, label-awaiting, carried-out, not-far, not-mapped, own-none}
 use Rattle.memory.proofs.Trees.{held-some}
 use Rattle.event_parted.specs.Parted.{labelsWithout, isOfAt, Freed}
 

@@ -18,12 +18,13 @@ use Rattle.meaning.specs.Calls.{Does}
 use Rattle.octets.specs.Part.{mid}
 use Rattle.octets.proofs.Parts.{mid-none, mid-length}
 use Rattle.event_holder.specs.Move.{Wrote}
-use Rattle.event_move.proofs.Records.{record-size, records-one, wrote-one}
+use Rattle.event_move.proofs.Records.{records-one, wrote-one}
 use Rattle.event_tree.specs.End.{Ended, thenCut}
 use Rattle.event_tree.proofs.Found.{found-tree}
 use Rattle.event_tree.proofs.Ends.{does-refused, does-short, does-taken, ended-then, does-ended}
 use Rattle.event_tree.proofs.Newcomer.{none-stands, bare-branch, become-nothing}
 use Rattle.event_tree.proofs.Standing.{counting, Standing}
+use Rattle.meaning_laws.specs.Losses.{record-size}
 
 module _ (c : Card) (a : List ℕ) (i : ℕ) (ei : i ≡ treePlace a c) where
   module _ (h : i < length (c .trees)) where

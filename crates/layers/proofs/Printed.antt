@@ -5,11 +5,10 @@ use native.Mathlib.Omega.{arith}
 use mathlib.Core.Path.{_≡_, refl, sym, ap, _∙_}
 use mathlib.Core.Bool.{Bool, true, false}
 use mathlib.Core.List.{List, [], _∷_, _++_, append-assoc}
-use lib.ListN.{length, take, drop, getD}
-use lib.Seq.{take-all, take-at, take-suc}
+use lib.ListN.{length, take, getD}
+use lib.Seq.{take-all, take-suc}
 use borrow.Author.Tests.{eq-eqb, ne-eqb}
-use Rattle.meaning.specs.Octets.{pick}
-use Rattle.meaning.specs.Lists.{append-nil}
+use Rattle.meaning.specs.Lists.{append-nil, never}
 use Rattle.meaning.specs.Card.{Tree, Card, treeAt, bare}
 use Rattle.meaning_save.specs.Save.{Form, new, formOf, saveLimit, tableIn, isSave, isTree}
 use Rattle.meaning_laws.specs.SaveLists.{tree-ok}
@@ -18,9 +17,7 @@ use Rattle.meaning_laws.specs.SaveRules.{all-at, Rules, rules}
 use Rattle.bench_words.specs.Words.{isHexTo, octetsOf, Puts}
 use Rattle.layers.specs.TreeText.{treeLine}
 use Rattle.layers.specs.Shown.{treesText, tableText, noSave, shownOf, hexIn, shown, AllNamed, Shows}
-
-never : false ≡ true → ⊥
-never e = let z : _≡_ {A = ℕ} 0 1 = ap (λ (b : Bool). pick b 1 0) e in absurd (omega arith)
+use Rattle.bench_words.proofs.Words.{front-is}
 
 -- ---- the lines
 
@@ -75,9 +72,6 @@ module _ {b : Bool} {t : List ℕ} {c : Card} (s : Shows b t c) where
   shown-none e = sym (rw e at (s .shows))
 
 -- ---- the input
-
-pub front-is : {ys before after : List ℕ} {r : ℕ} → Puts ys before after r → take r after ≡ ys
-front-is {ys} {before} {r = r} p = rw (p .whole) (take-at ys (drop r before) r (sym (p .count)))
 
 pub hex-none : (l : List ℕ) → length l ≡ 0 → take (length l) l ≡ hexIn l
 unfolding hexIn

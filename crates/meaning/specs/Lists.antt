@@ -4,7 +4,7 @@ use Prim.Native.Nat.{ℕ, zero, suc, _+_, _-_, _≤_, _<_, suc-le-suc}
 use native.Mathlib.Nat.{le-of-suc-le-suc, not-suc-le-zero, le-refl, le-trans}
 use native.Mathlib.Omega.{arith}
 use mathlib.Core.Path.{_≡_, refl, sym, ap, ap₂, _∙_}
-use mathlib.Core.Bool.{Bool, true, false}
+use mathlib.Core.Bool.{Bool, true, false, _||_}
 use mathlib.Core.List.{List, [], _∷_, _++_}
 use lib.ListN.{getD, length, set, replicate, drop, length-drop, List·getD-eq-default}
 use lib.Seq.{getD-drop}
@@ -21,6 +21,17 @@ by-test false f g = g refl
 pub picked {ℓ κ} : {X : Type ℓ} (P : X → Type κ) (b : Bool) {x y : X} → (b ≡ true → P x) → (b ≡ false → P y) → P (pick b x y)
 picked P true f g = f refl
 picked P false f g = g refl
+
+-- a test does not come out both ways
+pub never : false ≡ true → ⊥
+never e = let z : _≡_ {A = ℕ} 0 1 = cc in omega arith
+
+pub no-way : {X : Type 0} → true ≡ false → X
+no-way z = absurd (let z′ : _≡_ {A = ℕ} 0 1 = cc in omega arith)
+
+pub neither : (x y : Bool) → (x || y) ≡ false → (x ≡ false) × (y ≡ false)
+neither true y e = no-way e
+neither false y e = (refl, e)
 
 -- ---- places
 

@@ -11,7 +11,7 @@ use lib.Seq.{drop-cons, set-getD}
 use lib.Dec.{eqb, leb, ltb}
 use borrow.Author.Tests.{ltb-false, lt-leb, eqb-true, eqb-false, ne-eqb, leb-true, ltb-true, le-ltb, lt-ltb, not-true}
 use Rattle.meaning.specs.Octets.{pick, place, count, any, _when_else_}
-use Rattle.meaning.specs.Lists.{by-test, picked, getD-out, no-when, any-count, count-any}
+use Rattle.meaning.specs.Lists.{by-test, picked, getD-out, no-when, any-count, count-any, neither}
 use Rattle.meaning.specs.Wire.{rootIn}
 use Rattle.meaning_laws.specs.RoundTrip.{both}
 use Rattle.meaning.specs.Card.{Route, Tree, Card, noRoute, noEntry, withCounts, withBranch, isFor, routePlace, routeOf, bare, treeAt, isBranch, isEmpty, isLone, notHeld, leadsOn, freeLabels, neighbourCount}
@@ -66,10 +66,6 @@ unfolding any count isBranch
 any-set-count [] u h = zero-le
 any-set-count (b ∷ bs) zero h = let none : count isBranch bs ≡ 0 = any-count isBranch bs (unfold isBranch in h) in by-test (ltb 0 b) (λ e. rw (e, none) (omega arith)) (λ e. rw (e, none) zero-le)
 any-set-count (b ∷ bs) (suc u) h = by-test (ltb 0 b) (λ e. let z : true ≡ false = rw e at h in absurd (let z′ : _≡_ {A = ℕ} 0 1 = cc in omega arith)) (λ e. rw e (any-set-count bs u (rw e at h)))
-
-neither : (x y : Bool) → (x || y) ≡ false → (x ≡ false) × (y ≡ false)
-neither true y e = absurd (let z : _≡_ {A = ℕ} 0 1 = cc in omega arith)
-neither false y e = (refl, e)
 
 -- a tree that leads nowhere is empty or lone
 nowhere : (u : ℕ) (t : Tree) → leadsOn u t ≡ false → isLone t ≡ false → isEmpty t ≡ true

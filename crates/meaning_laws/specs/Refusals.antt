@@ -1,17 +1,18 @@
 -- What a refusal is: the number given is that of the first test that applies, where the tests stand by rising number, 18 between 7 and 8 (in a route order: 1, 6, 15, 12, 16);
 -- and a refusal gives back the card it got, and no octet. Assumes nothing.
-use Prim.Native.Nat.{ℕ, suc, _+_, zero-le}
+use Prim.Native.Nat.{ℕ, suc, _+_, zero-le, _≤_}
 use mathlib.Core.Path.{_≡_, refl, ap, _∙_}
 use mathlib.Core.Bool.{Bool, true, false, not, _&&_}
 use mathlib.Core.List.{List, [], _∷_, _++_}
-use lib.ListN.{drop}
+use lib.ListN.{drop, length}
 use lib.Dec.{eqb, ltb}
-use borrow.Author.Tests.{le-ltb}
+use borrow.Author.Tests.{le-ltb, eqb-true, ltb-false}
 use Rattle.meaning.specs.Octets.{pick, any, twoAt, _when_else_}
-use Rattle.meaning.specs.Lists.{by-test}
-use Rattle.meaning.specs.Wire.{isElement, isOpaque, isFilled, opaqueIn, elementRefusal, isOverrun, tlvs, mapping, withdraw, release, Message, bodyOf, fecOf, labelOf, must, isSized, isKind, isOrdered, isLabel, messageRefusal, messageIn, Sent, records}
+use Rattle.meaning.specs.Lists.{by-test, no-way}
+use Rattle.meaning.specs.Wire.{isElement, isOpaque, isFilled, opaqueIn, elementRefusal, isOverrun, tlvs, mapping, withdraw, release, Message, bodyOf, fecOf, labelOf, must, isSized, isKind, isOrdered, isLabel, messageRefusal, messageIn, Sent, records, rootLimit}
 use Rattle.meaning.specs.Card.{Tree, Card, withBranch, withLeaf, treeOf, routeOf}
 use Rattle.meaning.specs.Events.{Out, Outcome, refused, taken, unless, refuse, accept, roomShort, finish, tell, labelsShort, need, holderOf, treesFull, treeRefusal, enter, become, otherLabel, onMapping, lessBranch, onWithdraw, notAwaited, onRelease, onMessage, noNeighbour, onOctets, onJoin, notLeaf, onLeave, routeShort, runsOut, notRoute, notRoot, routesFull, routeRefusal, reRoute, onRoute, Event, receive, join, leave, route, outcome, event, part, onLost, lost}
+use native.Mathlib.Omega.{arith}
 
 -- a refusal's number, and whether its test applies
 pub record Test : Type 0 where
@@ -279,3 +280,22 @@ refusal-keeps room c e some = kept room c (outcome c e) some
     kept room c (refused n) some = unfold finish refuse in (refl, refl)
     kept room c (taken ms d) some =
         unfold finish in kept-pick (roomShort room (records (c .next) ms)) _ _ c (unfold refuse in (refl, refl)) (unfold accept in refl) (unfold finish in some)
+
+-- what 6 leaves of a root has its space
+pub root-fits : (r : List ℕ) → notRoot r ≡ false → length r ≤ rootLimit
+unfolding notRoot
+root-fits r e =
+    by-test (eqb (length r) 4)
+    (λ k. omega (arith, eqb-true (length r) 4 k))
+    (λ k. by-test (eqb (length r) rootLimit)
+    (λ l. omega (arith, eqb-true (length r) rootLimit l))
+    (λ l. no-way (rw (k, l) at e)))
+
+-- what 16 leaves of an event's records has its room
+pub finish-fits : (room : ℕ) (c : Card) (o : Outcome) → length (finish room c o .octets) ≤ room
+unfolding finish refuse accept roomShort
+finish-fits room c (refused n) = omega arith
+finish-fits room c (taken ms d) =
+    by-test (ltb room (length (records (c .next) ms)))
+    (λ e. rw e (omega arith))
+    (λ e. rw e (ltb-false room (length (records (c .next) ms)) e))

@@ -59,7 +59,7 @@ fits-any c = rw (trees-any (c .trees)) (uses-any (c .labels))
 
 -- ---- how long it is
 
-head-length : (f : Form) (c : Card) → length (headSaved f c) ≡ headSize f
+pub head-length : (f : Form) (c : Card) → length (headSaved f c) ≡ headSize f
 unfolding headSaved marked four two lastSaved
 head-length old c = refl
 head-length new c = refl

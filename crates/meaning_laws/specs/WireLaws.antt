@@ -84,7 +84,7 @@ filled-step o h =
 
 -- the same from a place on, as a reader with a place has it
 module _ (o : List ℕ) (at : ℕ) where
-  two-there : (i : ℕ) → twoAt (drop at o) i ≡ twoAt o (at + i)
+  pub two-there : (i : ℕ) → twoAt (drop at o) i ≡ twoAt o (at + i)
   unfolding twoAt
   two-there i =
       let next : at + (i + 1) ≡ at + i + 1 = omega arith in

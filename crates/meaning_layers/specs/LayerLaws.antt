@@ -13,19 +13,12 @@ use borrow.Author.Tests.{eqb-true, eq-eqb, ne-eqb, ltb-false, le-ltb, leb-true, 
 use Rattle.meaning.specs.Octets.{pick, two, twoAt, _when_else_}
 use Rattle.meaning.specs.Wire.{addressLength, familyIn, rootLength, rootIn, opaqueIn, isElement, opaqueLimit, isOpaque, headLength, firstEnd, isFilled, elementRefusal, element}
 use Rattle.meaning.specs.Events.{notRoot}
-use Rattle.meaning.specs.Lists.{by-test, no-when}
+use Rattle.meaning.specs.Lists.{by-test, no-when, no-way, neither}
 use Rattle.meaning_laws.specs.RoundTrip.{both, element-ok, whole, two-back, root-size, element-parts}
 use Rattle.meaning_laws.specs.WireLaws.{end-more, filled-end, filled-step, element-0}
 use Rattle.meaning_laws.specs.SaveLists.{either}
 use Rattle.meaning_layers.specs.Layers.{plainKind, eightKind, beforeInner, eightIn, innerIn, wraps, isLast, innerOf, Layer, layerOf, holding, familyOf, wrapped, notEight, wrapRefusal, wrap, unwrapRefusal, noLayer, unwrap}
 use Rattle.meaning_layers.specs.ElementLaws.{made-root, made-opaque, made-element, root-cases}
-
-no-way : {X : Type 0} → true ≡ false → X
-no-way z = absurd (let z′ : _≡_ {A = ℕ} 0 1 = cc in omega arith)
-
-neither : (x y : Bool) → (x || y) ≡ false → (x ≡ false) × (y ≡ false)
-neither true y e = no-way e
-neither false y e = (refl, e)
 
 three : {x y z : Bool} → x ≡ true → y ≡ true → z ≡ true → (x && y && z) ≡ true
 three {x} {y} {z} p q r = rw (p, q, r) refl

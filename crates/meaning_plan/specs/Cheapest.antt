@@ -7,9 +7,8 @@ use mathlib.Core.Path.{_≡_, ap, _∙_, subst}
 use mathlib.Core.Bool.{Bool, true, false, _&&_}
 use lib.Dec.{eqb}
 use borrow.Author.Tests.{eqb-true, eqb-false, leb-true, leb-false, ne-eqb}
-use Rattle.meaning.specs.Lists.{by-test}
+use Rattle.meaning.specs.Lists.{by-test, no-way}
 use Rattle.meaning_laws.specs.RoundTrip.{both}
-use Rattle.meaning_plan.specs.Absurd.{no-way}
 use Rattle.meaning_plan.specs.Plan.{goesFirst, cheapest}
 use Rattle.meaning.specs.Card.{neighbourCount}
 

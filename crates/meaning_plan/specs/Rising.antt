@@ -11,9 +11,8 @@ use lib.Dec.{eqb, ltb}
 use borrow.Author.Tests.{eqb-true, eqb-false, eq-eqb, ltb-true, ltb-false, lt-ltb}
 use Rattle.meaning.specs.Octets.{pick, place, count, all, same}
 use Rattle.meaning.specs.Card.{Route, Card, isFor}
-use Rattle.meaning.specs.Lists.{by-test, picked, same-refl, same-flip}
+use Rattle.meaning.specs.Lists.{by-test, picked, same-refl, same-flip, no-way}
 use Rattle.meaning_laws.specs.SaveFields.{all-cons}
-use Rattle.meaning_plan.specs.Absurd.{no-way}
 use Rattle.meaning_plan.specs.Plan.{Move, moveFor, Allowed, goesBy, choice, isBelow, isBefore, insert, asMove, through, chosen, proposal}
 
 unfoldable pub comesFirst : Move → Move → Bool

@@ -9,7 +9,7 @@ use lib.Dec.{ltb}
 use lib.Count.{ones, ones-le}
 use borrow.Author.Tests.{ltb-true, ltb-false, le-leb, lt-leb, eq-eqb, ne-eqb}
 use Rattle.meaning.specs.Octets.{count, same}
-use Rattle.meaning.specs.Lists.{by-test, getD-out}
+use Rattle.meaning.specs.Lists.{by-test, getD-out, never}
 use Rattle.meaning.specs.Card.{Tree, Use, withTrees, free, withLabels, isFree, isAwaiting, mappedTo, useOf, freeLabels, mapped, awaiting, treeLimit, labelCount, neighbourCount, nobody}
 use Rattle.meaning.specs.Events.{setUse}
 use Rattle.octets.specs.Part.{tab}
@@ -18,7 +18,7 @@ use Rattle.octets.proofs.Bits.{Says, count-word, all-set}
 use Rattle.memory.specs.Sizes.{nameSpace, ownColumn, wordCount, rootOctets, labelNames, rootNames}
 use Rattle.memory.specs.Memory.{baseIn, nextIn, routeCount, treeCount, routeIn, wordAt, isFreeAt, markAt, markUse, isMappedAt, labelIn, ownPlace, carriesAt, treeIn, labelName, cardOf, Relabelled, InBlock, lastIn}
 use Rattle.memory.proofs.Memory.{treeCount-le, base-same, next-same, routes-same, tree-same, label-same, agree-refl, last-same}
-use Rattle.memory.proofs.Marks.{never, mapped-at, mapped-use, unmapped-free, unmapped-above, label-free, label-mapped, label-awaiting, free-in, not-mapped, own-beside}
+use Rattle.memory.proofs.Marks.{mapped-at, mapped-use, unmapped-free, unmapped-above, label-free, label-mapped, label-awaiting, free-in, not-mapped, own-beside}
 
 -- ---- labels
 

@@ -8,16 +8,13 @@ use lib.ListN.{set, length-set}
 use lib.Seq.{getD-set-same, getD-set-other}
 use lib.Dec.{eqb, ltb}
 use borrow.Author.Tests.{lt-ltb, le-ltb, ltb-true, ltb-false, eq-eqb, eqb-true, eqb-false, not-true}
-use Rattle.meaning.specs.Lists.{by-test}
+use Rattle.meaning.specs.Lists.{by-test, never}
 use Rattle.meaning_laws.specs.RoundTrip.{both}
 use Rattle.meaning.specs.Card.{free, mapped, awaiting, isFree, labelCount, neighbourCount}
 use Rattle.octets.specs.Bits.{bit}
 use Rattle.memory.specs.Sizes.{markColumn, wordColumn, wordCount, Numbers}
 use Rattle.memory.specs.Memory.{labelName, baseIn, wordAt, isFreeAt, markAt, markUse, markPlace, useIn, isMappedAt, labelIn, carriesAt, ownLabel, Relabelled}
 use Rattle.memory.proofs.Memory.{free-same, own-same, agree-set}
-
-pub never : false ≡ true → ⊥
-never e = let z : _≡_ {A = ℕ} 0 1 = cc in omega arith
 
 -- ---- the use
 

@@ -9,7 +9,7 @@ use lib.Seq.{getD-set-same, getD-set-other}
 use lib.Dec.{eqb}
 use borrow.Author.Tests.{eq-eqb, ne-eqb}
 use Rattle.meaning.specs.Octets.{place, same}
-use Rattle.meaning.specs.Lists.{by-test}
+use Rattle.meaning.specs.Lists.{by-test, never}
 use Rattle.meaning.specs.Card.{Tree, withTrees, withBranch, withLeaf, withLabel, treeAt, named, treePlace, withLabels, mappedTo, useOf, heldFor, carries, treeLimit, labelCount, neighbourCount, nobody}
 use Rattle.meaning.specs.Events.{setLabel, setUse, ended}
 use Rattle.octets.specs.Part.{tab}
@@ -17,7 +17,7 @@ use Rattle.octets.proofs.Tab.{tab-length, tab-get, tab-ext, tab-set, place-star
 use Rattle.memory.specs.Sizes.{nameSpace, ownColumn, rowWidth, rowColumn, branchColumn, markColumn, labelNumbers, Numbers}
 use Rattle.memory.specs.Memory.{treeName, baseIn, treeCount, isFreeAt, markAt, markUse, markPlace, isMappedAt, labelIn, ownPlace, carriesAt, ownLabel, treeIn, cardOf, Relabelled}
 use Rattle.memory.proofs.Memory.{treeCount-le, base-range, own-kept, tree-with, tree-same, agree-refl, agree-set, tree-at}
-use Rattle.memory.proofs.Marks.{never, mapped-use, unmapped-above, label-mapped, label-awaiting, remarked, remarked-free, carried-in, carried-out, not-mapped, not-named, own-some, own-none}
+use Rattle.memory.proofs.Marks.{mapped-use, unmapped-above, label-mapped, label-awaiting, remarked, remarked-free, carried-in, carried-out, not-mapped, not-named, own-some, own-none}
 use Rattle.memory.proofs.Labels.{use-in, block-under, maps-out, relabelled, beside}
 use Rattle.memory.proofs.Head.{base-away, next-away, routes-away, labels-away, last-away}
 

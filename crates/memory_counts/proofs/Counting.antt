@@ -11,7 +11,7 @@ use lib.Seq.{set-out, getD-drop, drop-cons}
 use lib.Dec.{eqb}
 use borrow.Author.Tests.{eq-eqb, ne-eqb}
 use Rattle.meaning.specs.Octets.{any, count, place, same}
-use Rattle.meaning.specs.Lists.{by-test, any-count, count-any, same-eq}
+use Rattle.meaning.specs.Lists.{by-test, any-count, count-any, same-eq, never}
 use Rattle.meaning.specs.Wire.{rootIn, rootLength, nameLimit}
 use Rattle.meaning.specs.Card.{Route, Tree, Card, noEntry, withRoutes, withTrees, withCounts, routePlace, isFor, bare, treeAt, isBranch, isEmpty, isLone}
 use Rattle.meaning.specs.Events.{ofRoot, total, inRoot, oneStanding, oneLone, changed, recountedFor, recount, recounted}
@@ -20,7 +20,6 @@ use Rattle.octets.proofs.Same.{same-at}
 use Rattle.octets.proofs.Tab.{tab-length, tab-get}
 use Rattle.memory.specs.Sizes.{nameSpace}
 use Rattle.memory.specs.Memory.{upTo, textAt, treeName, cardOf, routeCount, treeCount, routeIn}
-use Rattle.memory.proofs.Marks.{never}
 use Rattle.memory.proofs.Trees.{branches-length, name-at}
 use Rattle.memory_trees.proofs.Others.{one, count-set, one-within}
 

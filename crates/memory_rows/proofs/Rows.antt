@@ -2,17 +2,15 @@
 use Prim.Native.Nat.{ℕ, zero, suc, _+_, _*_, _-_, _/_, _≤_, _<_, suc-le-suc, zero-le}
 use native.Mathlib.Nat.{add-zero}
 use native.Mathlib.Omega.{arith}
-use mathlib.Core.Path.{_≡_, refl, ap, _∙_}
+use mathlib.Core.Path.{_≡_, refl, ap, _∙_, sym}
 use mathlib.Core.Bool.{true}
 use mathlib.Core.List.{List, [], _∷_, _++_}
 use lib.ListN.{length, getD, set, replicate, length-set, length-replicate}
 use lib.Seq.{getD-set-same, getD-set-other}
-use borrow.Author.Tests.{le-leb}
 use Rattle.meaning.specs.Octets.{cut}
 use Rattle.meaning.specs.Wire.{nameLimit, leastLabel}
 use Rattle.meaning.specs.Lists.{getD-all}
 use Rattle.meaning.specs.Card.{free, labelCount, fresh, withTrees, bare, treeLimit, mostBase}
-use Rattle.meaning.specs.Events.{baseOutside}
 use Rattle.octets.specs.Part.{tab}
 use Rattle.octets.proofs.Tab.{tab-ext, tab-snoc, tab-cut}
 use Rattle.memory.proofs.Labels.{word-free}
@@ -23,6 +21,7 @@ use Rattle.memory.proofs.Memory.{upTo-le, upTo-in, free-same, own-same, own-kep
 use Rattle.memory.proofs.Marks.{label-free, not-far, own-none}
 use Rattle.memory.proofs.Parts.{Carries, lower, text-put}
 use Rattle.memory_rows.specs.Lower.{Lowered, NamesLowered}
+use Rattle.memory.proofs.Head.{base-in}
 
 -- ---- a row that stands at another place
 
@@ -44,10 +43,6 @@ tab-replicate : {A : Type 0} (n : ℕ) (f : ℕ → A) (v : A) → ((i : ℕ) �
 unfolding tab
 tab-replicate zero f v h = refl
 tab-replicate (suc n) f v h = cc (h zero (suc-le-suc zero-le), tab-replicate n (λ i. f (suc i)) v (λ i k. h (suc i) (suc-le-suc k)))
-
-base-in : (ns : List ℕ) (b : ℕ) → getD ns 0 0 ≡ b → leastLabel ≤ b → b ≤ mostBase → baseIn ns ≡ b
-unfolding baseIn baseOutside
-base-in ns b e l h = rw (e, le-leb leastLabel b l, le-leb b mostBase h) refl
 
 no-rows : (ns os : List ℕ) → getD ns 2 0 ≡ 0 → getD ns 3 0 ≡ 0 → (tab (routeCount ns) (routeIn ns os) ≡ []) × (tab (treeCount ns) (treeIn ns os) ≡ [])
 unfolding tab routeCount treeCount upTo
@@ -100,7 +95,8 @@ pub start-fresh : (ns zs os : List ℕ) (base : ℕ) → Numbers ns → leastLab
 unfolding cardOf fresh nextIn
 start-fresh ns zs os base h lo hi e =
     let long : Numbers zs = rw e (length-replicate (length ns) 0 ∙ h) in
-    let b : baseIn ms ≡ base = base-in ms base (full-rest ks v 0 (omega arith) ∙ getD-set-other (set zs 0 base) 1 0 1 0 (λ q. omega arith) ∙ getD-set-same zs 0 base 0 (omega arith)) lo hi in
+    let put : getD ms 0 0 ≡ base = full-rest ks v 0 (omega arith) ∙ getD-set-other (set zs 0 base) 1 0 1 0 (λ q. omega arith) ∙ getD-set-same zs 0 base 0 (omega arith) in
+    let b : baseIn ms ≡ base = sym (base-in ms (rw put lo) (rw put hi)) ∙ put in
     let n : getD ms 1 0 ≡ 1 = full-rest ks v 1 (omega arith) ∙ getD-set-same (set zs 0 base) 1 1 0 (rw length-set (omega arith)) in
     let none = no-rows ms os (rest 2 (omega arith) (omega arith)) (rest 3 (omega arith) (omega arith)) in
     let r : tab (routeCount ms) (routeIn ms os) ≡ [] = none .0 in

@@ -9,9 +9,8 @@ use borrow.Author.Tests.{eqb-false, eq-eqb, ne-eqb, le-leb, lt-leb}
 use Rattle.meaning.specs.Octets.{pick}
 use Rattle.meaning.specs.Card.{Card, treeLimit}
 use Rattle.meaning.specs.Events.{needAll}
-use Rattle.meaning.specs.Lists.{by-test}
+use Rattle.meaning.specs.Lists.{by-test, no-way}
 use Rattle.meaning_plan.specs.Plan.{Allowed, mayHave, noChoice, goesFirst, cheapest, choice}
-use Rattle.meaning_plan.specs.Absurd.{no-way}
 use Rattle.meaning_plan.specs.Loops.{cheapest-step}
 
 module _ (ok : ℕ → Bool) (cost : ℕ → ℕ) where

@@ -1,24 +1,22 @@
 -- The proposal, route by route from the table's last; and what the planner says of it. Assumes nothing.
 use Prim.Native.Nat.{ℕ, suc, _+_, _*_, _-_, _%_, _≤_, _<_}
-use native.Mathlib.Nat.{le-refl}
 use native.Mathlib.Omega.{arith}
 use mathlib.Core.Path.{_≡_, refl, sym, ap, _∙_}
 use mathlib.Core.Bool.{Bool, true, false, not, _&&_}
 use mathlib.Core.List.{List, [], _∷_}
-use lib.ListN.{length, take, drop, getD, drop-of-length-le}
+use lib.ListN.{length, take, drop, drop-of-length-le}
 use lib.Seq.{drop-cons}
-use lib.Dec.{leb, ltb}
-use borrow.Author.Tests.{ltb-true, lt-ltb, le-ltb, eq-eqb, ne-eqb, not-true, not-false}
+use lib.Dec.{leb}
+use borrow.Author.Tests.{lt-ltb, le-ltb, eq-eqb, ne-eqb, not-true, not-false}
 use Rattle.meaning.specs.Octets.{all}
 use Rattle.meaning.specs.Wire.{rootLimit}
 use Rattle.meaning.specs.Card.{Route, Card, freeLabels}
 use Rattle.meaning.specs.Events.{noNeighbour}
-use Rattle.meaning.specs.Lists.{by-test, picked}
+use Rattle.meaning.specs.Lists.{by-test}
 use Rattle.meaning.specs.Calls.{over}
 use Rattle.meaning_save.specs.Save.{spaced}
 use Rattle.octets.specs.Part.{mid}
-use Rattle.octets.proofs.Tab.{tab-length}
-use Rattle.memory.specs.Memory.{upTo, textAt, rootName}
+use Rattle.memory.specs.Memory.{rootName}
 use Rattle.save_texts.proofs.Parts.{two-parts}
 use Rattle.save_texts.proofs.Sizes.{space-length}
 use Rattle.save_rules_rows.proofs.RowRules.{At}
@@ -27,6 +25,7 @@ use Rattle.meaning_plan.specs.PlanOctets.{allowedIn, entrySize, entryOf, listOf
 use Rattle.plan_make.specs.declared.Planned.{Planned}
 use Rattle.plan_make.specs.Plan.{planOf, listMade, Readable}
 use Rattle.plan_make.specs.Rows.{Holds}
+use Rattle.memory.proofs.Memory.{text-le}
 
 -- ---- one row
 
@@ -37,17 +36,9 @@ row-put xs us vs r via l h eu es =
     let v : via % 256 ≡ via = omega arith in
     rw (v, eu, es) (two-parts 1 (1 + rootLimit) xs (via ∷ []) (spaced rootLimit r) l refl (space-length rootLimit r))
 
-up-most : (k n : ℕ) → upTo k n ≤ k
-unfolding upTo
-up-most k n = picked (λ (x : ℕ). x ≤ k) (ltb n k) (λ h. let lt : n < k = ltb-true n k h in omega arith) (λ _. le-refl k)
-
-text-short : (k : ℕ) (os : List ℕ) (p : ℕ) → length (textAt k os p) ≤ k
-unfolding textAt
-text-short k os p = rw (tab-length (upTo k (getD os p 0)) (λ j. getD os (p + 1 + j) 0)) (up-most k (getD os p 0))
-
 pub root-short : (os : List ℕ) (i : ℕ) (a : List ℕ) → a ≡ rootName os i → length a ≤ rootLimit
 unfolding rootName
-root-short os i a e = rw e (text-short rootLimit os _)
+root-short os i a e = rw e (text-le rootLimit _ os)
 
 pub row-fits : (r : List ℕ) (via : ℕ) → length r ≤ rootLimit → via < 256 → Carriable (record { root = r; via = via })
 row-fits r via h k = record { short = h; low = k }

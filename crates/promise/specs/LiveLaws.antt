@@ -13,7 +13,7 @@ use Rattle.meaning.specs.Octets.{pick, count, same}
 use Rattle.meaning.specs.Wire.{Message}
 use Rattle.meaning.specs.Card.{Use, free, mapped, awaiting, nobody, isFree, isAwaiting, mappedTo, neighbourCount}
 use Rattle.promise.specs.Promise.{Given, ofLabel, isAbout, isStanding, mark, remove, Each}
-use Rattle.meaning.specs.Lists.{by-test, picked, same-eq, same-refl, same-no}
+use Rattle.meaning.specs.Lists.{by-test, picked, same-eq, same-refl, same-no, never}
 
 -- ---- a label's use
 
@@ -89,9 +89,6 @@ upd U m u l = pick (eqb m l) u (U l)
 abbrev pub carry : (List ℕ → ℕ) → List ℕ → ℕ → List ℕ → ℕ
 carry lab a m b = pick (same a b) m (lab b)
 
-not-two : false ≡ true → {X : Type 0} → X
-not-two z = absurd (let z′ : _≡_ {A = ℕ} 0 1 = cc in omega arith)
-
 module _ (lab : List ℕ → ℕ) (U : ℕ → Use) (L : Linked lab U) where
   -- a free label's use is nobody's
   pub free-linked : (m : ℕ) (h : ℕ) (a : List ℕ) → isAwaiting h a (U m) ≡ true → Linked lab (upd U m free)
@@ -100,16 +97,16 @@ module _ (lab : List ℕ → ℕ) (U : ℕ → Use) (L : Linked lab U) where
     zero-free = picked (λ (u : Use). u ≡ free) (eqb m 0) (λ _. refl) (λ _. L .zero-free);
     real = λ l. picked (λ (u : Use). stray u ≡ false) (eqb m l) (λ _. refl) (λ _. L .real l);
     own = λ b nz. by-test (eqb m (lab b))
-        (λ e. not-two (sym (awaits-not b (U m) w) ∙ ap (λ (k : ℕ). isMapped b (U k)) (eqb-true m (lab b) e) ∙ L .own b nz))
+        (λ e. absurd (never (sym (awaits-not b (U m) w) ∙ ap (λ (k : ℕ). isMapped b (U k)) (eqb-true m (lab b) e) ∙ L .own b nz)))
         (λ e. rw e (L .own b nz));
     led = λ b l e. by-test (eqb m l)
-        (λ k. let z : false ≡ true = rw k at e in not-two z)
+        (λ k. let z : false ≡ true = rw k at e in absurd (never z))
         (λ k. L .led b l (rw k at e));
   }
     where
       awaits-not : (b : List ℕ) (u : Use) → isAwaiting h a u ≡ true → isMapped b u ≡ false
       awaits-not b free e = refl
-      awaits-not b (mapped n t) e = not-two e
+      awaits-not b (mapped n t) e = absurd (never e)
       awaits-not b (awaiting n t) e = refl
 
   pub up-linked : (a : List ℕ) (m h : ℕ) → isMapped a (U m) ≡ true → Linked (carry lab a 0) (upd U m (awaiting h a))
@@ -123,7 +120,7 @@ module _ (lab : List ℕ → ℕ) (U : ℕ → Use) (L : Linked lab U) where
         (λ k. absurd (same-no a b e (mapped-one a b (U (lab b)) (subst (λ (x : ℕ). isMapped a (U x) ≡ true) (eqb-true _ _ k) mp) (L .own b nzb′))))
         (λ k. rw k (L .own b nzb′))));
     led = λ b l e. by-test (eqb m l)
-        (λ k. let z : false ≡ true = rw k at e in not-two z)
+        (λ k. let z : false ≡ true = rw k at e in absurd (never z))
         (λ k. let e′ : isMapped b (U l) ≡ true = rw k at e in by-test (same a b)
         (λ s. absurd (eqb-false m l k (sym (L .led a m mp) ∙ ap lab (same-eq a b s) ∙ L .led b l e′)))
         (λ s. rw s (L .led b l e′)));

@@ -13,7 +13,7 @@ use Rattle.meaning.specs.Octets.{pick, any, cut}
 use Rattle.meaning.specs.Wire.{rootIn}
 use Rattle.meaning.specs.Card.{Tree, Card, noRoute, withRoutes, withTrees, withLabels, withBranch, withLabel, routeOf, bare, treeOf, treeAt, isBranch, isEmpty, notHeld, leadsOn, mappedTo, heldFor, freeLabels, Route, noEntry, neighbourCount, nobody}
 use Rattle.meaning.specs.Events.{Moved, still, followedBy, letGo, upstream, holder, holderOf, swept, treeWithout, parted, shed, shedFrom, sweptBelow, total, inRoot, workedOut, recountedWithout, treesWithout}
-use Rattle.meaning.specs.Lists.{by-test, picked}
+use Rattle.meaning.specs.Lists.{by-test, picked, neither}
 use Rattle.meaning_laws.specs.RoundTrip.{AllSendable}
 use Rattle.meaning_laws.specs.Losses.{without-name, parted-held, parted-tree, parted-at, parted-size}
 use Rattle.promise.specs.Promise.{Given, noteAll, NoneLive, AllMapped, without}
@@ -22,7 +22,7 @@ use Rattle.promise.specs.CardLaws.{shape, swept-is, swept-tidy, swept-us
 use Rattle.promise.specs.LabelLaws.{Sound, spent-eq, Fine, Kept, still-fine, let-go-fine, let-go-none, none-held, held-none, then-kept, at-other, held-other}
 use Rattle.meaning_laws.specs.Counts.{empty-leads, plains, plain-length, plain-count, without-plain}
 use Rattle.promise.specs.CountLaws.{Tally, found, same-shapes, without-empty, lost-true, counted-of}
-use Rattle.promise.specs.RuleLaws.{Ruled, holder-same, shape-empty, any-set-two, neither, cut-in, swept-at}
+use Rattle.promise.specs.RuleLaws.{Ruled, holder-same, shape-empty, any-set-two, cut-in, swept-at}
 use Rattle.promise.specs.PartedLaws.{parted-sound, parted-route, routes-fewer, roots-fewer, without-shape}
 
 -- ---- one tree

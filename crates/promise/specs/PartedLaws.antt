@@ -13,7 +13,7 @@ use Rattle.meaning.specs.Octets.{pick, place, count}
 use Rattle.meaning.specs.Wire.{elementRefusal}
 use Rattle.meaning.specs.Card.{Tree, Route, Use, free, mapped, awaiting, Card, noRoute, noEntry, withRoutes, withTrees, withLabels, withBranch, withLabel, isFor, routePlace, routeOf, treeOf, isFree, mappedTo, useOf, heldFor, freeLabels, neighbourCount, nobody}
 use Rattle.meaning.specs.Events.{isOf, freedOf, treeWithout, treesWithout, recountedWithout, routesWithout, parted}
-use Rattle.meaning.specs.Lists.{by-test, picked, found-none}
+use Rattle.meaning.specs.Lists.{by-test, picked, found-none, never}
 use Rattle.meaning_laws.specs.Losses.{freed-free, uses-length, parted-use, without-name, without-size, trees-count, parted-tree}
 use Rattle.meaning_laws.specs.Counts.{plains, plain-count, plain-route, without-plain}
 use Rattle.promise.specs.Promise.{Given, ofLabel, without}
@@ -23,23 +23,20 @@ use Rattle.promise.specs.LabelLaws.{Sound, spent-eq}
 
 -- ---- one use
 
-no : false ≡ true → {X : Type 0} → X
-no z = absurd (let z′ : _≡_ {A = ℕ} 0 1 = cc in omega arith)
-
 module _ (n : ℕ) where
   -- a label that is still mapped was mapped, and not to n
   freed-mapped : (a : List ℕ) (u : Use) → isMapped a (freedOf n u) ≡ true → (isMapped a u ≡ true) × (mappedTo u ≡ n → ⊥)
   unfolding isMapped freedOf isOf mappedTo
-  freed-mapped a free e = no e
-  freed-mapped a (mapped k b) e = by-test (eqb k n) (λ t. no (rw t at e)) (λ t. ((rw t at e), eqb-false k n t))
-  freed-mapped a (awaiting k b) e = by-test (eqb k n) (λ t. no (rw t at e)) (λ t. no (rw t at e))
+  freed-mapped a free e = absurd (never e)
+  freed-mapped a (mapped k b) e = by-test (eqb k n) (λ t. absurd (never (rw t at e))) (λ t. ((rw t at e), eqb-false k n t))
+  freed-mapped a (awaiting k b) e = by-test (eqb k n) (λ t. absurd (never (rw t at e))) (λ t. absurd (never (rw t at e)))
 
   -- one that is mapped to another stays as it is
   freed-stays : (a : List ℕ) (u : Use) → (mappedTo u ≡ n → ⊥) → isMapped a u ≡ true → isMapped a (freedOf n u) ≡ true
   unfolding isMapped freedOf isOf mappedTo
-  freed-stays a free d e = no e
+  freed-stays a free d e = absurd (never e)
   freed-stays a (mapped k b) d e = rw (ne-eqb k n d) e
-  freed-stays a (awaiting k b) d e = no e
+  freed-stays a (awaiting k b) d e = absurd (never e)
 
   -- none is mapped to n
   pub freed-none : n < neighbourCount → (u : Use) → mappedTo (freedOf n u) ≡ n → ⊥

@@ -4,7 +4,7 @@ use Prim.Native.Nat.{ℕ, zero, suc, _≤_, _<_, suc-le-suc, zero-le}
 use native.Mathlib.Nat.{le-of-suc-le-suc, not-suc-le-zero, le-trans}
 use native.Mathlib.Omega.{arith}
 use mathlib.Core.Path.{_≡_, refl, sym, ap, _∙_, subst, ap₂}
-use mathlib.Core.Bool.{Bool, true, false, _||_}
+use mathlib.Core.Bool.{Bool, true, false}
 use mathlib.Core.List.{List, [], _∷_}
 use lib.ListN.{getD, length, set, length-append, length-take, length-drop}
 use lib.Dec.{eqb, ltb}
@@ -59,10 +59,6 @@ any-set-two (b ∷ bs) zero zero h = h
 any-set-two (b ∷ bs) zero (suc u) h = by-test (ltb 0 b) (λ e. let z : true ≡ false = rw e at h in cc) (λ e. rw e at h)
 any-set-two (b ∷ bs) (suc n) zero h = any-set-zero bs n h
 any-set-two (b ∷ bs) (suc n) (suc u) h = by-test (ltb 0 b) (λ e. let z : true ≡ false = rw e at h in cc) (λ e. rw e (any-set-two bs n u (rw e at h)))
-
-pub neither : (x y : Bool) → (x || y) ≡ false → (x ≡ false) × (y ≡ false)
-neither true y e = absurd (let z : _≡_ {A = ℕ} 0 1 = cc in omega arith)
-neither false y e = (refl, e)
 
 pub empty-asked : (c : Card) (t : Tree) → isEmpty t ≡ true → holderOf c t ≡ nobody
 unfolding holderOf holder

@@ -14,12 +14,12 @@ use Rattle.meaning.specs.Card.{withTrees, named, treeAt, useOf, routeOf, Tree, 
 use Rattle.meaning.specs.Events.{taken, unless, Moved, still, upstream, holder, tell, relabel, entered, swept, needMove, need, labelsShort, holderOf, treesFull, treeRefusal, enter, become, branch, lessBranch, onWithdraw, onMessage, noNeighbour, onOctets, notLeaf, onLeave, receive, leave, outcome, recounted}
 use Rattle.meaning_laws.specs.Standing.{standing-at, not-standing}
 use Rattle.promise.specs.Promise.{Given, Step, history}
-use Rattle.meaning.specs.Lists.{by-test, picked}
+use Rattle.meaning.specs.Lists.{by-test, picked, neither}
 use Rattle.meaning_laws.specs.RoundTrip.{both}
 use Rattle.promise.specs.CardLaws.{tree-name}
 use Rattle.promise.specs.LabelLaws.{Sound}
 use Rattle.meaning_laws.specs.Counts.{any-set-zero}
-use Rattle.promise.specs.RuleLaws.{Ruled, held-named, bare-empty, any-set-two, neither}
+use Rattle.promise.specs.RuleLaws.{Ruled, held-named, bare-empty, any-set-two}
 use Rattle.promise.specs.EventLaws.{getD-put, less-name, less-label}
 use Rattle.promise.specs.PromiseProof.{history-upheld}
 
@@ -51,7 +51,7 @@ holds-exactly base steps a = let u = history-upheld base steps in held-named (hi
 
 -- ---- a tree that goes on standing, or stays away, sends nothing of its own
 
-entered-at : (c : Card) (t : Tree) → treeAt (treePlace (t .name) c) (entered c t) ≡ t
+pub entered-at : (c : Card) (t : Tree) → treeAt (treePlace (t .name) c) (entered c t) ≡ t
 unfolding treeAt entered withTrees treePlace
 entered-at c t = getD-put (named (t .name)) (c .trees) t (bare [])
 
@@ -77,7 +77,7 @@ nothing-moves c gs S R t l e =
 
 -- ---- a Withdraw is always answered
 
-less-leads : (n l u : ℕ) (t : Tree) → leadsOn u t ≡ false → leadsOn u (lessBranch n l t) ≡ false
+pub less-leads : (n l u : ℕ) (t : Tree) → leadsOn u t ≡ false → leadsOn u (lessBranch n l t) ≡ false
 unfolding lessBranch
 less-leads n l u t e = picked (λ (x : Tree). leadsOn u x ≡ false) (eqb (branch t n) l) (λ _. unfold leadsOn notHeld withBranch in gone) (λ _. e)
   where

@@ -87,7 +87,7 @@ is-use l free h = refl
 is-use l (mapped n a) h = rw (lt-ltb n neighbourCount (h .0 .0), eq-eqb (elementRefusal a) 0 (h .0 .1)) refl
 is-use l (awaiting n a) h = rw (lt-ltb n neighbourCount (h .0 .0), eq-eqb (elementRefusal a) 0 (h .0 .1)) refl
 
-mapped-same : (a : List ℕ) (u : Use) → isMappedFor a u ≡ isMapped a u
+pub mapped-same : (a : List ℕ) (u : Use) → isMappedFor a u ≡ isMapped a u
 unfolding isMappedFor isMapped
 mapped-same a free = refl
 mapped-same a (mapped n b) = refl

@@ -16,7 +16,6 @@ use Rattle.meaning.specs.Events.{Outcome, outcome, Event, receive, join, leave,
 use Rattle.promise.specs.Promise.{Given, Step, Past, answerTo, sends, thenStep}
 use Rattle.promise.specs.PromiseProof.{messagesOf, Upheld, sends-is, then-upheld, started}
 use Rattle.promise.specs.LossKept.{lost-taken, NotTo, Gone, lost-gone}
-use Rattle.promise_net.specs.Cuts.{far-off}
 use Rattle.promise.specs.Deeds.{thenDeed}
 use Rattle.promise.specs.Deeds
 use Rattle.meaning.specs.Notice.{notice}
@@ -35,6 +34,7 @@ use Rattle.promise_bark.specs.Lookups.{EachBranch, Listed, name-fair, la
 use Rattle.promise_bark.specs.AtOnce.{listed-alive, at-once}
 use Rattle.promise_bark.specs.Ledger.{frees, alive-then, step-not-given}
 use Rattle.promise_bark.specs.Queues.{each-of, each-both, each-all, each-letters, messages-append, messages-letters, Orderly, orderly-live, orderly-map, orderly-append, orderly-letters, messages-passed, orderly-passed, empty-passed}
+use Rattle.promise_line.specs.LineRefusals.{far-off}
 
 -- what is so at every moment
 pub record Sure (far : Wires) (w : Traffic) : Type 0 where

@@ -8,7 +8,7 @@ use mathlib.Core.List.{List, [], _∷_, _++_}
 use lib.Dec.{eqb}
 use borrow.Author.Tests.{eqb-true, eqb-false, eq-eqb}
 use Rattle.meaning.specs.Octets.{pick, count, same}
-use Rattle.meaning.specs.Lists.{by-test, same-eq, same-refl}
+use Rattle.meaning.specs.Lists.{by-test, same-eq, same-refl, no-way}
 use Rattle.meaning.specs.Wire.{mapping, withdraw, release, Message}
 use Rattle.promise.specs.Promise.{Given, isAbout, isStanding, remove}
 use Rattle.promise.specs.PromiseProof.{newBranch}
@@ -100,9 +100,6 @@ said m b x = pick (same (m .name) x) (newBranch m (b x)) (b x)
 unfoldable pub replyTo : Message → List Message
 replyTo m = pick (eqb (m .kind) withdraw) (about release (m .name) (m .label) ∷ []) []
 
-not-true : true ≡ false → {X : Type 0} → X
-not-true z = absurd (let z′ : _≡_ {A = ℕ} 0 1 = cc in omega arith)
-
 said-mapping : (l : ℕ) (a : List ℕ) (b : List ℕ → ℕ) (x : List ℕ) → said (about mapping a l) b x ≡ pick (same a x) l (b x)
 unfolding said newBranch
 said-mapping l a b x = refl
@@ -130,7 +127,7 @@ cut-none l a b nz o x e =
     (λ h. eqb-false (b x) l h (rw (said-withdraw l a b x, k, h) at e)))
     (λ k. let z : b x ≡ l = rw (said-withdraw l a b x, k) at e in
     let y : x ≡ a = o x z in
-    not-true (sym (same-refl a) ∙ ap (same a) (sym y) ∙ k))
+    no-way (sym (same-refl a) ∙ ap (same a) (sym y) ∙ k))
 
 pub life-heard : {l q : ℕ} {b : List ℕ → ℕ} {r : Bool} {gs : List Given} {ups downs : List Message} {m : Message} → (l ≡ 0 → ⊥) → Life l q b r gs (m ∷ ups) downs → Life l q (said m b) r gs ups (downs ++ replyTo m)
 unfolding replyTo
@@ -140,9 +137,9 @@ life-heard {l} {b = b} nz (leaving a o) = going a (cut-none l a b nz o)
 
 -- or it refuses the message
 pub life-missed : {l q : ℕ} {b : List ℕ → ℕ} {r : Bool} {gs : List Given} {ups downs : List Message} {m : Message} → Life l q b r gs (m ∷ ups) downs → Life l q b true gs ups downs
-life-missed (asked a n) = standing a (λ x e. absurd (n x e)) (λ z. not-true z)
+life-missed (asked a n) = standing a (λ x e. absurd (n x e)) (λ z. no-way z)
 life-missed (hasty a n) = leaving a (λ x e. absurd (n x e))
-life-missed (leaving a o) = stranded a o (λ z. not-true z)
+life-missed (leaving a o) = stranded a o (λ z. no-way z)
 
 branch-other : (l : ℕ) (m : Message) (before : ℕ) → (l ≡ 0 → ⊥) → (m .label ≡ l → ⊥) → (m .kind ≡ mapping → before ≡ l → ⊥)
     → (newBranch m before ≡ l → before ≡ l) × (before ≡ l → newBranch m before ≡ l)

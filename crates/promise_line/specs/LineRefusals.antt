@@ -175,7 +175,7 @@ its-kind : (k : ℕ) → k ≡ release → isKind k ≡ true
 unfolding isKind
 its-kind k e = rw e refl
 
-far-off : (n : ℕ) → n < neighbourCount → noNeighbour n ≡ false
+pub far-off : (n : ℕ) → n < neighbourCount → noNeighbour n ≡ false
 unfolding noNeighbour
 far-off n k = by-test (ltb 15 n) (λ e. absurd (let z = ltb-true 15 n e in omega arith)) (λ e. e)
 

@@ -10,7 +10,7 @@ use lib.Seq.{getD-set-same, getD-set-other}
 use lib.Dec.{eqb}
 use borrow.Author.Tests.{eqb-true, eqb-false, eq-eqb}
 use Rattle.meaning.specs.Octets.{same}
-use Rattle.meaning.specs.Lists.{by-test, picked, append-nil}
+use Rattle.meaning.specs.Lists.{by-test, picked, append-nil, neither}
 use Rattle.meaning.specs.Wire.{mapping, withdraw, release, Message, messageIn, Sent, records}
 use Rattle.meaning.specs.Card.{Tree, Card, withNext, withBranch, withLeaf, withLabel, treeOf, treePlace, neighbourCount}
 use Rattle.meaning.specs.Events.{Outcome, refused, taken, refuse, accept, roomShort, finish, branch, otherLabel, Event, receive, join, leave, route, lost, outcome, event}
@@ -187,11 +187,7 @@ reply-none : (l p : ℕ) (m : Message) → eqb (m .kind) withdraw ≡ false → 
 unfolding answering kinTo
 reply-none l p m w = rw w refl
 
-either-false : (x y : Bool) → (x || y) ≡ false → (x ≡ false) × (y ≡ false)
-either-false true y e = absurd (let z : _≡_ {A = ℕ} 0 1 = cc in omega arith)
-either-false false y e = (refl, e)
-
-or-true : (x : Bool) → (x || true) ≡ true
+pub or-true : (x : Bool) → (x || true) ≡ true
 or-true true = refl
 or-true false = refl
 
@@ -203,7 +199,7 @@ module _ (l q p : ℕ) (b : List ℕ → ℕ) (r : Bool) (gs : List Given) (s : 
       by-test (eqb (messageIn s .label) l)
       (λ e. by-test (eqb (messageIn s .kind) mapping || eqb (messageIn s .kind) withdraw)
       (λ k. rw (reply-here l p (messageIn s) e) (life-heard nz (rw (k, e) at life)))
-      (λ k. let n = either-false (eqb (messageIn s .kind) mapping) (eqb (messageIn s .kind) withdraw) k in
+      (λ k. let n = neither (eqb (messageIn s .kind) mapping) (eqb (messageIn s .kind) withdraw) k in
       rw (reply-none l p (messageIn s) (n .1), append-nil downs) (life-deaf (messageIn s) (n .0) (n .1) (rw k at life))))
       (λ e. rw (reply-other l p (messageIn s) e, append-nil downs) (life-other (messageIn s) nz (eqb-false _ _ e) (fits (eqb-false _ _ e))
       (by-test (eqb (messageIn s .kind) mapping || eqb (messageIn s .kind) withdraw) (λ k. rw (k, e) at life) (λ k. rw k at life))))
@@ -233,7 +229,7 @@ module _ (x : Past) (u : Upheld x) (l q p : ℕ) (near : p < neighbourCount) (nz
   unfolding answersTo
   use-hears life =
       by-test (isTaken (x .card) (hearing room p s))
-      (λ e. rw (releases x u (hearing room p s) e l p) (life-eq (λ a k. sym (heard-said e a) ∙ k) (λ _ a k. heard-said e a ∙ k) (λ z. either-false r _ z .0) (hear-said l q p (from p x) r gs s rest downs life nz (heard-free e))))
+      (λ e. rw (releases x u (hearing room p s) e l p) (life-eq (λ a k. sym (heard-said e a) ∙ k) (λ _ a k. heard-said e a ∙ k) (λ z. neither r _ z .0) (hear-said l q p (from p x) r gs s rest downs life nz (heard-free e))))
       (λ e. let n = refused-still x (hearing room p s) e in
       rw (n .0) (unfold kinTo in (rw (append-nil downs)
-      (life-eq (λ a k. sym (ap (λ (y : Past). from p y a) (n .1)) ∙ k) (λ _ a k. ap (λ (y : Past). from p y a) (n .1) ∙ k) (λ z. rw e at (either-false r _ z .1)) (hear-missed l q p (from p x) r gs s rest downs life)))))
+      (life-eq (λ a k. sym (ap (λ (y : Past). from p y a) (n .1)) ∙ k) (λ _ a k. ap (λ (y : Past). from p y a) (n .1) ∙ k) (λ z. rw e at (neither r _ z .1)) (hear-missed l q p (from p x) r gs s rest downs life)))))

@@ -7,12 +7,12 @@ use mathlib.Core.Path.{_≡_, refl, sym, ap, _∙_}
 use mathlib.Core.Bool.{true, false}
 use mathlib.Core.List.{List, [], _∷_}
 use lib.ListN.{getD, set}
-use lib.Dec.{eqb, ltb}
-use borrow.Author.Tests.{eq-eqb, ltb-true}
+use lib.Dec.{eqb}
+use borrow.Author.Tests.{eq-eqb}
 use Rattle.meaning.specs.Lists.{by-test}
 use Rattle.meaning.specs.Wire.{records}
 use Rattle.meaning.specs.Card.{Use, free, mapped, awaiting, Card, withNext, withBranch, treeOf, useOf, neighbourCount}
-use Rattle.meaning.specs.Events.{Outcome, refuse, accept, roomShort, finish, branch, isOf, noNeighbour, lost, outcome, event}
+use Rattle.meaning.specs.Events.{Outcome, refuse, accept, roomShort, finish, branch, isOf, lost, outcome, event}
 use Rattle.promise.specs.Promise.{Past, answerTo, isTaken, thenStep}
 use Rattle.promise.specs.LiveLaws.{givens, Books}
 use Rattle.promise.specs.EventLaws.{became}
@@ -25,6 +25,7 @@ use Rattle.promise_line.specs.Sends.{kin, mine, mine-only}
 use Rattle.promise_line.specs.Steps.{from, branches}
 use Rattle.promise_line.specs.LineProof.{Bound}
 use Rattle.promise_net.specs.Net.{losing}
+use Rattle.promise_line.specs.LineRefusals.{far-off}
 
 -- no label of the table is at n
 none-kept : (room : ℕ) (c : Card) (n : ℕ) (o : Outcome) → Gone n o → eqb (finish room c o .answer) 0 ≡ true → (l : ℕ) → isOf n (useOf l (finish room c o .card)) ≡ false
@@ -39,10 +40,6 @@ unfolding isOf mine givens
 none-mine n l free e = refl
 none-mine n l (mapped k a) e = rw (eq-eqb l l refl, e) refl
 none-mine n l (awaiting k a) e = rw (eq-eqb l l refl, e) refl
-
-pub far-off : (n : ℕ) → n < neighbourCount → noNeighbour n ≡ false
-unfolding noNeighbour
-far-off n k = by-test (ltb 15 n) (λ e. absurd (let z = ltb-true 15 n e in omega arith)) (λ e. e)
 
 set-none : (bs : List ℕ) (k : ℕ) → getD (set bs k 0) k 0 ≡ 0
 set-none [] k = refl

@@ -12,7 +12,7 @@ use borrow.Author.Tests.{eqb-true, eqb-false, eq-eqb, ltb-true, ltb-false, leb-t
 use Rattle.meaning.specs.Octets.{pick, place, count, any, all, same}
 use Rattle.meaning.specs.Card.{noEntry, Route, Card, noRoute, withNext, isFor, routePlace, routeOf, freeLabels, sentLimit, neighbourCount}
 use Rattle.meaning.specs.Events.{Out, accept, needAll, notRoot, route, event}
-use Rattle.meaning.specs.Lists.{by-test, picked, place-finds, place-count, place-only, getD-out, getD-same, same-eq, same-refl}
+use Rattle.meaning.specs.Lists.{by-test, picked, place-finds, place-count, place-only, getD-out, getD-same, same-eq, same-refl, no-way}
 use Rattle.meaning_laws.specs.RoundTrip.{both}
 use Rattle.meaning_save.specs.Save.{isRoute}
 use Rattle.meaning_laws.specs.SaveFields.{all-cons}
@@ -20,7 +20,6 @@ use Rattle.meaning_laws.specs.SaveRules.{all-at}
 use Rattle.promise.specs.Promise.{Given}
 use Rattle.promise.specs.LabelLaws.{Sound}
 use Rattle.promise.specs.RuleLaws.{Ruled}
-use Rattle.meaning_plan.specs.Absurd.{no-way}
 use Rattle.meaning_plan.specs.Plan.{Move, moveFor, Allowed, permits, goesBy, needList, mayHave, isMove, listedOnce, accepts, ordered, carriedOut, answers, isTaken, noRefusal, someThrough, routeAfter}
 use Rattle.promise_plan.specs.OneOrder.{order-taken, after-sound, after-ruled, after-need, after-free, own-after, other-after}
 

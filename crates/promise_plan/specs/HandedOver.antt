@@ -1,30 +1,20 @@
 -- THE PLANNER'S OCTETS are read as its list, and pass the checker.
 -- Assumes nothing.
-use Prim.Native.Nat.{ℕ, _≤_}
+use Prim.Native.Nat.{ℕ}
 use native.Mathlib.Omega.{arith}
 use mathlib.Core.Path.{_≡_, refl}
 use mathlib.Core.Bool.{true, false}
 use mathlib.Core.List.{List, [], _∷_}
-use lib.ListN.{length}
-use lib.Dec.{eqb}
-use borrow.Author.Tests.{eqb-true, not-false}
 use Rattle.meaning.specs.Card.{Card}
-use Rattle.meaning.specs.Events.{noNeighbour, notRoot}
+use Rattle.meaning.specs.Events.{noNeighbour}
 use Rattle.meaning_save.specs.Save.{keepsRules}
-use Rattle.meaning_laws.specs.SaveLists.{either}
 use Rattle.meaning_laws.specs.SaveRules.{rules}
 use Rattle.meaning_plan.specs.Plan.{Move, accepted, listed}
 use Rattle.promise_plan.specs.CarriedOut.{AllMovable, all-movable}
 use Rattle.promise_plan.specs.CarriedOut as Carried
 use Rattle.promise_plan.specs.PlanKept.{near, planner-accepted}
 use Rattle.meaning_plan.specs.PlanOctets.{allowedIn, listOf, listIn, checkedOctets, plannedOctets, AllCarriable, is-list, list-back}
-
-root-fits : (r : List ℕ) → notRoot r ≡ false → length r ≤ 16
-unfolding notRoot
-root-fits r h =
-    either (eqb (length r) 4) (eqb (length r) 16) (not-false _ h)
-    (λ e. let z : length r ≡ 4 = eqb-true _ _ e in omega arith)
-    (λ e. let z : length r ≡ 16 = eqb-true _ _ e in omega arith)
+use Rattle.meaning_laws.specs.Refusals.{root-fits}
 
 carriable : (c : Card) (n : ℕ) (ms : List Move) → AllMovable c n ms → AllCarriable ms
 unfolding AllMovable AllCarriable

@@ -23,6 +23,7 @@ use Rattle.promise.specs.LiveLaws.{isMapped, stray, Linked, only, givens, Books
 use Rattle.promise.specs.CardLaws.{Proper, AllProper, tree-name}
 use Rattle.promise.specs.LabelLaws.{Sound, Spent}
 use Rattle.promise.specs.RuleLaws.{Ruled}
+use Rattle.promise.specs.SaveKept.{mapped-same}
 
 -- ---- the labels in use, as live ones
 
@@ -128,12 +129,6 @@ use-real free h = refl
 use-real (mapped n a) h = lt-leb neighbourCount n (ltb-true _ _ (both (ltb n neighbourCount) (isName a) h .0))
 use-real (awaiting n a) h = refl
 
-same-mapped : (a : List ℕ) (u : Use) → isMappedFor a u ≡ isMapped a u
-unfolding isMappedFor isMapped
-same-mapped a free = refl
-same-mapped a (mapped n b) = refl
-same-mapped a (awaiting n b) = refl
-
 carried-led : (c : Card) (a : List ℕ) (l : ℕ) (u : Use) → isCarried c l u ≡ true → isMapped a u ≡ true → treeOf a c .label ≡ l
 unfolding isCarried isMapped
 carried-led c a l free h e = absurd (let z : _≡_ {A = ℕ} 0 1 = cc in omega arith)
@@ -180,7 +175,7 @@ module _ (c : Card) (R : Rules c) where
       carries : (t : Tree) → t .name ≡ a → (t .label ≡ 0 → ⊥) → carriesOwn c t ≡ true → isMapped a (useOf (t .label) c) ≡ true
       carries t n nz h = unfold carriesOwn in
           let k : isMappedFor (t .name) (useOf (t .label) c) ≡ true = unfold carriesOwn in rw (ne-eqb (t .label) 0 nz) at h in
-          sym (same-mapped a (useOf (t .label) c)) ∙ rw n at k
+          sym (mapped-same a (useOf (t .label) c)) ∙ rw n at k
 
   linked : Linked (λ a. treeOf a c .label) (λ l. useOf l c)
   linked = record {

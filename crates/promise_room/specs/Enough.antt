@@ -11,7 +11,7 @@ use lib.Dec.{eqb}
 use borrow.Author.Tests.{eqb-true, eqb-false, eq-eqb, le-ltb}
 use Rattle.meaning.specs.Octets.{any}
 use Rattle.meaning.specs.Wire.{rootIn, Message, mapping, withdraw, release, messageIn, records, recordLimit}
-use Rattle.meaning.specs.Card.{nobody, Tree, Card, named, bare, withTrees, withBranch, treePlace, treeOf, treeAt, isBranch, notHeld, leadsOn, useOf, heldFor, routeOf}
+use Rattle.meaning.specs.Card.{nobody, Tree, Card, withTrees, withBranch, treePlace, treeOf, treeAt, isBranch, notHeld, leadsOn, useOf, heldFor, routeOf}
 use Rattle.meaning.specs.Events.{Outcome, refused, taken, unless, roomShort, finish, Moved, still, followedBy, setUse, letGo, takeUp, moveLabel, relabel, upstream, holder, holderOf, entered, enter, become, branch, onMapping, lessBranch, onWithdraw, onRelease, onMessage, onOctets, Event, receive, outcome, event}
 use Rattle.meaning.specs.Lists.{by-test, picked}
 use Rattle.session.specs.Session.{messageRoom, label}
@@ -19,9 +19,10 @@ use Rattle.promise.specs.Promise.{Given, noteTaken, Step, history}
 use Rattle.promise.specs.LabelLaws.{Sound}
 use Rattle.promise.specs.RuleLaws.{Ruled, held-named}
 use Rattle.meaning_laws.specs.Counts.{any-set-zero}
-use Rattle.promise.specs.EventLaws.{getD-put, became, Apart, Keeps, event-keeps}
+use Rattle.promise.specs.EventLaws.{became, Apart, Keeps, event-keeps}
 use Rattle.promise.specs.PromiseProof.{history-upheld}
 use Rattle.promise.specs.Sizes.{records-short, let-go-one, take-up-one}
+use Rattle.promise.specs.RulesKept.{entered-at}
 
 -- ---- how many messages a move of a label sends
 
@@ -97,10 +98,6 @@ unfolding unless AtMost
 unless-most k zero o h = h
 unless-most k (suc n) o h = tt
 
-at-place : (c : Card) (t : Tree) → treeAt (treePlace (t .name) c) (entered c t) ≡ t
-unfolding treeAt entered withTrees treePlace
-at-place c t = getD-put (named (t .name)) (c .trees) t (bare [])
-
 mapping-most : (c : Card) (n : ℕ) (a : List ℕ) (l : ℕ) → AtMost 2 (onMapping c n a l)
 unfolding onMapping become enter AtMost
 mapping-most c n a l = unless-most 2 _ _ (unless-most 2 _ _ (relabel-two _ _ _))
@@ -118,7 +115,7 @@ module _ (c : Card) (gs : List Given) (S : Sound c gs) (R : Ruled c) where
       let g : Lessened t s = lessened n l t in
       let i : ℕ = treePlace (s .name) c in
       let u : ℕ = holderOf c s in
-      let same-use : heldFor (entered c s) (treeAt i (entered c s)) ≡ heldFor c t = rw (at-place c s) (unfold heldFor useOf entered withTrees in rw (g .label) refl) in
+      let same-use : heldFor (entered c s) (treeAt i (entered c s)) ≡ heldFor c t = rw (entered-at c s) (unfold heldFor useOf entered withTrees in rw (g .label) refl) in
       let one = relabel-one i u (entered c s) (λ h. same-use ∙ held-named c gs S R a ∙ upstream-less c t s g h) in
       unless-most 2 _ _ (omega arith)
 

@@ -19,9 +19,10 @@ use Rattle.promise.specs.LiveLaws.{stray-not}
 use Rattle.promise.specs.CardLaws.{tree-name}
 use Rattle.promise.specs.LabelLaws.{Sound}
 use Rattle.promise.specs.RuleLaws.{Ruled, held-named}
-use Rattle.meaning_laws.specs.Counts.{any-set-zero}
 use Rattle.promise.specs.EventLaws.{getD-put, less-name, less-label}
 use Rattle.promise.specs.PromiseProof.{messagesOf, Upheld, sends-is}
+use Rattle.promise.specs.RulesKept.{less-leads}
+use Rattle.promise_line.specs.Steps.{or-true}
 
 -- ---- what is said of an outcome's messages is said of those that its octets hold
 
@@ -82,15 +83,6 @@ more (b ∷ bs) zero l (suc u) z h = by-test (ltb 0 l) (λ e. rw e refl) (λ e. 
 more (b ∷ bs) (suc n) l zero z h = any-more bs n l z h
 more (b ∷ bs) (suc n) l (suc u) z h = by-test (ltb 0 b) (λ e. rw e refl) (λ e. rw e (more bs n l u z (rw e at h)))
 
--- one less
-less : (bs : List ℕ) (n u : ℕ) → any isBranch (set bs u 0) ≡ false → any isBranch (set (set bs n 0) u 0) ≡ false
-unfolding any isBranch
-less [] n u h = h
-less (b ∷ bs) zero zero h = h
-less (b ∷ bs) zero (suc u) h = by-test (ltb 0 b) (λ e. let z : true ≡ false = rw e at h in cc) (λ e. rw e at h)
-less (b ∷ bs) (suc n) zero h = any-set-zero bs n h
-less (b ∷ bs) (suc n) (suc u) h = by-test (ltb 0 b) (λ e. let z : true ≡ false = rw e at h in cc) (λ e. rw e (less bs n u (rw e at h)))
-
 -- a Mapping that is not refused by 10 leaves no tree without what it led to
 mapping-leads : (n l u : ℕ) (t : Tree) → otherLabel t n l ≡ false → leadsOn u t ≡ true → leadsOn u (withBranch n l t) ≡ true
 unfolding otherLabel branch leadsOn notHeld withBranch
@@ -103,22 +95,9 @@ mapping-leads n l u t o h =
     (λ k. let same-list : set (t .branches) n l ≡ t .branches = ap (set (t .branches) n) (sym (eqb-true _ _ k)) ∙ set-getD (t .branches) n 0 in rw same-list h)
     (λ k. let w : true ≡ false = rw (z, k) at o in cc)))
   where
-    or-true : (x : Bool) → (x || true) ≡ true
-    or-true true = refl
-    or-true false = refl
-
     or-false : (x : Bool) → (x || false) ≡ true → x ≡ true
     or-false true h = refl
     or-false false h = h
-
-withdraw-leads : (n l u : ℕ) (t : Tree) → leadsOn u t ≡ false → leadsOn u (lessBranch n l t) ≡ false
-unfolding leadsOn notHeld lessBranch withBranch
-withdraw-leads n l u t h =
-    by-test (eqb (branch t n) l)
-    (λ e. rw e (by-test (any isBranch (set (t .branches) u 0))
-    (λ k. let z : true ≡ false = rw k at h in cc)
-    (λ k. rw (less (t .branches) n u k) (rw k at h))))
-    (λ e. rw e h)
 
 -- ---- the messages
 
@@ -219,7 +198,7 @@ module _ (c : Card) (gs : List Given) (S : Sound c gs) (R : Ruled c) (n : ℕ) (
   withdraw-enters k =
       shrinks c gs S R (m .name) (lessBranch n (m .label) (treeOf (m .name) c)) (less-name n (m .label) (treeOf (m .name) c) ∙ tree-name (m .name) c) (less-label n (m .label) (treeOf (m .name) c))
       (λ (ms : List Sent). Q (tell n release (m .name) (m .label) ∷ ms)) (frees k) (λ x. quits x k)
-      (withdraw-leads n (m .label) _ (treeOf (m .name) c))
+      (less-leads n (m .label) _ (treeOf (m .name) c))
 
   nothing-said : (d : Card) → Says Q (taken [] d)
   unfolding Says

@@ -17,6 +17,7 @@ use Rattle.meaning.specs.Events.{ofRoot, total, inRoot, oneStanding, oneLone, w
 use Rattle.meaning_save.specs.Save.{onceEach, sameRoot, allWorkedOut}
 use Rattle.save_counts.specs.Counted.{counted}
 use Rattle.save_counts.proofs.Places.{one-changed}
+use Rattle.meaning_laws.specs.Counts.{standing-most, lone-most}
 
 -- ---- sums
 
@@ -24,14 +25,6 @@ total-behind : (f : Tree → ℕ) (ts : List Tree) (t : Tree) → total f (ts ++
 unfolding total
 total-behind f [] t = omega arith
 total-behind f (s ∷ ts) t = let e = total-behind f ts t in omega arith
-
-standing-most : (t : Tree) → oneStanding t ≤ 1
-unfolding oneStanding
-standing-most t = by-test (isEmpty t) (λ k. rw k (omega arith)) (λ k. rw k (omega arith))
-
-lone-most : (t : Tree) → oneLone t ≤ 1
-unfolding oneLone
-lone-most t = by-test (isLone t) (λ k. rw k (omega arith)) (λ k. rw k (omega arith))
 
 module _ (r : List ℕ) (f : Tree → ℕ) (most : (t : Tree) → f t ≤ 1) where
   total-most : (ts : List Tree) → total (inRoot r f) ts ≤ length ts

@@ -6,9 +6,8 @@ use mathlib.Core.List.{List, [], _∷_, map}
 use Prim.Native.Nat.{ℕ}
 use lib.ListN.{getD, set}
 use Rattle.meaning.specs.Octets.{place, any, same}
-use Rattle.meaning.specs.Lists.{by-test, same-eq}
+use Rattle.meaning.specs.Lists.{by-test, same-eq, never}
 use Rattle.meaning_save.specs.Save.{onceEach}
-use Rattle.memory.proofs.Marks.{never}
 
 module _ {A : Type 0} (key : A → List ℕ) (g : A → A) (a : List ℕ) (still : (x : A) → same (key x) a ≡ false → g x ≡ x) where
   none-changed : (l : List A) → any (λ (x : A). same (key x) a) l ≡ false → map g l ≡ l

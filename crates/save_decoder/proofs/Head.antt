@@ -8,13 +8,12 @@ use lib.ListN.{drop, getD, replicate}
 use lib.Dec.{ltb}
 use borrow.Author.Tests.{ltb-true, ltb-false, not-true}
 use Rattle.meaning.specs.Octets.{twoAt, fourAt}
-use Rattle.meaning.specs.Lists.{by-test}
+use Rattle.meaning.specs.Lists.{by-test, never}
 use Rattle.meaning_laws.specs.RoundTrip.{both}
 use Rattle.meaning.specs.Events.{baseOutside}
 use Rattle.meaning.specs.Card.{Tree, Use, free, Card, withRoutes, withTrees, labelCount}
 use Rattle.meaning_save.specs.Save.{Form, new, formOf, lastPlace, routesRead, treesRead, treesEnd, usesRead, allLabelled, onceEach, sameName, sameRoot, keepsRules, tableIn, isSave, headSize, routeSize, countsRight, keepsRows}
 use Rattle.meaning_laws.specs.SaveLaws.{Head, head-of-save, last-of-save, ruled-keeps, taken-is-save}
-use Rattle.memory.proofs.Marks.{never}
 use Rattle.save_rows.specs.Stages.{treesBegin, rowsRead}
 use Rattle.save_labels.specs.Labels.{OfBlock}
 use Rattle.save_labels.proofs.Labels.{all-once}

@@ -17,21 +17,16 @@ use Rattle.meaning_laws.specs.SavePlaces.{extent-there}
 use Rattle.octets.specs.Part.{mid}
 use Rattle.octets.proofs.Parts.{mid-length}
 use Rattle.memory.specs.Memory.{upTo}
+use Rattle.meaning_laws.specs.WireLaws.{two-there}
 
 -- ---- numbers behind what was dropped
 
 module _ (o : List ℕ) (at : ℕ) where
-  pub two-drop : (i : ℕ) → twoAt (drop at o) i ≡ twoAt o (at + i)
-  unfolding twoAt
-  two-drop i =
-      let e : at + (i + 1) ≡ at + i + 1 = omega arith in
-      ap₂ (λ (x y : ℕ). x * 256 + y) (getD-drop at o i 0) (getD-drop at o (i + 1) 0 ∙ ap (λ (k : ℕ). getD o k 0) e)
-
   pub four-drop : (i : ℕ) → fourAt (drop at o) i ≡ fourAt o (at + i)
   unfolding fourAt
   four-drop i =
       let e : at + (i + 2) ≡ at + i + 2 = omega arith in
-      ap₂ (λ (x y : ℕ). x * 65536 + y) (two-drop i) (two-drop (i + 2) ∙ ap (twoAt o) e)
+      ap₂ (λ (x y : ℕ). x * 65536 + y) (two-there o at i) (two-there o at (i + 2) ∙ ap (twoAt o) e)
 
 -- four octets by themselves
 pub four-part : (o : List ℕ) (at : ℕ) → fourAt (take (at + 4 - at) (drop at o)) 0 ≡ fourAt o at

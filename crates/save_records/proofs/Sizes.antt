@@ -4,15 +4,8 @@ use native.Mathlib.Omega.{arith}
 use mathlib.Core.Path.{_≡_, refl}
 use mathlib.Core.Bool.{true}
 use mathlib.Core.List.{[]}
-use lib.ListN.{length}
-use Rattle.meaning.specs.Octets.{two, four}
-use Rattle.meaning.specs.Card.{Use, free, mapped, awaiting, Card, isFree}
-use Rattle.meaning_save.specs.Save.{Form, old, new, marked, lastSaved, headSaved, useSaved, headSize}
-
-pub head-length : (f : Form) (c : Card) → length (headSaved f c) ≡ headSize f
-unfolding headSaved lastSaved marked four two
-head-length old c = refl
-head-length new c = refl
+use Rattle.meaning.specs.Card.{Use, free, mapped, awaiting, isFree}
+use Rattle.meaning_save.specs.Save.{Form, useSaved}
 
 pub use-none : (f : Form) (l : ℕ) (u : Use) → isFree u ≡ true → useSaved f l u ≡ []
 unfolding useSaved isFree

@@ -9,13 +9,13 @@ use lib.ListN.{length, getD}
 use lib.Dec.{eqb, leb, ltb}
 use borrow.Author.Tests.{lt-ltb, le-leb, eq-eqb, ne-eqb, eqb-true, ltb-true, ltb-false}
 use Rattle.meaning.specs.Octets.{place, any, same, all}
-use Rattle.meaning.specs.Lists.{by-test, place-finds, place-skips, getD-out, getD-same, same-eq, same-refl, any-count, count-some}
+use Rattle.meaning.specs.Lists.{by-test, place-finds, place-skips, getD-out, getD-same, same-eq, same-refl, any-count, count-some, never}
 use Rattle.meaning.specs.Card.{Tree, mapped, awaiting, Card, treeOf, treePlace, bare, named, carries, isFree, mappedTo, useOf, labelCount, routeLimit, treeLimit, neighbourCount, mostBase, nobody}
 use Rattle.meaning.specs.Events.{baseOutside}
 use Rattle.meaning_save.specs.Save.{isName, onceEach, isRoute, sameRoot, isTree, sameName, isUse, isCarried, allCarried, isMappedFor, carriesOwn, holdsRight, keepsRows}
 use Rattle.memory.specs.Memory.{baseIn, nextIn, treeCount, isFreeAt, isMappedAt, labelName, labelIn, cardOf, InBlock}
 use Rattle.memory.proofs.Memory.{routeCount-le, treeCount-le, base-range, routes-length, trees-length, labels-length}
-use Rattle.memory.proofs.Marks.{never, by-use, mapped-use, label-free, label-mapped}
+use Rattle.memory.proofs.Marks.{by-use, mapped-use, label-free, label-mapped}
 use Rattle.memory.proofs.Labels.{use-in, use-at, awaited-is}
 use Rattle.meaning_laws.specs.SaveRules.{all-at}
 use Rattle.meaning.specs.Wire.{leastLabel}

@@ -21,7 +21,8 @@ use Rattle.memory.proofs.Marks.{by-use}
 use Rattle.save_texts.specs.Laid.{laid}
 use Rattle.save_texts.proofs.Parts.{laid-part, laid-then}
 use Rattle.save_records.proofs.Rows.{joined, joined-more, joined-first, joined-ext, all-joined, Lot}
-use Rattle.save_records.proofs.Sizes.{head-length, use-none}
+use Rattle.save_records.proofs.Sizes.{use-none}
+use Rattle.meaning_laws.specs.SaveLaws.{head-length}
 
 -- ---- rows
 

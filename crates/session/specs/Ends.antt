@@ -51,7 +51,7 @@ worked-under id left h b g = by (look id left h)
     by (message k) = settled-under id (left - k) (drop k h) b (rw length-drop (omega arith))
 
 -- how many octets are held after the first were eaten
-fill-count : (left : ℕ) (h : List ℕ) (e : ℕ) (o : List ℕ) → length (fill left h e o .held) + e ≡ length h + fill left h e o .eaten
+pub fill-count : (left : ℕ) (h : List ℕ) (e : ℕ) (o : List ℕ) → length (fill left h e o .held) + e ≡ length h + fill left h e o .eaten
 unfolding fill
 fill-count left h e o = rw (length-append, length-take) (omega arith)
 
@@ -119,7 +119,7 @@ taken-less id (reading left h) o z g =
     by stopped e p u = unfold eatenOf in simp (length-append, length-drop) (omega arith)
     by (reading left h') e p u = unfold eatenOf Under in simp (length-append, length-drop) (omega arith)
 
-quiet-none : (id : List ℕ) (s : Stream) → Quiet id s → holdsMessage s ≡ false
+pub quiet-none : (id : List ℕ) (s : Stream) → Quiet id s → holdsMessage s ≡ false
 unfolding Quiet holdsMessage look lookMessage isMessage
 quiet-none id stopped q = refl
 quiet-none id (reading zero h) q = refl

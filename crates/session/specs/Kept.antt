@@ -45,7 +45,7 @@ unfolding limit
 limit-least zero = omega arith
 limit-least (suc n) = omega arith
 
-limit-some : (n : ℕ) → 0 < n → limit n ≡ n
+pub limit-some : (n : ℕ) → 0 < n → limit n ≡ n
 unfolding limit
 limit-some zero h = absurd (not-suc-le-zero h)
 limit-some (suc n) h = refl

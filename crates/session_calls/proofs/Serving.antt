@@ -6,30 +6,21 @@ use mathlib.Core.Bool.{true, false}
 use mathlib.Core.List.{List, [], _++_, append-assoc}
 use lib.ListN.{length, take, drop, length-take, take-append-drop}
 use lib.Seq.{drop-append-le, take-append-seam, take-take, length-take-le}
-use lib.Dec.{ltb}
-use borrow.Author.Tests.{lt-ltb, le-ltb, ltb-false}
+use borrow.Author.Tests.{lt-ltb, le-ltb}
 use Rattle.meaning.specs.Octets.{_when_else_}
-use Rattle.meaning.specs.Wire.{records}
 use Rattle.meaning.specs.Card.{Card}
-use Rattle.meaning.specs.Events.{Outcome, refused, taken, refuse, accept, roomShort, finish, noNeighbour, receive, outcome, event}
+use Rattle.meaning.specs.Events.{noNeighbour, receive, outcome, event}
 use Rattle.meaning.specs.Calls.{over, Does}
-use Rattle.meaning.specs.Lists.{by-test, append-nil}
+use Rattle.meaning.specs.Lists.{append-nil}
 use Rattle.session.specs.Stream.{Stream, stopped, reading, limit, isStopped, settled, eatenOf}
 use Rattle.session.specs.Session.{messageRoom, streamRoom, label, heeded, Called, sessionShort, callRefusal, accepted, calledBy, called}
 use Rattle.session.specs.Calls.{Serves, HandsOver}
 use Rattle.session.specs.Lent.{leftIn, placeIn, countIn, streamOf}
 use Rattle.session_streams.specs.Holds.{heldAt}
 use Rattle.session_offer.specs.Offers.{Found, FoundNone}
+use Rattle.meaning_laws.specs.Refusals.{finish-fits}
 
 -- ---- no event writes more than its room
-
-finish-fits : (room : ℕ) (c : Card) (o : Outcome) → length (finish room c o .octets) ≤ room
-unfolding finish refuse accept roomShort
-finish-fits room c (refused n) = omega arith
-finish-fits room c (taken ms d) =
-    by-test (ltb room (length (records (c .next) ms)))
-    (λ e. rw e (omega arith))
-    (λ e. rw e (ltb-false room (length (records (c .next) ms)) e))
 
 pub label-fits : (c : Card) (n : ℕ) (m : List ℕ) → length (label c n m .octets) ≤ messageRoom
 unfolding label event

@@ -1,5 +1,5 @@
 -- Offered octets taken in: the memory after it is that of `filled`. Assumes nothing.
-use Prim.Native.Nat.{ℕ, zero, suc, _+_, _-_, min, _≤_, _<_}
+use Prim.Native.Nat.{ℕ, _+_, _-_, min, _≤_}
 use native.Mathlib.Omega.{arith}
 use mathlib.Core.Path.{_≡_, refl, sym, ap, _∙_}
 use mathlib.Core.List.{List, [], _∷_, _++_}
@@ -13,6 +13,7 @@ use Rattle.session_streams.specs.Holds.{heldAt}
 use Rattle.session_streams.proofs.Settling.{take-min}
 use Rattle.session_offer.specs.Offers.{TakesIn}
 use Rattle.session.specs.Session.{streamRoom}
+use Rattle.session.specs.Kept.{limit-some}
 
 -- what is offered from place k on
 pub offered-rest : (k : ℕ) (o : List ℕ) → take (length o - k) (drop k o) ≡ drop k o
@@ -41,15 +42,10 @@ no-octets : (l : List ℕ) → length l ≤ 0 → l ≡ []
 no-octets [] h = refl
 no-octets (x ∷ l) h = absurd (omega arith)
 
-limit-is : (n : ℕ) → 0 < n → limit n ≡ n
-unfolding limit
-limit-is zero h = absurd (omega arith)
-limit-is (suc n) h = refl
-
 fill-empty : (n e : ℕ) (o : List ℕ) → 8 ≤ n → n ≤ bodyLimit → Headed n e o (fill n [] e (drop e o))
 unfolding fill space
 fill-empty n e o low high =
-    let z : limit n - 0 ≡ n = omega (arith, limit-is n (omega arith)) in
+    let z : limit n - 0 ≡ n = omega (arith, limit-some n (omega arith)) in
     record { left = refl; held = rw z refl; eaten = rw z refl; low = low; high = high }
 
 pub filled-head : (id : List ℕ) (left : ℕ) (h o : List ℕ) (n : ℕ) → n ≡ headIn (look id left (fill left h 0 o .held)) → (n ≡ 0 → ⊥) → length (fill left h 0 o .held) ≤ limit left
@@ -125,7 +121,7 @@ module _ (ns b o : List ℕ) (left place count lim k : ℕ) (b1 : List ℕ)
       let q : length (fill (leftIn ns) (heldAt ns b) 0 o .held) ≤ limit (leftIn ns) = rw (first-held, ← is-left, length-take) (omega (arith, first-few)) in
       let g = filled-head id (leftIn ns) (heldAt ns b) o n y p q in
       let u : fill (leftIn ns) (heldAt ns b) 0 o .eaten ≡ k = first-eaten in
-      let lim-n = limit-is n (omega (arith, g .low)) in
+      let lim-n = limit-some n (omega (arith, g .low)) in
       let part : take (0 + more) (drop 10 (take (10 + 0) b1 ++ (take more o2 ++ drop more (drop (10 + 0) b1)))) ≡ take 0 (drop 10 b1) ++ take more o2 = lent-fill b1 o2 10 0 more (omega (arith, g .high)) (omega arith) in
       let zero-more : 0 + more ≡ more = omega arith in
       let part′ : take more (drop 10 b2) ≡ take more o2 = rw e2 (rw zero-more at part) in

@@ -24,7 +24,6 @@ use Rattle.bench_words.specs.Words.{ascii, part, octetsOf, Puts, hexLimit, inpu
 use Rattle.bench_verbs.specs.Line.{Said}
 use Rattle.bench_lines.specs.Text.{eventLine, textSpace}
 use Rattle.bench_replies.specs.Reply.{eventRoom, replyTo, Says}
-use Rattle.bench_replies.proofs.Reply.{decoded}
 use Rattle.session_orders.specs.Told.{Told, streamCount, streamFor}
 use Rattle.session_orders.specs.Asks.{Lies, meant, InLine}
 use Rattle.session_orders.specs.declared.Ask.{Ask}
@@ -33,6 +32,7 @@ use Rattle.session_replies.specs.Turns.{turns, turnsSpace, TurnsSay}
 use Rattle.session_replies.specs.Done.{packRoom, own, doneBy, Box, streamAt, boxAfter, BoxSays}
 use Rattle.session_replies.specs.Four.{isOwn, numbersOf, bufferOf, streamsOf, boxOf, boxOn}
 use Rattle.session_replies.proofs.Four.{four-at}
+use Rattle.bench_words.proofs.Words.{front-is}
 
 -- ---- octets, on the n-th stream
 
@@ -46,7 +46,7 @@ says-turns n neighbour room c ns o s b ns′ bs bs′ h e t number =
 
 pub says-decoded : (n neighbour number : ℕ) (b : Box) {ys before after : List ℕ} {k r room : ℕ} {text : List ℕ} {c : Card} {streams : List Stream} → Puts ys before after k
     → BoxSays (boxOn n number b (Told.octets neighbour (take k after))) r text c room streams → BoxSays (boxOn n number b (Told.octets neighbour ys)) r text c room streams
-says-decoded n neighbour number b p h = rw (decoded p) at h
+says-decoded n neighbour number b p h = rw (front-is p) at h
 
 -- ---- the writer
 
@@ -68,7 +68,7 @@ module _ (n room : ℕ) {id os before after part : List ℕ} {l whole k a : ℕ}
   pub pack-told : (word : List ℕ) {line : List ℕ} → line ≡ eventLine word a part → line ≡ eventLine word (pack own n (packRoom room) os .answer) (pack own n (packRoom room) os .octets)
   pack-told word e =
       let r : l ≡ packRoom room = omega arith in
-      let p : pack id n l (take k after) ≡ pack own n (packRoom room) os = rw (i, r, decoded given) refl in
+      let p : pack id n l (take k after) ≡ pack own n (packRoom room) os = rw (i, r, front-is given) refl in
       e ∙ rw (answers, hands, p) refl
 
 -- ---- a loss

@@ -4,26 +4,22 @@ use native.Mathlib.Omega.{arith}
 use mathlib.Core.Path.{_≡_, refl, sym, _∙_}
 use mathlib.Core.Bool.{true, false, not, _&&_, _||_}
 use mathlib.Core.List.{List, [], _∷_}
-use lib.ListN.{drop, length, length-append, length-take, length-drop}
+use lib.ListN.{drop, length, length-drop}
 use lib.Dec.{eqb}
 use borrow.Author.Tests.{ne-eqb}
 use Rattle.meaning.specs.Octets.{_when_else_}
 use Rattle.meaning.specs.Lists.{by-test, append-nil}
 use Rattle.meaning.specs.Card.{Card}
 use Rattle.meaning.specs.Events.{noNeighbour}
-use Rattle.session.specs.Stream.{pduHead, Look, wait, bad, head, message, lookMessage, look, Stream, stopped, reading, isMessage, holdsMessage, Filled, fill, opened, filled, settledBy, settled, workedBy, worked, eatenOf, taken}
+use Rattle.session.specs.Stream.{pduHead, Look, wait, bad, head, message, look, Stream, stopped, reading, holdsMessage, Filled, fill, opened, filled, settledBy, settled, workedBy, worked, eatenOf, taken}
 use Rattle.session.specs.StreamLaws.{Tells, look-tells}
 use Rattle.session.specs.Kept.{Quiet, quiet-taken, filled-eaten, taken-eaten, taken-one}
 use Rattle.session.specs.Session.{messageRoom, streamRoom, label, heeded, sessionShort, callRefusal, accepted, calledBy, Called, called}
-use Rattle.session.specs.Ends.{pending, taken-less}
+use Rattle.session.specs.Ends.{pending, taken-less, fill-count, quiet-none}
 use Rattle.session_calls.proofs.Serving.{label-fits}
 use Rattle.session_replies.specs.Turns.{identifier, callRoom, calledBox, isLast, callSpace, octetSpace}
 
 -- ---- a message has four octets at least
-
-fill-count : (left : ℕ) (h : List ℕ) (e : ℕ) (o : List ℕ) → length (fill left h e o .held) + e ≡ length h + fill left h e o .eaten
-unfolding fill
-fill-count left h e o = rw (length-append, length-take) (omega arith)
 
 -- no more is held than was held and eaten
 filled-count : (id : List ℕ) (left : ℕ) (h o : List ℕ) → length (filled id left h o .held) ≤ length h + filled id left h o .eaten
@@ -74,12 +70,6 @@ taken-four id (reading left h) o m ms e = by (look id (f .left) (f .held)) refl 
         settled-four (look id (f .left - k) (drop k (f .held))) (f .left - k) (f .eaten) (drop k (f .held)) h o (filled-eaten id left h o) (omega arith)
 
 -- ---- a call that is not the last
-
-quiet-none : (id : List ℕ) (s : Stream) → Quiet id s → holdsMessage s ≡ false
-unfolding Quiet holdsMessage look lookMessage isMessage
-quiet-none id stopped q = refl
-quiet-none id (reading zero h) q = refl
-quiet-none id (reading (suc n) h) q = rw q refl
 
 -- What a call leaves: the text of its records is no more than what was pending gives it, and where another call follows, that finds its text too.
 pub record Leaves (k : Called) (s : Stream) (o : List ℕ) : Type 0 where

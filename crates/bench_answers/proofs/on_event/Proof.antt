@@ -1,10 +1,11 @@
 -- `bench_answers::on_event` meets its contract: the octets of the HEX, and the output as long as the room says, go to the order's call. Assumes nothing.
 use native.Mathlib.Omega.{arith}
-use Rattle.bench_replies.proofs.Reply.{decoded, short}
+use Rattle.bench_replies.proofs.Reply.{short}
 use Rattle.bench_answers.proofs.Held.{word-lies, word-held}
 use borrow.Author.Needs.{needs}
 use Rattle.bench_answers.proofs.on_event.Statement.{statement}
 use Rattle.bench_answers.proofs.on_event.Tie as tie
+use Rattle.bench_words.proofs.Words.{front-is}
 
 hex-in-requires : tie.Need-hex-in-requires
 hex-in-requires c κs = search needs
@@ -65,7 +66,7 @@ returns c =
     let the-decode-hex = c .before .before .before .before .before .before .before .before .before .before .before .before .decode-hex in
     let all = the-output .ensures in
     let given = the-lent .ensures .1 in
-    λ number. c .before .before .before .tell-call .ensures number _ _ (omega arith) (word-held _ _ _ _ (the-hex-in .ensures) (decoded (the-decode-hex .ensures .0)))
+    λ number. c .before .before .before .tell-call .ensures number _ _ (omega arith) (word-held _ _ _ _ (the-hex-in .ensures) (front-is (the-decode-hex .ensures .0)))
 
 pub on-event-spec : {M : Type 1} → statement M
 on-event-spec =

@@ -1,12 +1,13 @@
 use Rattle.memory.specs.Memory.{cardOf}
 use mathlib.Core.Path.{ap, _∙_}
-use Rattle.bench_replies.proofs.Reply.{decoded, says-fed}
+use Rattle.bench_replies.proofs.Reply.{says-fed}
 use Rattle.bench_replies.specs.Reply.{replyTo}
 use Rattle.meaning.specs.Card.{lookupName}
 use Rattle.bench_words.specs.Words.{ascii}
 use borrow.Author.Needs.{needs}
 use Rattle.bench_answers.proofs.on_tree.Statement.{statement}
 use Rattle.bench_answers.proofs.on_tree.Tie as tie
+use Rattle.bench_words.proofs.Words.{front-is}
 
 input-requires : tie.Need-input-requires
 input-requires c κs = search needs
@@ -42,7 +43,7 @@ returns c =
     let at-decode-hex = at-lookup-name-core .before .before .before .before in
     let start = at-decode-hex .before .before .before .before .before in
     let a = start .args in
-    λ number room. says-fed _ _ (cardOf (a .numbers .now) (a .names .now)) room _ (at-lookup-name-core .lookup-name-core .ensures ∙ ap (λ s. lookupName s (cardOf (a .numbers .now) (a .names .now))) (decoded (at-decode-hex .decode-hex .ensures .0))) (c .before .before .put-feed .ensures .1) (c .before .before .put-feed .ensures .0)
+    λ number room. says-fed _ _ (cardOf (a .numbers .now) (a .names .now)) room _ (at-lookup-name-core .lookup-name-core .ensures ∙ ap (λ s. lookupName s (cardOf (a .numbers .now) (a .names .now))) (front-is (at-decode-hex .decode-hex .ensures .0))) (c .before .before .put-feed .ensures .1) (c .before .before .put-feed .ensures .0)
 
 pub on-tree-spec : {M : Type 1} → statement M
 on-tree-spec =

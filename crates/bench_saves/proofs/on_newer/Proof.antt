@@ -1,12 +1,12 @@
 -- `bench_saves::on_newer` meets its contract. Assumes nothing.
 use Rattle.bench_saves.proofs.Saves.{newer-fits, says-newer}
 use Rattle.bench_words.specs.Words.{ascii}
-use Rattle.bench_replies.proofs.Reply.{decoded}
 use Rattle.meaning_save.specs.Save.{new, saveLimit}
 use native.Mathlib.Omega.{arith}
 use borrow.Author.Needs.{needs}
 use Rattle.bench_saves.proofs.on_newer.Statement.{statement}
 use Rattle.bench_saves.proofs.on_newer.Tie as tie
+use Rattle.bench_words.proofs.Words.{front-is}
 
 longest-save-requires : tie.Need-longest-save-requires
 longest-save-requires c κs = search needs
@@ -56,7 +56,7 @@ returns c =
     let the-decode-hex = c .before .before .before .before .before .before .before .before .before .before .before .before .before .before .before .before .before .decode-hex in
     let the-newer = c .before .before .before .before .before .before .before .newer in
     let s = c .before .before .before .before .before .before .before .before .before .before .before .before .before .before .before .before .before .before .before .before .before .before in
-    λ number d. says-newer number (s .args .room) _ d _ _ _ _ _ _ (omega (arith, the-lent .ensures .1, the-longest-save2 .ensures)) (decoded (the-decode-hex .ensures .0)) (the-newer .ensures .0) (c .before .before .before .put-event .ensures .1) (c .before .before .before .put-event .ensures .0)
+    λ number d. says-newer number (s .args .room) _ d _ _ _ _ _ _ (omega (arith, the-lent .ensures .1, the-longest-save2 .ensures)) (front-is (the-decode-hex .ensures .0)) (the-newer .ensures .0) (c .before .before .before .put-event .ensures .1) (c .before .before .before .put-event .ensures .0)
 
 pub on-newer-spec : {M : Type 1} → statement M
 on-newer-spec =

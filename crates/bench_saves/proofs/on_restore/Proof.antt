@@ -1,11 +1,11 @@
 -- `bench_saves::on_restore` meets its contract. Assumes nothing.
 use Rattle.bench_saves.proofs.Saves.{says-restored}
-use Rattle.bench_replies.proofs.Reply.{decoded}
 use Rattle.memory.specs.Memory.{cardOf}
 use Rattle.meaning_save.specs.Save.{formOf}
 use borrow.Author.Needs.{needs}
 use Rattle.bench_saves.proofs.on_restore.Statement.{statement}
 use Rattle.bench_saves.proofs.on_restore.Tie as tie
+use Rattle.bench_words.proofs.Words.{front-is}
 
 longest-save-requires : tie.Need-longest-save-requires
 longest-save-requires c κs = search needs
@@ -36,7 +36,7 @@ returns c =
     let the-decode-hex = c .before .before .before .before .before .before .before .before .before .before .before .before .decode-hex in
     let the-restore = c .before .before .before .before .restore in
     let s = c .before .before .before .before .before .before .before .before .before .before .before .before .before .before .before .before .before in
-    λ number room. says-restored (formOf (s .args .second)) number room (cardOf (s .args .numbers .now) (s .args .names .now)) _ _ _ _ _ _ (decoded (the-decode-hex .ensures .0)) (the-restore .ensures .0) (the-restore .ensures .1) (c .before .before .put-restored .ensures .1) (c .before .before .put-restored .ensures .0)
+    λ number room. says-restored (formOf (s .args .second)) number room (cardOf (s .args .numbers .now) (s .args .names .now)) _ _ _ _ _ _ (front-is (the-decode-hex .ensures .0)) (the-restore .ensures .0) (the-restore .ensures .1) (c .before .before .put-restored .ensures .1) (c .before .before .put-restored .ensures .0)
 
 pub on-restore-spec : {M : Type 1} → statement M
 on-restore-spec =

@@ -1,8 +1,9 @@
 use mathlib.Core.Path.{sym, _∙_}
-use Rattle.card.proofs.Calls.{route-far, route-odd, route-is, root-fits}
+use Rattle.card.proofs.Calls.{route-far, route-odd, route-is}
 use borrow.Author.Needs.{needs}
 use Rattle.card.proofs.route_core.Statement.{statement}
 use Rattle.card.proofs.route_core.Tie as tie
+use Rattle.meaning_laws.specs.Refusals.{root-fits}
 
 returns : tie.Need-returns
 returns c = route-far _ _ _ (c .if1 .taken) _

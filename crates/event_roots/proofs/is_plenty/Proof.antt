@@ -1,10 +1,10 @@
 use mathlib.Core.Path.{sym, _∙_}
 use borrow.Author.Needs.{needs}
 use borrow.Author.Tests.{not-true}
-use Rattle.memory.proofs.Marks.{never}
 use Rattle.event_roots.proofs.Roots.{plenty}
 use Rattle.event_roots.proofs.is_plenty.Statement.{statement}
 use Rattle.event_roots.proofs.is_plenty.Tie as tie
+use Rattle.meaning.specs.Lists.{never}
 
 tree-count-requires : tie.Need-tree-count-requires
 tree-count-requires c κs = search needs

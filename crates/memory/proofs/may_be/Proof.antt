@@ -2,11 +2,11 @@ use Prim.Native.Nat.{_+_, _-_}
 use native.Mathlib.Omega.{arith}
 use mathlib.Core.Path.{refl, sym, _∙_}
 use lib.ListN.{length}
-use Rattle.memory.proofs.Marks.{never}
 use Rattle.memory.proofs.Parts.{may-not}
 use borrow.Author.Needs.{needs}
 use Rattle.memory.proofs.may_be.Statement.{statement}
 use Rattle.memory.proofs.may_be.Tie as tie
+use Rattle.meaning.specs.Lists.{never}
 
 returns : tie.Need-returns
 returns c = λ z. absurd (never (sym z))

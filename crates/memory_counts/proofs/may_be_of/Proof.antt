@@ -4,10 +4,10 @@ use mathlib.Core.Path.{refl, sym, _∙_}
 use lib.ListN.{length}
 use borrow.Author.Needs.{needs}
 use Rattle.memory.specs.Sizes.{nameSpace}
-use Rattle.memory.proofs.Marks.{never}
 use Rattle.memory_counts.proofs.Counting.{may-not-of}
 use Rattle.memory_counts.proofs.may_be_of.Statement.{statement}
 use Rattle.memory_counts.proofs.may_be_of.Tie as tie
+use Rattle.meaning.specs.Lists.{never}
 
 returns : tie.Need-returns
 returns c = λ z. absurd (never (sym z))

@@ -1,8 +1,8 @@
 use mathlib.Core.Logic.{inl, inr}
 use borrow.Author.Tests.{not-true, not-false, eqb-true, eqb-false}
-use Rattle.memory.proofs.Marks.{never}
 use Rattle.memory_trees.proofs.is_other.Statement.{statement}
 use Rattle.memory_trees.proofs.is_other.Tie as tie
+use Rattle.meaning.specs.Lists.{never}
 
 returns : tie.Need-returns
 returns c = ((λ z. absurd (never z)), (λ _. inl (c .if1 .taken)))

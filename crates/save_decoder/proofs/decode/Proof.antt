@@ -1,11 +1,11 @@
 -- `save_decoder::decode` meets its contract: what the head cannot say, and a name or a root that stands twice, are no save. Assumes nothing.
 use Rattle.save_decoder.proofs.Head.{names-not, roots-not, read-once}
-use Rattle.memory.proofs.Marks.{never}
 use borrow.Author.Tests.{not-true, not-false}
 use mathlib.Core.Path.{sym, _∙_}
 use borrow.Author.Needs.{needs}
 use Rattle.save_decoder.proofs.decode.Statement.{statement}
 use Rattle.save_decoder.proofs.decode.Tie as tie
+use Rattle.meaning.specs.Lists.{never}
 
 is-head-requires : tie.Need-is-head-requires
 is-head-requires c κs = search needs

@@ -2,10 +2,10 @@ use native.Mathlib.Omega.{arith}
 use borrow.Author.Tests.{leb-true, leb-false}
 use borrow.Author.Needs.{needs}
 use Rattle.meaning.specs.Card.{treeLimit}
-use Rattle.memory.proofs.Marks.{never}
 use Rattle.save_decoder.proofs.Head.{no-save}
 use Rattle.save_decoder.proofs.is_head.Statement.{statement}
 use Rattle.save_decoder.proofs.is_head.Tie as tie
+use Rattle.meaning.specs.Lists.{never}
 
 four-at-requires : tie.Need-four-at-requires
 four-at-requires c κs = search needs

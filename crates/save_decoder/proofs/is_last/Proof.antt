@@ -1,11 +1,11 @@
 -- `save_decoder::is_last` meets its contract. Assumes nothing.
 use Rattle.save_decoder.proofs.Head.{last-not, last-in, last-out, last-low}
-use Rattle.memory.proofs.Marks.{never}
 use borrow.Author.Tests.{not-true, not-false}
 use mathlib.Core.Path.{sym, _∙_}
 use borrow.Author.Needs.{needs}
 use Rattle.save_decoder.proofs.is_last.Statement.{statement}
 use Rattle.save_decoder.proofs.is_last.Tie as tie
+use Rattle.meaning.specs.Lists.{never}
 
 returns : tie.Need-returns
 returns c = ((λ _ s. absurd (never (sym (not-true _ (c .if1 .taken)) ∙ s))), (λ t. absurd (never (sym t))))

@@ -1,10 +1,10 @@
 use mathlib.Core.Path.{sym, _∙_}
 use borrow.Author.Tests.{not-true, not-false}
 use borrow.Author.Needs.{needs}
-use Rattle.memory.proofs.Marks.{never}
 use Rattle.save_reader.proofs.Whole.{taken, not-taken, read-keeps}
 use Rattle.save_reader.proofs.is_taken.Statement.{statement}
 use Rattle.save_reader.proofs.is_taken.Tie as tie
+use Rattle.meaning.specs.Lists.{never}
 
 decode-requires : tie.Need-decode-requires
 decode-requires c κs = search needs

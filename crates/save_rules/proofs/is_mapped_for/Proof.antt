@@ -1,10 +1,10 @@
 use mathlib.Core.Path.{sym, ap, _∙_}
 use borrow.Author.Needs.{needs}
 use Rattle.meaning.specs.Octets.{same}
-use Rattle.memory.proofs.Marks.{never}
 use Rattle.save_rules.proofs.Rules.{mapped-not, mapped-named}
 use Rattle.save_rules.proofs.is_mapped_for.Statement.{statement}
 use Rattle.save_rules.proofs.is_mapped_for.Tie as tie
+use Rattle.meaning.specs.Lists.{never}
 
 mapped-at-requires : tie.Need-mapped-at-requires
 mapped-at-requires c κs = search needs
