@@ -25,8 +25,7 @@ use memory::OCTET_COUNT;
 // Where a label leads.
 fn on_label(numbers: &[u64; NUMBER_COUNT], label: u32, text: &mut [u8]) -> usize
     requires { ⌜ textSpace ≤ length (now text) ⌝ }
-    ensures { λ r. ⌜ ((number room : ℕ) (os : List ℕ) → Says (replyTo number room (cardOf (now (numbers .entry)) os) (Said.label label))
-        r (now (text .exit)) (cardOf (now (numbers .entry)) os)) ⌝ }
+    ensures { λ r. ⌜ ((number room : ℕ) (os : List ℕ) → (let c = cardOf (now (numbers .entry)) os in Says (replyTo number room c (Said.label label)) r (now (text .exit)) c)) ⌝ }
 {
     let mut branches = [0u64; NEIGHBOUR_COUNT];
     let leaf = card_lookups::lookup_label_core(numbers, label, &mut branches);

@@ -95,7 +95,7 @@ pub fn route_place(numbers: &[u64], names: &[u8], root: &[u8]) -> usize
 // The route of the root whose place is i: 0 to 15 a neighbour, 16 this node, 17 no route.
 pub fn route_at(numbers: &[u64], i: usize) -> u64
     requires { ⌜ Numbers (now numbers) ⌝ }
-    ensures { λ r. ⌜ ((os root : List ℕ) → i ≡ routePlace root (cardOf (now (numbers .entry)) os) → r ≡ routeOf root (cardOf (now (numbers .entry)) os)) ⌝ }
+    ensures { λ r. ⌜ ((os root : List ℕ) → (let c = cardOf (now (numbers .entry)) os in i ≡ routePlace root c → r ≡ routeOf root c)) ⌝ }
 {
     if i < memory::route_count(numbers) {
         numbers[ROUTE_COLUMN + i] % 256

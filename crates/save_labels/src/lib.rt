@@ -74,8 +74,8 @@ fn read_uses(
 
 // The tree of the name that the label at place p is mapped for carries it from now on, unless it carries one already.
 fn give_label(numbers: &mut [u64], names: &[u8], tags: &[u32], p: usize)
-    requires { ⌜ Numbers (now numbers) × Names (now names) × (length (now tags) ≡ treeLimit) × Tagged (now tags) (treeCount (now numbers)) (now names) × (p < labelCount) × (onceEach sameName (cardOf (now numbers) (now names) .trees) ≡ true)
-        × ((j : ℕ) → j < treeCount (now numbers) → treeAt j (cardOf (now numbers) (now names)) .label ≡ baseIn (now numbers) + p → ⊥) ⌝ }
+    requires { ⌜ (let c = cardOf (now numbers) (now names) in Numbers (now numbers) × Names (now names) × (length (now tags) ≡ treeLimit) × Tagged (now tags) (treeCount (now numbers)) (now names) × (p < labelCount) × (onceEach sameName (c .trees) ≡ true)
+        × ((j : ℕ) → j < treeCount (now numbers) → treeAt j c .label ≡ baseIn (now numbers) + p → ⊥)) ⌝ }
     ensures { λ _. ⌜ (let c = cardOf (now (numbers .entry)) (now (names .entry)) in
         cardOf (now (numbers .exit)) (now (names .entry)) ≡ withTrees (map (given (baseIn (now (numbers .entry)) + p) (labelIn (now (numbers .entry)) (now (names .entry)) p)) (c .trees)) c) ⌝ }
 {
@@ -93,7 +93,7 @@ fn give_label(numbers: &mut [u64], names: &[u8], tags: &[u32], p: usize)
 }
 
 fn label_trees(numbers: &mut [u64], names: &[u8])
-    requires { ⌜ Numbers (now numbers) × Names (now names) × Unlabelled (cardOf (now numbers) (now names)) × (onceEach sameName (cardOf (now numbers) (now names) .trees) ≡ true) ⌝ }
+    requires { ⌜ (let c = cardOf (now numbers) (now names) in Numbers (now numbers) × Names (now names) × Unlabelled c × (onceEach sameName (c .trees) ≡ true)) ⌝ }
     ensures { λ _. ⌜ (let c = cardOf (now (numbers .entry)) (now (names .entry)) in
         cardOf (now (numbers .exit)) (now (names .entry)) ≡ withTrees (allLabelled (c .base) (c .labels) (c .trees)) c) ⌝ }
 {
@@ -149,9 +149,9 @@ fn settle(octets: &[u8], second: bool, numbers: &mut [u64])
 
 // The labels, whose records begin at a place, where no two trees have one name and no two routes one root.
 pub fn read_labels(octets: &[u8], at: usize, second: bool, numbers: &mut [u64], names: &mut [u8])
-    requires { ⌜ Numbers (now numbers) × Names (now names) × (at < 65536) × (drop at (now octets) ≡ labelsBegin (formOf second) (now octets))
-        × (cardOf (now numbers) (now names) ≡ rowsRead (formOf second) (now octets)) × (onceEach sameName (cardOf (now numbers) (now names) .trees) ≡ true)
-        × (onceEach sameRoot (cardOf (now numbers) (now names) .routes) ≡ true) × (second ≡ true → OfBlock (fourAt (now octets) 3) (fourAt (now octets) lastPlace)) ⌝ }
+    requires { ⌜ (let c = cardOf (now numbers) (now names) in Numbers (now numbers) × Names (now names) × (at < 65536) × (drop at (now octets) ≡ labelsBegin (formOf second) (now octets))
+        × (c ≡ rowsRead (formOf second) (now octets)) × (onceEach sameName (c .trees) ≡ true) × (onceEach sameRoot (c .routes) ≡ true)
+        × (second ≡ true → OfBlock (fourAt (now octets) 3) (fourAt (now octets) lastPlace))) ⌝ }
     ensures { λ _. ⌜ cardOf (now (numbers .exit)) (now (names .exit)) ≡ tableIn (formOf second) (now (octets .entry)) ⌝ }
 {
     let labels = octets::two_at(octets, 13) as usize;

@@ -140,7 +140,7 @@ fn put_tree_name(out: &mut [u8], name: &[u8], second: bool)
 // What stands behind the name: the leaf mark and the branches.
 fn put_tree_rest(numbers: &[u64], i: usize, out: &mut [u8])
     requires { ⌜ Numbers (now numbers) × (length (now out) ≡ 1 + 4 * neighbourCount) × StandsAt (now numbers) i ⌝ }
-    ensures { λ _. ⌜ ((os : List ℕ) → now (out .exit) ≡ pick (treeAt i (cardOf (now (numbers .entry)) os) .leaf) 1 0 ∷ foursOf (treeAt i (cardOf (now (numbers .entry)) os) .branches)) ⌝ }
+    ensures { λ _. ⌜ ((os : List ℕ) → (let t = treeAt i (cardOf (now (numbers .entry)) os) in now (out .exit) ≡ pick (t .leaf) 1 0 ∷ foursOf (t .branches))) ⌝ }
 {
     let leaf = [leaf_octet(numbers, i)];
     octets::copy(&mut out[0..1], &leaf);
