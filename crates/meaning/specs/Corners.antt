@@ -60,8 +60,9 @@ other = element 2 (replicate 16 32) (1 ∷ 0 ∷ 1 ∷ 9 ∷ [])
 unfoldable pub long : List ℕ
 long = element 2 (rootIn A ++ replicate 12 0) (1 ∷ 0 ∷ 1 ∷ 9 ∷ [])
 
-unfoldable pub readings : List Row
-readings =
+-- the message, its head and its TLVs
+unfoldable pub framingRows : List Row
+framingRows =
     -- 1: neighbour 16, though there are no octets
     refuses (receive 16 []) 1 ∷
     -- 2: a length field one short, one long; before any other number
@@ -88,6 +89,11 @@ readings =
     refuses (said (fec A [])) 5 ∷
     refuses (said (fec A (tlv 0x8001 [] (label 100 [])))) 5 ∷
     refuses (said []) 5 ∷
+    []
+
+-- the element of the FEC and its opaque value
+unfoldable pub elementRows : List Row
+elementRows =
     -- 6: no octet; a prefix; family 3; family 2 with four octets; family 1 with sixteen; two elements; an octet behind one
     refuses (said (fec [] (label 100 []))) 6 ∷
     refuses (said (fec (odd 2 1 4 7 (replicate 7 7)) (label 100 []))) 6 ∷
@@ -128,6 +134,11 @@ readings =
     -- in a Withdraw, which is not answered then, and in a Release
     refuses (heard 5 withdraw (element 1 (rootIn A) (1 ∷ [])) 100) 18 ∷
     refuses (heard 5 release (element 1 (rootIn A) (1 ∷ [])) 16) 18 ∷
+    []
+
+-- the Label TLV and what follows it
+unfoldable pub labelRows : List Row
+labelRows =
     -- 7 before 8
     refuses (said (fec (odd 6 1 4 0 []) (tlv 0x0200 (0 ∷ 0 ∷ 100 ∷ []) []))) 7 ∷
     -- 8: three octets, five; a bit above the twenty (reading 4); before 9
@@ -142,6 +153,11 @@ readings =
     refuses (said (fec A (label 100 (tlv 0x8001 (5 ∷ []) (tlv 0x0001 [] []))))) 9 ∷
     -- further TLVs with U bit set are stepped over, F bit or not
     maps (said (fec A (label 100 (tlv 0x8001 (5 ∷ []) (tlv 0xC002 [] []))))) ∷
+    []
+
+-- trees and their labels
+unfoldable pub treeRows : List Row
+treeRows =
     -- a Withdraw of an unknown tree: Release, table as before; one of another label: Release, and the branch stays
     anew (heard 5 withdraw A 100) 0 (wrote 1 5 release 100) 256 16 [] ∷
     maps (heard 1 mapping A 100) ∷
@@ -177,6 +193,11 @@ readings =
     then (leave other) 0 (recordOf 2 (tell 9 withdraw other 16)) 255 16 [] ∷
     -- 14 (reading 8): a tree that does not stand
     then (leave other) 14 [] 255 16 [] ∷
+    []
+
+-- orders, room, and other roots
+unfoldable pub orderRows : List Row
+orderRows =
     -- leaf orders begin at 6
     refuses (join (1 ∷ [])) 6 ∷
     refuses (join (wide 0)) 7 ∷
@@ -498,7 +519,11 @@ others =
 
 -- ---- the one statement
 
-pub corners-shown : NoneWrong (wrong 1 firstCard firstCard readings)
+pub corners-shown : NoneWrong (wrong 1 firstCard firstCard framingRows)
+    × NoneWrong (wrong 1 firstCard firstCard elementRows)
+    × NoneWrong (wrong 1 firstCard firstCard labelRows)
+    × NoneWrong (wrong 1 firstCard firstCard treeRows)
+    × NoneWrong (wrong 1 firstCard firstCard orderRows)
     × NoneWrong (wrong 1 fullCard firstCard fullRows)
     × NoneWrong (wrong 1 (left 2 (grown 3)) firstCard scarceRows)
     × NoneWrong (wrong 1 (left 1 (grown 3)) firstCard lastRows)
@@ -512,5 +537,5 @@ pub corners-shown : NoneWrong (wrong 1 firstCard firstCard readings)
     × NoneWrong (wrong 1 lone firstCard loneRows)
     × NoneWrong (wrong 1 losing firstCard lossRows)
     × T others
-unfolding computing readings other long packed fec label said holds odd wrong firstCard agrees flat feed A wide heard wrote kin grown scarce left crowd usedBy fullCard fullRows scarceRows lastRows root rooted rootRows rootedRows endRows heldRows paired needyRows countedRows rootsOf rerouted startsAs others late restRows lone loneRows after losing lossSent lossRows
-corners-shown = (tt, tt, tt, tt, tt, tt, tt, tt, tt, tt, tt, tt, tt, tt)
+unfolding computing framingRows elementRows labelRows treeRows orderRows other long packed fec label said holds odd wrong firstCard agrees flat feed A wide heard wrote kin grown scarce left crowd usedBy fullCard fullRows scarceRows lastRows root rooted rootRows rootedRows endRows heldRows paired needyRows countedRows rootsOf rerouted startsAs others late restRows lone loneRows after losing lossSent lossRows
+corners-shown = (tt, tt, tt, tt, tt, tt, tt, tt, tt, tt, tt, tt, tt, tt, tt, tt, tt, tt)
