@@ -9,9 +9,9 @@ use types.Run.{OneOf, miss}
 use Rattle.meaning.specs.Card.{Card}
 use Rattle.meaning.specs.Calls.{Does}
 use Rattle.meaning_laws.specs.Handed.{handed}
-use Rattle.bench_words.specs.Words.{part, octetsOf}
+use Rattle.bench_words.specs.Words.{part, Lies, octetsOf}
 use Rattle.bench_words.specs.declared.Word.{Word}
-use Rattle.bench_orders.specs.Tells.{meant, Lies, InLine}
+use Rattle.bench_orders.specs.Tells.{meant, InLine}
 use Rattle.bench_orders.specs.declared.Order.{Order}
 use Rattle.bench_orders.proofs.Order.{the-type}
 use Rattle.bench_lines.specs.Text.{eventLine, textSpace}

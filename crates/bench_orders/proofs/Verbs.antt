@@ -4,19 +4,18 @@ use native.Mathlib.Omega.{arith}
 use mathlib.Core.Path.{_≡_, refl, sym, _∙_}
 use mathlib.Core.Bool.{Bool, true, false}
 use mathlib.Core.List.{List, [], _∷_}
-use lib.ListN.{length, drop, length-drop}
-use lib.Seq.{length-take-le}
+use lib.ListN.{length}
 use denote.Enum.Declared.{tagOf}
 use types.Run.{OneOf, miss}
 use Rattle.meaning.specs.Octets.{pick}
 use Rattle.meaning.specs.Lists.{by-test}
 use Rattle.meaning_save.specs.Save.{Form, old, new, formOf, saveLimit}
-use Rattle.bench_words.specs.Words.{part, isHexTo, isHex, isNumber, octetsOf, hexLimit}
+use Rattle.bench_words.specs.Words.{part, Lies, isHexTo, isHex, isNumber, octetsOf, hexLimit}
 use Rattle.bench_verbs.specs.Line.{isSaveHex, Said, withNumber, withHex, withSave, withNumberHex, withHexNumber, withNumbersHex, withTwoHex, withThreeHex, withNumberTwoHex, does}
-use Rattle.bench_orders.specs.Tells.{meant, Lies, SaveLies, Tells}
+use Rattle.bench_orders.specs.Tells.{meant, SaveLies, Tells}
 use Rattle.bench_words.specs.Scan.{numberIn}
 use Rattle.bench_words.specs.declared.Number.{Number}
-use Rattle.bench_words.proofs.Words.{number-value, number-none, hex-short}
+use Rattle.bench_words.proofs.Words.{number-value, number-none, hex-lies}
 use Rattle.bench_orders.specs.Scan.{numbered, asNumber, withOctets, asHex}
 use Rattle.bench_verbs.specs.declared.Verb.{Verb}
 use Rattle.bench_orders.specs.declared.Order.{Order}
@@ -105,12 +104,12 @@ no-number-hex f w x k e g =
 
 pub lies : (l : List ℕ) (s e : ℕ) (b : Bool) → s ≤ e → e ≤ length l → b ≡ isHex (part s e l) → b ≡ true → Lies l s e
 unfolding isHex
-lies l s e b h k p q = let n = length-take-le (e - s) (drop s l) (simp length-drop (omega arith)) in let m = hex-short hexLimit (part s e l) (omega arith) (sym p ∙ q) in (h, k, omega arith)
+lies l s e b h k p q = hex-lies hexLimit l s e (omega arith) h k (sym p ∙ q)
 
 pub save-lies : (f : Form) (l : List ℕ) (s e : ℕ) (b : Bool) → s ≤ e → e ≤ length l → b ≡ isSaveHex f (part s e l) → b ≡ true → SaveLies f l s e
 unfolding isSaveHex
-save-lies old l s e b h k p q = let n = length-take-le (e - s) (drop s l) (simp length-drop (omega arith)) in let m = hex-short (2 * saveLimit old) (part s e l) (omega arith) (sym p ∙ q) in (h, k, omega arith)
-save-lies new l s e b h k p q = let n = length-take-le (e - s) (drop s l) (simp length-drop (omega arith)) in let m = hex-short (2 * saveLimit new) (part s e l) (omega arith) (sym p ∙ q) in (h, k, omega arith)
+save-lies old l s e b h k p q = hex-lies (2 * saveLimit old) l s e (omega arith) h k (sym p ∙ q)
+save-lies new l s e b h k p q = hex-lies (2 * saveLimit new) l s e (omega arith) h k (sym p ∙ q)
 
 pub one-save : (g : Form → List ℕ → Said) (f : Form) (w : List ℕ) (b : Bool) → b ≡ isSaveHex f w → b ≡ true → g f (octetsOf w) ≡ withSave g f (w ∷ [])
 unfolding withSave

@@ -1,10 +1,9 @@
 -- What `read_order` answers. Assumes nothing.
-use Prim.Native.Nat.{ℕ, _+_, _≤_, _*_}
+use Prim.Native.Nat.{ℕ, _*_}
 use mathlib.Core.Path.{_≡_}
 use mathlib.Core.List.{List}
-use lib.ListN.{length}
 use Rattle.meaning_save.specs.Save.{Form, formOf, saveLimit}
-use Rattle.bench_words.specs.Words.{part, octetsOf, hexLimit}
+use Rattle.bench_words.specs.Words.{part, LiesTo, Lies, octetsOf}
 use Rattle.bench_verbs.specs.Line.{Said, nothing, bad, start, room, take, join, leave, route, label, tree, free, notice, save, restore, lost, moves, layers, wrap, unwrap, plan, vet}
 use Rattle.bench_orders.specs.declared.Order.{Order}
 
@@ -32,12 +31,8 @@ meant l (Order.Unwrap s e) = unwrap (octetsOf (part s e l))
 meant l (Order.Plan n s e) = plan n (octetsOf (part s e l))
 meant l (Order.Vet n p s e) = vet n (octetsOf (part (p .start) (p .end) l)) (octetsOf (part s e l))
 
--- the word of HEX lies in the line
-abbrev pub Lies : List ℕ → ℕ → ℕ → Type 0
-Lies l s e = (s ≤ e) × (e ≤ length l) × (e ≤ s + hexLimit)
-
 abbrev pub SaveLies : Form → List ℕ → ℕ → ℕ → Type 0
-SaveLies f l s e = (s ≤ e) × (e ≤ length l) × (e ≤ s + 2 * saveLimit f)
+SaveLies f l s e = LiesTo (2 * saveLimit f) l s e
 
 abbrev pub InLine : List ℕ → Order → Type 0
 InLine l Order.Blank = Unit

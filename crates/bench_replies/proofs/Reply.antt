@@ -1,10 +1,9 @@
 -- Laws by which what is written is the reply. Assumes nothing.
-use Prim.Native.Nat.{ℕ, _-_, _≤_, _*_, min}
+use Prim.Native.Nat.{ℕ, _-_, _≤_, min}
 use native.Mathlib.Omega.{arith}
 use mathlib.Core.Path.{_≡_, refl, ap, _∙_}
 use mathlib.Core.List.{List, [], _∷_}
-use lib.ListN.{length, take, drop, length-drop}
-use lib.Seq.{length-take-le}
+use lib.ListN.{length, take}
 use borrow.Author.Tests.{ltb-false}
 use denote.Enum.Declared.{tagOf}
 use types.Run.{OneOf, miss}
@@ -14,8 +13,8 @@ use Rattle.meaning.specs.Events.{Out, refuse, accept, roomShort, noNeighbour, E
 use Rattle.meaning.specs.Notice.{noticeDue, noticeRecord, notice}
 use Rattle.meaning_save.specs.Save.{Form, new, saved, save, fitsSave, saveLimit}
 use Rattle.meaning.specs.Calls.{Hands}
-use Rattle.bench_words.specs.Words.{Puts, hexLimit}
-use Rattle.bench_orders.specs.Tells.{meant, Lies, SaveLies, InLine}
+use Rattle.bench_words.specs.Words.{Puts}
+use Rattle.bench_orders.specs.Tells.{meant, InLine}
 use Rattle.bench_orders.specs.declared.Order.{Order}
 use Rattle.bench_orders.proofs.Order.{the-type}
 use Rattle.bench_lines.specs.Text.{countLine, eventLine, feedLine, textSpace}
@@ -113,9 +112,3 @@ room-stays number room c l (Order.Wrap r d s e) h = refl
 room-stays number room c l (Order.Unwrap s e) h = refl
 room-stays number room c l (Order.Plan n s e) h = refl
 room-stays number room c l (Order.Vet n p s e) h = refl
-
-pub short : (l : List ℕ) (s e : ℕ) → Lies l s e → length (take (e - s) (drop s l)) ≤ hexLimit
-short l s e h = let n = length-take-le (e - s) (drop s l) (simp length-drop (omega arith)) in omega arith
-
-pub save-short : (f : Form) (l : List ℕ) (s e : ℕ) → SaveLies f l s e → length (take (e - s) (drop s l)) ≤ 2 * saveLimit f
-save-short f l s e h = let n = length-take-le (e - s) (drop s l) (simp length-drop (omega arith)) in let m = h .2 in omega (arith, n, m)

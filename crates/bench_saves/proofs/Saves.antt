@@ -19,7 +19,8 @@ use Rattle.bench_verbs.specs.Line.{Said}
 use Rattle.bench_orders.specs.Tells.{SaveLies}
 use Rattle.bench_lines.specs.Text.{countLine, eventLine, textSpace}
 use Rattle.bench_replies.specs.Reply.{shifted, saveWord, restoreWord, moveWord, other, replyTo, Says}
-use Rattle.bench_replies.proofs.Reply.{says-told, says-counted, save-short}
+use Rattle.bench_replies.proofs.Reply.{says-told, says-counted}
+use Rattle.bench_words.proofs.Words.{part-short}
 
 module _ (b : Bool) where
   pub most-new : b ≡ true → (saveLimit new ≡ saveLimit (formOf b)) × (saveLimit new ≤ saveLimit new)
@@ -100,5 +101,5 @@ says-older number room l c o s a part text r el es h k e = rw (← es, ← el) (
 -- the word of HEX is no longer than the longest save's digits
 pub lies-most : (b : Bool) (l : List ℕ) (s e : ℕ) → SaveLies (formOf b) l s e → length (take (e - s) (drop s l)) ≤ 2 * saveLimit new
 unfolding formOf
-lies-most true l s e h = save-short new l s e h
-lies-most false l s e h = le-trans (save-short old l s e h) (omega arith)
+lies-most true l s e h = part-short _ l s e h
+lies-most false l s e h = le-trans (part-short _ l s e h) (omega arith)

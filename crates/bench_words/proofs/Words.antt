@@ -6,14 +6,14 @@ use native.Mathlib.Omega.{arith}
 use mathlib.Core.Path.{_≡_, refl, sym, ap, _∙_}
 use mathlib.Core.Bool.{Bool, true, false, _&&_, _||_}
 use mathlib.Core.List.{List, [], _∷_, _++_, append-assoc}
-use lib.ListN.{length, take, drop, getD, set, length-append, drop-of-length-le}
-use lib.Seq.{drop-cons, drop-drop, getD-drop, take-all, set-at, take-at}
+use lib.ListN.{length, take, drop, getD, set, length-append, length-drop, drop-of-length-le}
+use lib.Seq.{drop-cons, drop-drop, getD-drop, length-take-le, take-all, set-at, take-at}
 use lib.Dec.{eqb, leb, ltb}
 use borrow.Author.Tests.{eqb-true, eqb-false, eq-eqb, ne-eqb, leb-true, ltb-true, ltb-false, lt-ltb, le-ltb, not-true, not-false}
 use Rattle.meaning.specs.Octets.{pick, same, all}
 use Rattle.meaning.specs.Lists.{by-test, same-eq, never}
 use Rattle.octets.proofs.Parts.{front, front-more}
-use Rattle.bench_words.specs.Words.{ascii, part, NextWord, Puts, isGap, uncommented, lengthen, pieces, filled, words, isDigit, valueFrom, value, isNumber, isHexDigit, digit, isHexTo, octetsOf, glyph, hexOf, spell, numeral}
+use Rattle.bench_words.specs.Words.{ascii, part, LiesTo, NextWord, Puts, isGap, uncommented, lengthen, pieces, filled, words, isDigit, valueFrom, value, isNumber, isHexDigit, digit, isHexTo, octetsOf, glyph, hexOf, spell, numeral}
 use Rattle.bench_words.specs.Scan.{isLetter, letters, numberIn}
 use Rattle.bench_words.specs.declared.Number.{Number}
 
@@ -287,6 +287,17 @@ hex-short most w h e =
     (λ t.
     let both = and-left (leb (length w) most && eqb (length w % 2) 0) (all isHexDigit w) (rw t at e) in
     leb-true (length w) most (and-left (leb (length w) most) (eqb (length w % 2) 0) both))
+
+-- a part of a line, and how long it is
+
+pub part-short : (n : ℕ) (l : List ℕ) (s e : ℕ) → LiesTo n l s e → length (part s e l) ≤ n
+part-short n l s e h = let m = length-take-le (e - s) (drop s l) (simp length-drop (omega arith)) in let k = h .2 in omega (arith, m, k)
+
+pub hex-lies : (n : ℕ) (l : List ℕ) (s e : ℕ) → 1 ≤ n → s ≤ e → e ≤ length l → isHexTo n (part s e l) ≡ true → LiesTo n l s e
+hex-lies n l s e one h k t =
+    let m = length-take-le (e - s) (drop s l) (simp length-drop (omega arith)) in
+    let short = hex-short n (part s e l) one t in
+    (h, k, omega (arith, m, short))
 
 -- ---- numbers and texts, octet by octet
 

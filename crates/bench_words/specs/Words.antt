@@ -18,6 +18,10 @@ ascii (String._∷_ c s) = code c ∷ ascii s
 abbrev pub part : ℕ → ℕ → List ℕ → List ℕ
 part s e l = take (e - s) (drop s l)
 
+-- a word of at most n octets stands there
+abbrev pub LiesTo : ℕ → List ℕ → ℕ → ℕ → Type 0
+LiesTo n l s e = (s ≤ e) × (e ≤ length l) × (e ≤ s + n)
+
 -- ---- words
 
 -- a space or a tab
@@ -93,6 +97,10 @@ inputLimit = 4096
 
 abbrev pub hexLimit : ℕ
 hexLimit = 2 * inputLimit
+
+-- a word of HEX lies in the line
+abbrev pub Lies : List ℕ → ℕ → ℕ → Type 0
+Lies l s e = LiesTo hexLimit l s e
 
 unfoldable pub isHex : List ℕ → Bool
 isHex w = isHexTo hexLimit w

@@ -92,11 +92,11 @@ shed-most zero i c = zero-le
 shed-most (suc n) i c = omega (arith, length-append (shed i c .sent) (shedFrom n (suc i) (shed i c .card) .sent), shed-one i c, shed-most n (suc i) (shed i c .card))
 
 -- an outcome that sends at most k messages
-unfoldable AtMost : ℕ → Outcome → Type 0
+unfoldable pub AtMost : ℕ → Outcome → Type 0
 AtMost k (refused n) = Unit {0}
 AtMost k (taken ms after) = length ms ≤ k
 
-unless-most : (k n : ℕ) (o : Outcome) → AtMost k o → AtMost k (unless n o)
+pub unless-most : (k n : ℕ) (o : Outcome) → AtMost k o → AtMost k (unless n o)
 unfolding unless AtMost
 unless-most k zero o h = h
 unless-most k (suc n) o h = tt

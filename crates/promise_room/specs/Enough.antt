@@ -1,6 +1,6 @@
 -- Why 348 octets of room are enough for any message: on a card that keeps the rules a message makes at most two records.
 -- Assumes nothing.
-use Prim.Native.Nat.{ℕ, zero, suc, _*_, _≤_, zero-le}
+use Prim.Native.Nat.{ℕ, _*_, _≤_, zero-le}
 use native.Mathlib.Omega.{arith}
 use mathlib.Core.Path.{_≡_, refl, _∙_}
 use mathlib.Core.Bool.{Bool, true, false, _||_}
@@ -12,7 +12,7 @@ use borrow.Author.Tests.{eqb-true, eqb-false, eq-eqb, le-ltb}
 use Rattle.meaning.specs.Octets.{any}
 use Rattle.meaning.specs.Wire.{rootIn, Message, mapping, withdraw, release, messageIn, records, recordLimit}
 use Rattle.meaning.specs.Card.{nobody, Tree, Card, withTrees, withBranch, treePlace, treeOf, treeAt, isBranch, notHeld, leadsOn, useOf, heldFor, routeOf}
-use Rattle.meaning.specs.Events.{Outcome, refused, taken, unless, roomShort, finish, Moved, still, followedBy, setUse, letGo, takeUp, moveLabel, relabel, upstream, holder, holderOf, entered, enter, become, branch, onMapping, lessBranch, onWithdraw, onRelease, onMessage, onOctets, Event, receive, outcome, event}
+use Rattle.meaning.specs.Events.{Outcome, refused, taken, roomShort, finish, Moved, still, followedBy, setUse, letGo, takeUp, moveLabel, relabel, upstream, holder, holderOf, entered, enter, become, branch, onMapping, lessBranch, onWithdraw, onRelease, onMessage, onOctets, Event, receive, outcome, event}
 use Rattle.meaning.specs.Lists.{by-test, picked}
 use Rattle.session.specs.Session.{messageRoom, label}
 use Rattle.promise.specs.Promise.{Given, noteTaken, Step, history}
@@ -21,7 +21,7 @@ use Rattle.promise.specs.RuleLaws.{Ruled, held-named}
 use Rattle.meaning_laws.specs.Counts.{any-set-zero}
 use Rattle.promise.specs.EventLaws.{became, Apart, Keeps, event-keeps}
 use Rattle.promise.specs.PromiseProof.{history-upheld}
-use Rattle.promise.specs.Sizes.{records-short, let-go-one, take-up-one}
+use Rattle.promise.specs.Sizes.{AtMost, unless-most, records-short, let-go-one, take-up-one}
 use Rattle.promise.specs.RulesKept.{entered-at}
 
 -- ---- how many messages a move of a label sends
@@ -87,16 +87,7 @@ upstream-less c t s g h =
     (λ e. rw (g .name, e, g .leads u e) refl)
     (λ e. absurd (h (rw (g .name, e) refl)))
 
--- ---- an outcome that sends at most k messages
-
-unfoldable AtMost : ℕ → Outcome → Type 0
-AtMost k (refused n) = Unit {0}
-AtMost k (taken ms after) = length ms ≤ k
-
-unless-most : (k n : ℕ) (o : Outcome) → AtMost k o → AtMost k (unless n o)
-unfolding unless AtMost
-unless-most k zero o h = h
-unless-most k (suc n) o h = tt
+-- ---- an event that sends at most two
 
 mapping-most : (c : Card) (n : ℕ) (a : List ℕ) (l : ℕ) → AtMost 2 (onMapping c n a l)
 unfolding onMapping become enter AtMost

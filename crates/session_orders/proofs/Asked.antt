@@ -4,19 +4,18 @@ use native.Mathlib.Omega.{arith}
 use mathlib.Core.Path.{_≡_, refl, sym, _∙_}
 use mathlib.Core.Bool.{Bool, true, false}
 use mathlib.Core.List.{List, [], _∷_}
-use lib.ListN.{length, drop, length-drop}
-use lib.Seq.{length-take-le}
+use lib.ListN.{length}
 use borrow.Author.Tests.{lt-ltb, le-ltb, lt-leb, le-leb}
 use denote.Enum.Declared.{tagOf}
 use types.Run.{OneOf, miss}
 use Rattle.meaning.specs.Octets.{same}
-use Rattle.bench_words.specs.Words.{ascii, words, part, isHex, octetsOf, hexLimit}
+use Rattle.bench_words.specs.Words.{ascii, words, part, Lies, isHex, octetsOf, hexLimit}
 use Rattle.bench_words.specs.Scan.{numberIn}
 use Rattle.bench_words.specs.declared.Number.{Number}
-use Rattle.bench_words.proofs.Words.{number-value, number-none, hex-short}
+use Rattle.bench_words.proofs.Words.{number-value, number-none, hex-lies}
 use Rattle.bench_verbs.specs.Line.{lineLimit, orderOf}
 use Rattle.session_orders.specs.Told.{Told, bench, streamCount, Given, none, given, numberHex, loneNumber, mayOffer, octetsBy, packBy, lostBy, toldBy, toldOf, streamFor}
-use Rattle.session_orders.specs.Asks.{Lies, pairIn, Gives, meant, InLine, Tells}
+use Rattle.session_orders.specs.Asks.{pairIn, Gives, meant, InLine, Tells}
 use Rattle.session_orders.specs.declared.Ask.{Ask}
 use Rattle.session_orders.specs.declared.Pair.{Pair}
 use Rattle.session_orders.proofs.Ask.{the-type}
@@ -40,9 +39,7 @@ pub gives-pair : (l : List ℕ) (n s e : ℕ) (w : List ℕ) (k : Number) (b : B
 unfolding pairIn numberHex isHex
 gives-pair l n s e w k b h i f g p q =
     let v = number-value w n (sym f ∙ g) in
-    let m = length-take-le (e - s) (drop s l) (simp length-drop (omega arith)) in
-    let short = hex-short hexLimit (part s e l) (omega arith) (sym p ∙ q) in
-    record { means = rw (v .0, sym p ∙ q) (rw (v .1) refl); lies = (h, i, omega arith) }
+    record { means = rw (v .0, sym p ∙ q) (rw (v .1) refl); lies = hex-lies hexLimit l s e (omega arith) h i (sym p ∙ q) }
 
 -- ---- the orders
 

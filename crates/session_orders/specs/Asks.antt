@@ -1,17 +1,12 @@
 -- What the reader of a line hands on. Assumes nothing.
-use Prim.Native.Nat.{ℕ, _+_, _≤_, _<_}
+use Prim.Native.Nat.{ℕ, _<_}
 use mathlib.Core.Path.{_≡_}
 use mathlib.Core.List.{List}
-use lib.ListN.{length}
-use Rattle.bench_words.specs.Words.{part, octetsOf, hexLimit}
+use Rattle.bench_words.specs.Words.{part, Lies, octetsOf}
 use Rattle.bench_verbs.specs.Line.{orderOf}
 use Rattle.session_orders.specs.Told.{Told, bench, octets, pack, lost, streamCount, Given, none, given}
 use Rattle.session_orders.specs.declared.Ask.{Ask}
 use Rattle.session_orders.specs.declared.Pair.{Pair}
-
--- a word of HEX lies in the line
-abbrev pub Lies : List ℕ → ℕ → ℕ → Type 0
-Lies l s e = (s ≤ e) × (e ≤ length l) × (e ≤ s + hexLimit)
 
 -- ---- a number and HEX
 

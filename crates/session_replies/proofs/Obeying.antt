@@ -4,8 +4,8 @@ use native.Mathlib.Omega.{arith}
 use mathlib.Core.Path.{_≡_, refl, sym, _∙_}
 use mathlib.Core.Bool.{true, false}
 use mathlib.Core.List.{List, [], _∷_}
-use lib.ListN.{length, take, drop, set, length-drop}
-use lib.Seq.{length-take-le, set-getD}
+use lib.ListN.{length, take, set}
+use lib.Seq.{set-getD}
 use lib.Dec.{ltb}
 use borrow.Author.Tests.{ltb-false}
 use denote.Enum.Declared.{tagOf}
@@ -20,12 +20,12 @@ use Rattle.session.specs.Stream.{Stream, empty}
 use Rattle.session.specs.Session.{afterLoss}
 use Rattle.session.specs.Lent.{streamOf}
 use Rattle.session.specs.Pack.{messagesTo, packed, packRefusal, packedBy, pack}
-use Rattle.bench_words.specs.Words.{ascii, part, octetsOf, Puts, hexLimit, inputLimit}
+use Rattle.bench_words.specs.Words.{ascii, part, octetsOf, Puts, inputLimit}
 use Rattle.bench_verbs.specs.Line.{Said}
 use Rattle.bench_lines.specs.Text.{eventLine, textSpace}
 use Rattle.bench_replies.specs.Reply.{eventRoom, replyTo, Says}
 use Rattle.session_orders.specs.Told.{Told, streamCount, streamFor}
-use Rattle.session_orders.specs.Asks.{Lies, meant, InLine}
+use Rattle.session_orders.specs.Asks.{meant, InLine}
 use Rattle.session_orders.specs.declared.Ask.{Ask}
 use Rattle.session_orders.proofs.Ask.{the-type}
 use Rattle.session_replies.specs.Turns.{turns, turnsSpace, TurnsSay}
@@ -100,9 +100,6 @@ own-none a q = rw q refl
 
 pub lies : (l : List ℕ) (r a : Ask) → InLine l r → r ≡ a → InLine l a
 lies l r a h e = rw e at h
-
-pub short : (l : List ℕ) (s e : ℕ) → Lies l s e → length (part s e l) ≤ hexLimit
-short l s e h = let n = length-take-le (e - s) (drop s l) (simp length-drop (omega arith)) in omega arith
 
 -- nothing is said of the bench's
 pub bench-not : (l : List ℕ) (a : Ask) (b : Box) {r next : ℕ} {text : List ℕ} {c′ : Card} {streams′ : List Stream} → a ≡ Ask.Bench → isOwn a ≡ true

@@ -21,11 +21,11 @@ empty-is ns e = (ap length e, λ b. rw e (unfold empty in zeros b))
 
 module _ (ns ns′ : List ℕ) (left place count k : ℕ) (is-left : left ≡ leftIn ns) (is-place : place ≡ placeIn ns) (is-count : count ≡ countIn ns)
     (most : left ≤ bodyLimit) (within : place + limit left ≤ streamRoom) (few : count ≤ limit left) (some : 0 < k) (in-left : k ≤ leftIn ns) (in-count : k ≤ countIn ns) where
-  pub pass-end : left ≡ k → ns′ ≡ 0 ∷ 0 ∷ 0 ∷ 0 ∷ [] → (length ns′ ≡ 4) × ((b : List ℕ) → streamOf ns′ b ≡ reading (leftIn ns - k) (drop k (heldAt ns b)))
-  unfolding heldAt
+  pub pass-end : left ≡ k → (length ns′ ≡ 4) × ((b : List ℕ) → streamOf ns′ b ≡ empty) → (length ns′ ≡ 4) × ((b : List ℕ) → streamOf ns′ b ≡ reading (leftIn ns - k) (drop k (heldAt ns b)))
+  unfolding heldAt empty
   pass-end l e =
       let none : leftIn ns - k ≡ 0 = omega arith in
-      (ap length e, λ b. rw (e, none, drop-of-length-le (take (countIn ns) (drop (placeIn ns) b)) {i = k} (rw length-take (omega (arith, limit-some left (omega arith))))) (zeros b))
+      (e .0, λ b. rw (none, drop-of-length-le (take (countIn ns) (drop (placeIn ns) b)) {i = k} (rw length-take (omega (arith, limit-some left (omega arith))))) (e .1 b))
 
   pub pass-on : (left ≡ k → ⊥) → ns′ ≡ 0 ∷ (left - k) ∷ (place + k) ∷ (count - k) ∷ [] → (length ns′ ≡ 4) × ((b : List ℕ) → streamOf ns′ b ≡ reading (leftIn ns - k) (drop k (heldAt ns b)))
   unfolding heldAt

@@ -90,7 +90,7 @@ fn pass(stream: &mut [u64], k: usize)
     let place = place_of(stream, left);
     let count = count_of(stream, left);
     if left == k {
-        set(stream, 0, 0, 0, 0);
+        clear(stream);
         return;
     }
     set(stream, 0, left - k, place + k, count - k);

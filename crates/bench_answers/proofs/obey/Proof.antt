@@ -3,7 +3,8 @@ use Rattle.bench_orders.specs.Tells.{meant}
 use Rattle.bench_replies.specs.Reply.{only, replyTo}
 use Rattle.bench_replies.specs.Kinds.{Kind}
 use Rattle.bench_replies.proofs.Arms.{of-kind}
-use Rattle.bench_replies.proofs.Reply.{lies, short, says-only}
+use Rattle.bench_replies.proofs.Reply.{lies, says-only}
+use Rattle.bench_words.proofs.Words.{part-short}
 use mathlib.Core.List.{[]}
 use mathlib.Core.Path.{refl}
 use native.Mathlib.Omega.{arith}
@@ -47,7 +48,7 @@ on-tree-requires : tie.Need-on-tree-requires
 on-tree-requires c κs =
     let the-order2 = c .before .before .before .before .before .order2 in
     let start = c .before .before .before .before .before .before .before .before .before in
-    (short _ _ _ (lies _ _ _ (start .pre .0) (the-order2 .given .1)), start .pre .1)
+    (part-short _ _ _ _ (lies _ _ _ (start .pre .0) (the-order2 .given .1)), start .pre .1)
 
 on-saved-requires : tie.Need-on-saved-requires
 on-saved-requires c κs =

@@ -1,6 +1,6 @@
 -- `bench_answers::on_event` meets its contract: the octets of the HEX, and the output as long as the room says, go to the order's call. Assumes nothing.
 use native.Mathlib.Omega.{arith}
-use Rattle.bench_replies.proofs.Reply.{short}
+use Rattle.bench_words.proofs.Words.{part-short}
 use Rattle.bench_answers.proofs.Held.{word-lies, word-held}
 use borrow.Author.Needs.{needs}
 use Rattle.bench_answers.proofs.on_event.Statement.{statement}
@@ -35,7 +35,7 @@ decode-hex-requires : tie.Need-decode-hex-requires
 decode-hex-requires c κs =
     let start = c .before .before .before .before .before .before in
     let word = c .before .before .before .hex-in .result in
-    omega (arith, short (start .args .line .now) (word .start) (word .end) (word-lies _ (start .args .order) _ (c .before .before .before .hex-in .ensures) (start .pre .0)), c .before .before .input .ensures)
+    omega (arith, part-short _ (start .args .line .now) (word .start) (word .end) (word-lies _ (start .args .order) _ (c .before .before .before .hex-in .ensures) (start .pre .0)), c .before .before .input .ensures)
 
 output-requires : tie.Need-output-requires
 output-requires c κs = search needs

@@ -2,7 +2,8 @@
 use Rattle.bench_orders.specs.Tells.{meant}
 use Rattle.bench_replies.specs.Kinds.{Kind}
 use Rattle.bench_replies.proofs.Arms.{of-others}
-use Rattle.bench_replies.proofs.Reply.{lies, short}
+use Rattle.bench_replies.proofs.Reply.{lies}
+use Rattle.bench_words.proofs.Words.{part-short}
 use borrow.Author.Needs.{needs}
 use Rattle.bench_plans.proofs.on_planned.Statement.{statement}
 use Rattle.bench_plans.proofs.on_planned.Tie as tie
@@ -28,7 +29,7 @@ part-on-plan-end c =
 on-plan-requires : tie.Need-on-plan-requires
 on-plan-requires c κs =
     let start = c .before .before .before .before .before .before .before in
-    (short _ _ _ (lies _ _ _ (start .pre .0) (c .before .before .before .order .given .1)), start .pre .2)
+    (part-short _ _ _ _ (lies _ _ _ (start .pre .0) (c .before .before .before .order .given .1)), start .pre .2)
 
 enum-known-order-2 : tie.Need-enum-known-order-2
 enum-known-order-2 c = search needs
@@ -68,7 +69,7 @@ on-vet-requires c κs =
     let the-order2 = c .before .before .before .before .order2 in
     let start = c .before .before .before .before .before .before .before .before in
     let words = lies _ _ _ (start .pre .0) (the-order2 .given .1) in
-    (short _ _ _ (words .0), short _ _ _ (words .1), start .pre .2)
+    (part-short _ _ _ _ (words .0), part-short _ _ _ _ (words .1), start .pre .2)
 
 same-length : tie.Need-same-length
 same-length c = search needs

@@ -2,7 +2,8 @@
 use Rattle.bench_orders.specs.Tells.{meant}
 use Rattle.bench_replies.specs.Kinds.{Kind}
 use Rattle.bench_replies.proofs.Arms.{of-others}
-use Rattle.bench_replies.proofs.Reply.{lies, short}
+use Rattle.bench_replies.proofs.Reply.{lies}
+use Rattle.bench_words.proofs.Words.{part-short}
 use borrow.Author.Needs.{needs}
 use Rattle.bench_wraps.proofs.on_layered.Statement.{statement}
 use Rattle.bench_wraps.proofs.on_layered.Tie as tie
@@ -28,7 +29,7 @@ part-on-layers-end c =
 on-layers-requires : tie.Need-on-layers-requires
 on-layers-requires c κs =
     let start = c .before .before .before .before .before .before .before in
-    (short _ _ _ (lies _ _ _ (start .pre .0) (c .before .before .before .order .given .1)), start .pre .2)
+    (part-short _ _ _ _ (lies _ _ _ (start .pre .0) (c .before .before .before .order .given .1)), start .pre .2)
 
 enum-known-order-2 : tie.Need-enum-known-order-2
 enum-known-order-2 c = search needs
@@ -60,7 +61,7 @@ part-on-unwrap-end c =
 on-unwrap-requires : tie.Need-on-unwrap-requires
 on-unwrap-requires c κs =
     let start = c .before .before .before .before .before .before .before in
-    (short _ _ _ (lies _ _ _ (start .pre .0) (c .before .before .before .order3 .given .1)), start .pre .2)
+    (part-short _ _ _ _ (lies _ _ _ (start .pre .0) (c .before .before .before .order3 .given .1)), start .pre .2)
 
 same-length : tie.Need-same-length
 same-length c = search needs

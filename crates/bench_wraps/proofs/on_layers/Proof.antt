@@ -30,7 +30,8 @@ returns : tie.Need-returns
 unfolding replyTo
 returns c =
     let told = c .before .before in
-    λ number room d. says-layers (told .before .before .before .before .decode-hex .ensures .0) _ d room _ (told .put-layers .ensures .1) (told .put-layers .ensures .0)
+    let the-decode-hex = told .before .before .before .before .decode-hex in
+    λ number room d. says-layers (the-decode-hex .ensures .0) _ d room _ (told .put-layers .ensures .1) (told .put-layers .ensures .0)
 
 pub on-layers-spec : {M : Type 1} → statement M
 on-layers-spec =

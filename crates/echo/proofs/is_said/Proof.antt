@@ -24,19 +24,22 @@ returns-2 c = search needs
 sub-equal : tie.Need-sub-equal
 sub-equal c =
     let m = c .before .before .before .before .before in
-    let says = subst (Reads (m .before .before .before .before .before .args .message .now)) (m .kind .given .1) (m .before .before .read-message .ensures) in
+    let s = m .before .before .before .before .before in
+    let says = subst (Reads (s .args .message .now)) (m .kind .given .1) (m .before .before .read-message .ensures) in
     says .3
 
 part-equal-start : tie.Need-part-equal-start
 part-equal-start c =
     let m = c .before .before .before .before .before in
-    let says = subst (Reads (m .before .before .before .before .before .args .message .now)) (m .kind .given .1) (m .before .before .read-message .ensures) in
+    let s = m .before .before .before .before .before in
+    let says = subst (Reads (s .args .message .now)) (m .kind .given .1) (m .before .before .read-message .ensures) in
     omega (arith, says .3, says .4)
 
 part-equal-end : tie.Need-part-equal-end
 part-equal-end c =
     let m = c .before .before .before .before .before in
-    let says = subst (Reads (m .before .before .before .before .before .args .message .now)) (m .kind .given .1) (m .before .before .read-message .ensures) in
+    let s = m .before .before .before .before .before in
+    let says = subst (Reads (s .args .message .now)) (m .kind .given .1) (m .before .before .read-message .ensures) in
     omega (arith, says .3, says .4)
 
 equal-requires : tie.Need-equal-requires

@@ -37,7 +37,8 @@ returns-3 : tie.Need-returns-3
 returns-3 c =
     let t = c .before .before .before .before in
     let b = t .before in
-    awaits-not _ _ _ _ (b .place-in-block .ensures) (b .before .before .before .before .args .neighbour) _ (t .if1 .left) (c .if3 .taken)
+    let s = b .before .before .before .before in
+    awaits-not _ _ _ _ (b .place-in-block .ensures) (s .args .neighbour) _ (t .if1 .left) (c .if3 .taken)
 
 label-name-requires : tie.Need-label-name-requires
 label-name-requires c κs = search needs

@@ -51,7 +51,10 @@ returns : tie.Need-returns
 returns c =
     let w = c .before .before .before .before .before in
     let s = w .before .before .before .before .before .before .before .before .before .before .before .before .before .before .before .before .before .before .before .before in
-    table-whole _ (s .args .octets .now) _ (s .args .at) _ _ _ _ _ (s .pre .4) (s .pre .3) (w .before .before .before .before .before .before .before .before .before .before .before .before .before .read-uses .ensures) (w .before .before .before .before .before .before .label-trees .ensures) (w .before .before .before .before .before .before .before .before .before .before .before .before .before .before .before .before .two-at .ensures .0) (w .before .before .settle .ensures _) (c .before .before .work-out-all .ensures)
+    let the-labels = w .before .before .before .before .before .before .before .before .before .before .before .before .before .before .before .before .two-at in
+    let the-read-uses = w .before .before .before .before .before .before .before .before .before .before .before .before .before .read-uses in
+    let the-label-trees = w .before .before .before .before .before .before .label-trees in
+    table-whole _ (s .args .octets .now) _ (s .args .at) _ _ _ _ _ (s .pre .4) (s .pre .3) (the-read-uses .ensures) (the-label-trees .ensures) (the-labels .ensures .0) (w .before .before .settle .ensures _) (c .before .before .work-out-all .ensures)
 
 pub read-labels-spec : {M : Type 1} → statement M
 read-labels-spec =

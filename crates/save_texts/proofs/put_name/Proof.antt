@@ -11,7 +11,8 @@ fitting-requires c κs = search needs
 put-space-requires : tie.Need-put-space-requires
 put-space-requires c κs =
     let f = c .before in
-    (room-new _ _ _ _ (f .before .if1 .taken) (f .fitting .ensures .0) (f .before .before .before .before .pre), omega arith)
+    let s = f .before .before .before .before in
+    (room-new _ _ _ _ (f .before .if1 .taken) (f .fitting .ensures .0) (s .pre), omega arith)
 
 same-length : tie.Need-same-length
 same-length c = search needs

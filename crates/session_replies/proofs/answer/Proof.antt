@@ -1,6 +1,7 @@
 -- `session_replies::answer` meets its contract, order by order. Assumes nothing.
 use native.Mathlib.Omega.{arith}
-use Rattle.session_replies.proofs.Obeying.{lies, short, own-octets, own-pack, own-lost, bench-not}
+use Rattle.bench_words.proofs.Words.{part-short}
+use Rattle.session_replies.proofs.Obeying.{lies, own-octets, own-pack, own-lost, bench-not}
 use borrow.Author.Needs.{needs}
 use Rattle.session_replies.proofs.answer.Statement.{statement}
 use Rattle.session_replies.proofs.answer.Tie as tie
@@ -40,7 +41,7 @@ on-four-requires c κs =
     let the-ask = c .before .before .before .before .before .before .before .before .before .before .before .ask in
     let start = c .before .before .before .before .before .before .before .before .before .before .before .before .before .before .before in
     let lie = lies _ _ _ (start .pre .0) (the-ask .given .1) in
-    (c .before .before .stream-of .ensures .1 (start .args .line .now) lie, search needs, short _ _ _ lie, start .pre .1)
+    (c .before .before .stream-of .ensures .1 (start .args .line .now) lie, search needs, part-short _ _ _ _ lie, start .pre .1)
 
 enum-known-ask-2 : tie.Need-enum-known-ask-2
 enum-known-ask-2 c = search needs
@@ -63,7 +64,7 @@ part-on-pack-end c =
 on-pack-requires : tie.Need-on-pack-requires
 on-pack-requires c κs =
     let start = c .before .before .before .before .before .before .before in
-    (short _ _ _ (lies _ _ _ (start .pre .0) (c .before .before .before .ask2 .given .1)), omega (arith, start .pre .1))
+    (part-short _ _ _ _ (lies _ _ _ (start .pre .0) (c .before .before .before .ask2 .given .1)), omega (arith, start .pre .1))
 
 enum-known-ask-3 : tie.Need-enum-known-ask-3
 enum-known-ask-3 c = search needs

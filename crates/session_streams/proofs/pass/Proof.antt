@@ -13,8 +13,8 @@ place-of-requires c κs = search needs
 count-of-requires : tie.Need-count-of-requires
 count-of-requires c κs = search needs
 
-set-requires : tie.Need-set-requires
-set-requires c κs = search needs
+clear-requires : tie.Need-clear-requires
+clear-requires c κs = search needs
 
 same-length : tie.Need-same-length
 same-length c = search needs
@@ -29,7 +29,7 @@ returns c =
     let the-left = the-left-of .ensures in
     let the-place = the-place-of .ensures in
     let the-count = the-count-of .ensures in
-    pass-end _ _ _ _ _ _ (the-left .0) (the-place .0) (the-count .0) (the-left .1) (the-place .1) (the-count .1) (start .pre .1) (start .pre .2) (start .pre .3) (the-if1 .taken) (c .before .before .set .ensures)
+    pass-end _ _ _ _ _ _ (the-left .0) (the-place .0) (the-count .0) (the-left .1) (the-place .1) (the-count .1) (start .pre .1) (start .pre .2) (start .pre .3) (the-if1 .taken) (c .before .before .clear .ensures)
 
 sub-set : tie.Need-sub-set
 sub-set c = search needs
@@ -40,8 +40,8 @@ add-set c = search needs
 sub-set-2 : tie.Need-sub-set-2
 sub-set-2 c = search needs
 
-set-requires-2 : tie.Need-set-requires-2
-set-requires-2 c κs = search needs
+set-requires : tie.Need-set-requires
+set-requires c κs = search needs
 
 same-length-2 : tie.Need-same-length-2
 same-length-2 c = search needs
@@ -56,7 +56,7 @@ returns-2 c =
     let the-left = the-left-of .ensures in
     let the-place = the-place-of .ensures in
     let the-count = the-count-of .ensures in
-    pass-on _ _ _ _ _ _ (the-left .0) (the-place .0) (the-count .0) (the-left .1) (the-place .1) (the-count .1) (start .pre .1) (start .pre .2) (start .pre .3) (the-if1 .left) (c .before .before .set2 .ensures)
+    pass-on _ _ _ _ _ _ (the-left .0) (the-place .0) (the-count .0) (the-left .1) (the-place .1) (the-count .1) (start .pre .1) (start .pre .2) (start .pre .3) (the-if1 .left) (c .before .before .set .ensures)
 
 pub pass-spec : {M : Type 1} → statement M
 pass-spec =
@@ -65,12 +65,12 @@ pass-spec =
     left-of-requires
     place-of-requires
     count-of-requires
-    set-requires
+    clear-requires
     same-length
     returns
     sub-set
     add-set
     sub-set-2
-    set-requires-2
+    set-requires
     same-length-2
     returns-2)
