@@ -10,6 +10,7 @@ use Rattle.meaning.specs.Octets.{any, _when_else_}
 use Rattle.meaning.specs.Card.{Tree, Card, free, withLeaf, bare, treePlace, treeAt, isBranch, isEmpty, useOf, neighbourCount}
 use Rattle.meaning.specs.Events.{refused, unless, finish, need, labelsShort, holderOf, treeRefusal, enter, become, notLeaf}
 use Rattle.meaning.specs.Calls.{Does}
+use Rattle.meaning.specs.Lists.{by-test}
 use Rattle.event_leave.specs.Order.{leaveOf}
 use Rattle.event_tree.proofs.Found.{found-tree}
 use Rattle.event_tree.proofs.Ends.{does-refused}
@@ -25,6 +26,14 @@ module _ (c : Card) (i : ℕ) (ei : i ≡ treePlace (treeAt i c .name) c) (h : i
 -- no branch changes, and none is set apart
 pub leaf-gone : (t : Tree) (x : Bool) → length (t .branches) ≡ neighbourCount → x ≡ any isBranch (set (set (t .branches) 16 0) 16 0) → not x ≡ isEmpty (withLeaf false t)
 leaf-gone t x l e = rw (e, set-set (t .branches) 16 0 0, set-out (t .branches) 16 0 (omega arith)) (unfold isEmpty withLeaf in sym (and-true (not (any isBranch (t .branches)))))
+
+-- ---- two numbers, by a test
+
+pub first-of : {b : Bool} (n m : ℕ) → b ≡ true → n ≡ (n when b else m)
+first-of n m e = rw e (unfold _when_else_ in refl)
+
+pub second-of : {b : Bool} (n m : ℕ) → b ≡ false → m ≡ (n when b else m)
+second-of n m e = rw e (unfold _when_else_ in refl)
 
 -- ---- the order
 
@@ -45,11 +54,11 @@ module _ (c : Card) (a : List ℕ) (i u : ℕ) (ei : i ≡ treePlace a c) (S : S
       (rw (← (S .upstream)) (need-same c (withLeaf false (treeAt i c)) (treeAt i c) u (S .label)))
       ∙ unfold unless in refl)
 
-  pub leave-labels : labelsShort c (need c (treeAt i c) u) ≡ true → Does (finish (length s) c (leaveOf c a)) 12 0 s s c
-  leave-labels k = rw (leave-is, k) (unfold _when_else_ unless in does-refused c 12 s)
-
-  pub leave-no-leaf : labelsShort c (need c (treeAt i c) u) ≡ false → Does (finish (length s) c (leaveOf c a)) 14 0 s s c
-  leave-no-leaf k = rw (leave-is, k) (unfold _when_else_ unless in does-refused c 14 s)
+  pub leave-leafless : (r : ℕ) → r ≡ (12 when labelsShort c (need c (treeAt i c) u) else 14) → Does (finish (length s) c (leaveOf c a)) r 0 s s c
+  leave-leafless r k =
+      by-test (labelsShort c (need c (treeAt i c) u))
+      (λ t. rw (leave-is, k, t) (unfold _when_else_ unless in does-refused c 12 s))
+      (λ t. rw (leave-is, k, t) (unfold _when_else_ unless in does-refused c 14 s))
 
 -- a tree that does not stand
 

@@ -1,14 +1,28 @@
 // A leaf that leaves its tree. All refusals, 16 too, are tested before the table changes or an octet is written.
 ghost use mathlib.Core.Path.{_≡_};
-ghost use Prim.Native.Nat.{_<_};
+ghost use mathlib.Core.List.{List};
+ghost use Prim.Native.Nat.{ℕ, _<_};
 ghost use lib.ListN.{length};
+ghost use Rattle.meaning.specs.Octets.{_when_else_};
 ghost use Rattle.meaning.specs.Card.{treeAt, treePlace};
-ghost use Rattle.meaning.specs.Events.{finish};
+ghost use Rattle.meaning.specs.Events.{finish, labelsShort, need};
 ghost use Rattle.meaning.specs.Calls.{Does};
 ghost use Rattle.memory.specs.Sizes.{Numbers, Names};
 ghost use Rattle.memory.specs.Memory.{cardOf, StandsAt};
 ghost use Rattle.event_leave.specs.Order.{leaveOf};
 use memory::NO_NEIGHBOUR;
+
+// What a leave is answered with where the tree at place i has no leaf: 12, if a label is due to u and none is left, or 14.
+fn leafless_refusal(numbers: &[u64], i: usize, u: u64) -> u32
+    requires { ⌜ Numbers (now numbers) × StandsAt (now numbers) i ⌝ }
+    ensures { λ r. ⌜ ((os : List ℕ) → (let c = cardOf (now (numbers .entry)) os in r ≡ (12 when labelsShort c (need c (treeAt i c) u) else 14))) ⌝ }
+{
+    if event_holder::no_label_for(numbers, i, u) {
+        12
+    } else {
+        14
+    }
+}
 
 // The leaf of the tree at place i leaves.
 fn leave_standing(
@@ -26,11 +40,7 @@ fn leave_standing(
     let k = memory_counts::its_root(numbers, names, i);
     let u = event_tree::leaf_holder(numbers, i, k, false);
     if !memory_trees::is_leaf(numbers, i) {
-        *answer = if event_holder::no_label_for(numbers, i, u) {
-            12
-        } else {
-            14
-        };
+        *answer = leafless_refusal(numbers, i, u);
         return 0;
     }
     let refusal = event_tree::standing_refusal(numbers, names, i, u, 0, out.len());

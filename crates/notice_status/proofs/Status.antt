@@ -14,6 +14,11 @@ use Rattle.meaning.specs.Notice.{statusOf, isStatus, isFatal, statusCode, copie
 
 -- ---- the status
 
+-- fatal by the last of the three, where it is neither of the others
+pub fatal-last : (status : ℕ) → (status ≡ 0x05 → ⊥) → (status ≡ 0x07 → ⊥) → eqb status 0x08 ≡ isFatal status
+unfolding isFatal
+fatal-last status five seven = rw (ne-eqb status 0x05 five, ne-eqb status 0x07 seven) refl
+
 module _ (n : ℕ) where
   pub status-at : (k d : ℕ) → n ≡ k → d ≡ statusOf k → d < 32 → (d ≡ statusOf n) × (d < 32)
   status-at k d e q h = (q ∙ ap statusOf (sym e), h)

@@ -1,4 +1,4 @@
--- `notice_writer::is_framed` meets its contract: each test that fails, and all that pass. Assumes nothing.
+-- `notice_reader::is_framed` meets its contract: each test that fails, and all that pass. Assumes nothing.
 use Rattle.notice_reader.proofs.Reading.{frame-length, frame-mark, frame-far, frame-kind, frame-size, frame-field, frame-right}
 use borrow.Author.Needs.{needs}
 use Rattle.notice_reader.proofs.is_framed.Statement.{statement}

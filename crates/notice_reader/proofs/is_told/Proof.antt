@@ -1,4 +1,4 @@
--- `notice_writer::is_told` meets its contract: by its tests. Assumes nothing.
+-- `notice_reader::is_told` meets its contract: by its tests. Assumes nothing.
 use mathlib.Core.Path.{sym, _∙_}
 use Rattle.notice_reader.proofs.Reading.{told-unknown, told-bits, told-type, told-other}
 use borrow.Author.Needs.{needs}

@@ -1,4 +1,4 @@
--- `notice_writer::read_notice` meets its contract: refused by either test, or read by both. Assumes nothing.
+-- `notice_reader::read_notice` meets its contract: refused by either test, or read by both. Assumes nothing.
 use mathlib.Core.Path.{sym, _∙_}
 use Rattle.notice_reader.proofs.Reading.{reads-refused, reads-untold, reads-says}
 use borrow.Author.Needs.{needs}

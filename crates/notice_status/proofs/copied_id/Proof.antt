@@ -1,4 +1,4 @@
--- `notice_writer::copied_id` meets its contract: by the length. Assumes nothing.
+-- `notice_status::copied_id` meets its contract: by the length. Assumes nothing.
 use Rattle.notice_status.proofs.Status.{id-none, id-there}
 use borrow.Author.Needs.{needs}
 use Rattle.notice_status.proofs.copied_id.Statement.{statement}

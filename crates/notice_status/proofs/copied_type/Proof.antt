@@ -1,4 +1,4 @@
--- `notice_writer::copied_type` meets its contract: by the length. Assumes nothing.
+-- `notice_status::copied_type` meets its contract: by the length. Assumes nothing.
 use native.Mathlib.Omega.{arith}
 use Rattle.notice_status.proofs.Status.{type-none, type-there}
 use borrow.Author.Needs.{needs}

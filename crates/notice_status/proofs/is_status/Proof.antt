@@ -1,4 +1,4 @@
--- `notice_writer::is_status` meets its contract: by the eight numbers. Assumes nothing.
+-- `notice_status::is_status` meets its contract: by the eight numbers. Assumes nothing.
 use mathlib.Core.Logic.{inl, inr}
 use native.Mathlib.Omega.{arith}
 use Rattle.notice_status.proofs.Status.{known-low, known-high, not-known}

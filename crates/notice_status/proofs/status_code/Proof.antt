@@ -1,4 +1,4 @@
--- `notice_writer::status_code` meets its contract: the E bit by what `is_fatal` answers. Assumes nothing.
+-- `notice_status::status_code` meets its contract: the E bit by what `is_fatal` answers. Assumes nothing.
 use mathlib.Core.Path.{sym, _∙_}
 use Rattle.notice_status.proofs.Status.{code-fatal, code-mild}
 use borrow.Author.Needs.{needs}
