@@ -1,6 +1,7 @@
 pub mod Memory
 pub mod Marks
 pub mod Parts
+pub mod Columns
 pub mod Head
 pub mod Labels
 pub mod Trees

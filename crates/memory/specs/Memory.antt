@@ -11,7 +11,7 @@ use Rattle.meaning.specs.Card.{Route, Tree, Use, free, mapped, awaiting, Card, 
 use Rattle.meaning.specs.Events.{baseOutside}
 use Rattle.octets.specs.Part.{tab}
 use Rattle.octets.specs.Bits.{bit}
-use Rattle.memory.specs.Sizes.{rootSpace, nameSpace, turnPlace, routeColumn, ownColumn, rowWidth, rowColumn, branchColumn, markColumn, wordColumn, labelNames, rootNames}
+use Rattle.memory.specs.Sizes.{rootSpace, nameSpace, turnPlace, routeColumn, ownColumn, rowWidth, rowColumn, branchColumn, markColumn, wordColumn, labelNames, rootNames, octetCount}
 
 -- at most k
 unfoldable pub upTo : ℕ → ℕ → ℕ
@@ -30,6 +30,13 @@ labelName os p = textAt nameLimit os (labelNames + p * nameSpace)
 
 unfoldable pub rootName : List ℕ → ℕ → List ℕ
 rootName os i = textAt rootLimit os (rootNames + i * rootSpace)
+
+-- a column: n texts of at most k octets each, one behind the other from a place on; and the jth of them
+abbrev pub Column : ℕ → ℕ → ℕ → Type 0
+Column k from n = (k < octetCount) × (n ≤ octetCount) × (from + n * (k + 1) ≤ octetCount)
+
+unfoldable pub inColumn : ℕ → ℕ → List ℕ → ℕ → List ℕ
+inColumn k from os j = textAt k os (from + j * (k + 1))
 
 -- ---- numbers
 

@@ -1,7 +1,7 @@
 // The card's memory: its head, and the texts and rows in it. The memory is two lent arrays; specs/Memory.antt says which card they
 // denote, and docs/MEMORY.md draws them. A function that sees the numbers alone speaks of every content of the octets.
 ghost use mathlib.Core.Path.{_≡_};
-ghost use mathlib.Core.Bool.{false};
+ghost use mathlib.Core.Bool.{true, false};
 ghost use mathlib.Core.List.{List, _∷_};
 ghost use Prim.Native.Nat.{ℕ, _+_, _-_, _≤_, _<_};
 ghost use lib.ListN.{length, replicate};
@@ -9,7 +9,7 @@ ghost use Rattle.meaning.specs.Octets.{same};
 ghost use Rattle.meaning.specs.Card.{turn, withNext, withLast, labelCount, routeLimit, treeLimit, mostBase};
 ghost use Rattle.memory.specs.Sizes.{Numbers, Names, nameSpace};
 ghost use Rattle.memory.specs.Parts.{Written, Closed};
-ghost use Rattle.memory.specs.Memory.{cardOf, baseIn, labelBefore, treeCount, routeCount, textAt, treeName};
+ghost use Rattle.memory.specs.Memory.{cardOf, baseIn, labelBefore, treeCount, routeCount, textAt, Column, inColumn, treeName};
 ghost use Rattle.meaning.specs.Wire.{leastLabel};
 use meaning::LABEL_COUNT;
 use meaning::LEAST_LABEL;
@@ -163,6 +163,45 @@ pub fn may_be(names: &[u8], k: usize, a: usize, s: &[u8]) -> bool
         return true;
     }
     octets::equal_four(names, a + n - 3, s, n - 4)
+}
+
+// Of the texts of a column the first from the ith on and before the nth that may be s; n where none may. A loop that calls nothing is a
+// quick one.
+fn next_like(names: &[u8], k: usize, from: usize, i: usize, n: usize, s: &[u8]) -> usize
+    requires { ⌜ Names (now names) × (i ≤ n) × Column k from n ⌝ }
+    ensures { λ r. ⌜ (i ≤ r) × (r ≤ n) × ((j : ℕ) → i ≤ j → j < r → same (inColumn k from (now (names .entry)) j) (now (s .entry)) ≡ false) ⌝ }
+{
+    let w = k + 1;
+    let mut a = from + i * w;
+    let mut j = i;
+    while j < n {
+        if may_be(names, k, a, s) {
+            return j;
+        }
+        a += w;
+        j += 1;
+    }
+    n
+}
+
+// The first of a column's n texts that is s; n where none is.
+pub fn text_place(names: &[u8], k: usize, from: usize, n: usize, s: &[u8]) -> usize
+    requires { ⌜ Names (now names) × Column k from n ⌝ }
+    ensures { λ r. ⌜ (r ≤ n) × ((j : ℕ) → j < r → same (inColumn k from (now (names .entry)) j) (now (s .entry)) ≡ false)
+        × (r < n → same (inColumn k from (now (names .entry)) r) (now (s .entry)) ≡ true) ⌝ }
+{
+    let mut i = 0;
+    while i < n {
+        let j = next_like(names, k, from, i, n, s);
+        if n <= j {
+            return n;
+        }
+        if octets::equal(text(names, k, from + j * (k + 1)), s) {
+            return j;
+        }
+        i = j + 1;
+    }
+    n
 }
 
 // How many octets the name of the tree at place i takes of its space, with its length before it.

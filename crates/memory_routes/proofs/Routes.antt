@@ -3,7 +3,7 @@ use Prim.Native.Nat.{ℕ, suc, _+_, _*_, _-_, _/_, _%_, _≤_, _<_, suc-le-suc}
 use native.Mathlib.Nat.{add-zero}
 use native.Mathlib.Omega.{arith}
 use mathlib.Core.Path.{_≡_, refl, sym, ap, _∙_}
-use mathlib.Core.Bool.{Bool}
+use mathlib.Core.Bool.{Bool, true, false}
 use mathlib.Core.List.{List, [], _∷_, _++_}
 use lib.ListN.{length, getD, set, length-set, drop}
 use lib.Seq.{getD-set-same, getD-set-other}
@@ -15,8 +15,9 @@ use Rattle.octets.specs.Part.{tab}
 use Rattle.octets.proofs.Tab.{tab-length, tab-get, tab-set, tab-snoc, tab-cut, put-in, put-end}
 use Rattle.memory.specs.Sizes.{rootSpace, routeColumn, ownColumn, rowNumbers, labelNumbers, rootNames, Numbers}
 use Rattle.memory.specs.Parts.{Written, Closed}
-use Rattle.memory.specs.Memory.{upTo, textAt, rootName, routeCount, routeNumber, entryIn, routeIn, cardOf}
+use Rattle.memory.specs.Memory.{upTo, textAt, inColumn, rootName, routeCount, routeNumber, entryIn, routeIn, cardOf}
 use Rattle.memory.proofs.Memory.{upTo-le, upTo-in, route-same, but-routes, agree-refl, agree-set}
+use Rattle.memory.proofs.Columns.{place-found}
 use Rattle.memory.proofs.Parts.{Carries, lower, text-carried, text-put}
 
 -- ---- what is asked of them
@@ -28,6 +29,15 @@ routes-start r ns os n e = rw e (omega arith)
 pub rooted-at : (r ns os : List ℕ) (i : ℕ) (a : List ℕ) → a ≡ rootName os i → isFor r (routeIn ns os i) ≡ same a r
 unfolding isFor routeIn entryIn
 rooted-at r ns os i a e = rw e refl
+
+pub root-found : (q ns os : List ℕ) (n r : ℕ) → n ≡ routeCount ns → r ≤ n → ((j : ℕ) → j < r → same (inColumn rootLimit rootNames os j) q ≡ false) → (r < n → same (inColumn rootLimit rootNames os r) q ≡ true)
+    → r ≡ routePlace q (cardOf ns os)
+unfolding inColumn
+root-found q ns os n r e most low here =
+    sym (routes-start q ns os n e ∙ place-found (isFor q) n (routeIn ns os) r most (λ j h. rooted-at q ns os j _ (its-root j) ∙ low j h) (λ h. rooted-at q ns os r _ (its-root r) ∙ here h))
+  where
+    its-root : (j : ℕ) → textAt rootLimit os (rootNames + j * (rootLimit + 1)) ≡ rootName os j
+    its-root j = unfold rootName in refl
 
 route-at : (r ns os : List ℕ) (i : ℕ) → i ≡ routePlace r (cardOf ns os) → routeOf r (cardOf ns os) ≡ getD (tab (routeCount ns) (routeIn ns os)) i (noEntry r) .via
 unfolding routeOf cardOf

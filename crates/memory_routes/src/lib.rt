@@ -1,10 +1,9 @@
 // Routes in the card's memory: what is asked of them, and how they come and go.
 ghost use mathlib.Core.Path.{_≡_};
-ghost use mathlib.Core.Bool.{false};
 ghost use mathlib.Core.List.{List, [], _∷_, _++_};
 ghost use Prim.Native.Nat.{ℕ, _+_, _*_, _-_, _≤_, _<_};
 ghost use lib.ListN.{length, set};
-ghost use Rattle.meaning.specs.Octets.{put, cut, same};
+ghost use Rattle.meaning.specs.Octets.{put, cut};
 ghost use Rattle.meaning.specs.Wire.{rootLimit};
 ghost use Rattle.meaning.specs.Card.{withRoutes, withCounts, routePlace, routeLimit, routeOf};
 ghost use Rattle.memory.specs.Sizes.{Numbers, Names};
@@ -46,50 +45,15 @@ pub fn lone(numbers: &[u64], i: usize) -> u64
     numbers[ROUTE_COLUMN + i] / 65536 % 256
 }
 
-// The first place from i on and before n whose root may be that one; n where none may. A loop that calls nothing is a quick one.
-fn next_like(names: &[u8], i: usize, n: usize, root: &[u8]) -> usize
-    requires { ⌜ Names (now names) × (i ≤ n) × (n ≤ routeLimit) ⌝ }
-    ensures { λ r. ⌜ (i ≤ r) × (r ≤ n) × ((j : ℕ) → i ≤ j → j < r → same (rootName (now (names .entry)) j) (now (root .entry)) ≡ false) ⌝ }
-{
-    let mut a = ROOT_NAMES + i * ROOT_SPACE;
-    let mut k = i;
-    while k < n {
-        if memory::may_be(names, ROOT_LIMIT, a, root) {
-            return k;
-        }
-        a += ROOT_SPACE;
-        k += 1;
-    }
-    n
-}
-
-fn search(numbers: &[u64], names: &[u8], root: &[u8]) -> usize
-    requires { ⌜ Numbers (now numbers) × Names (now names) ⌝ }
-    ensures { λ r. ⌜ (r ≡ routePlace (now (root .entry)) (cardOf (now (numbers .entry)) (now (names .entry)))) × (r ≤ routeCount (now (numbers .entry))) × (r ≤ routeLimit) ⌝ }
-{
-    let n = memory::route_count(numbers);
-    let mut i = 0;
-    while i < n {
-        let k = next_like(names, i, n, root);
-        if n <= k {
-            return n;
-        }
-        if octets::equal(root_name(names, k), root) {
-            return k;
-        }
-        i = k + 1;
-    }
-    n
-}
-
 // The part from the front to the end is lent on, and not the slice itself: compiled, a slice is two words that the caller has just
 // written, and a copy of both at once would wait for them.
 pub fn route_place(numbers: &[u64], names: &[u8], root: &[u8]) -> usize
     requires { ⌜ Numbers (now numbers) × Names (now names) ⌝ }
     ensures { λ r. ⌜ (r ≡ routePlace (now (root .entry)) (cardOf (now (numbers .entry)) (now (names .entry)))) × (r ≤ routeCount (now (numbers .entry))) × (r ≤ routeLimit) ⌝ }
 {
-    let n = root.len();
-    search(numbers, names, &root[..n])
+    let n = memory::route_count(numbers);
+    let e = root.len();
+    memory::text_place(names, ROOT_LIMIT, ROOT_NAMES, n, &root[..e])
 }
 
 // The route of the root whose place is i: 0 to 15 a neighbour, 16 this node, 17 no route.

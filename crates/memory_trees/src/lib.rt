@@ -5,7 +5,7 @@ ghost use mathlib.Core.List.{List, [], _∷_};
 ghost use mathlib.Core.Logic.{_⊎_};
 ghost use Prim.Native.Nat.{ℕ, _+_, _*_, _-_, _≤_, _<_};
 ghost use lib.ListN.{length, getD, set};
-ghost use Rattle.meaning.specs.Octets.{pick, place, any, count, same};
+ghost use Rattle.meaning.specs.Octets.{pick, place, any, count};
 ghost use Rattle.meaning.specs.Wire.{nameLimit};
 ghost use Rattle.meaning.specs.Card.{treePlace, treeAt, isBranch, heldFor, carries, labelCount, treeLimit, neighbourCount, nobody};
 ghost use Rattle.octets.specs.Part.{tab};
@@ -213,50 +213,15 @@ pub fn tree_name(names: &[u8], i: usize) -> &[u8]
     memory::text(names, NAME_LIMIT, i * NAME_SPACE)
 }
 
-// The first place from i on and before n whose tree may have that name; n where none may. A loop that calls nothing is a quick one.
-fn next_like(names: &[u8], i: usize, n: usize, name: &[u8]) -> usize
-    requires { ⌜ Names (now names) × (i ≤ n) × (n ≤ treeLimit) ⌝ }
-    ensures { λ r. ⌜ (i ≤ r) × (r ≤ n) × ((j : ℕ) → i ≤ j → j < r → same (treeName (now (names .entry)) j) (now (name .entry)) ≡ false) ⌝ }
-{
-    let mut a = i * NAME_SPACE;
-    let mut k = i;
-    while k < n {
-        if memory::may_be(names, NAME_LIMIT, a, name) {
-            return k;
-        }
-        a += NAME_SPACE;
-        k += 1;
-    }
-    n
-}
-
-fn search(numbers: &[u64], names: &[u8], name: &[u8]) -> usize
-    requires { ⌜ Numbers (now numbers) × Names (now names) ⌝ }
-    ensures { λ r. ⌜ (r ≡ treePlace (now (name .entry)) (cardOf (now (numbers .entry)) (now (names .entry)))) × (r ≤ treeCount (now (numbers .entry))) × (r ≤ treeLimit) ⌝ }
-{
-    let n = memory::tree_count(numbers);
-    let mut i = 0;
-    while i < n {
-        let k = next_like(names, i, n, name);
-        if n <= k {
-            return n;
-        }
-        if octets::equal(tree_name(names, k), name) {
-            return k;
-        }
-        i = k + 1;
-    }
-    n
-}
-
 // The place of the tree of that name; the number of trees where it does not stand. The part from the front to the end is lent on, as in
 // `memory_routes::route_place`.
 pub fn tree_place(numbers: &[u64], names: &[u8], name: &[u8]) -> usize
     requires { ⌜ Numbers (now numbers) × Names (now names) ⌝ }
     ensures { λ r. ⌜ (r ≡ treePlace (now (name .entry)) (cardOf (now (numbers .entry)) (now (names .entry)))) × (r ≤ treeCount (now (numbers .entry))) × (r ≤ treeLimit) ⌝ }
 {
-    let n = name.len();
-    search(numbers, names, &name[..n])
+    let n = memory::tree_count(numbers);
+    let e = name.len();
+    memory::text_place(names, NAME_LIMIT, 0, n, &name[..e])
 }
 
 // ---- labels
