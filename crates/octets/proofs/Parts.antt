@@ -6,7 +6,7 @@ use native.Mathlib.Omega.{arith}
 use mathlib.Core.Path.{_≡_, refl, sym, ap, _∙_}
 use mathlib.Core.List.{List, [], _∷_, _++_, append-assoc}
 use lib.ListN.{length, take, drop, getD, set, length-append, length-drop, List·getD-append, drop-of-length-le}
-use lib.Seq.{drop-cons, sets, sets-eq, take-at, drop-at, drop-drop, length-take-le, take-all, getD-take, getD-drop, getD-append-add, take-add, ext-getD}
+use lib.Seq.{drop-cons, sets, sets-eq, take-at, drop-at, drop-drop, length-take-le, take-all, take-take, take-append-le, take-append-add, drop-append-add, getD-take, getD-drop, getD-append-add, take-add, ext-getD}
 use lib.Dec.{ltb}
 use borrow.Author.Tests.{ltb-true, ltb-false}
 use Rattle.meaning.specs.Lists.{append-nil, by-test}
@@ -130,6 +130,25 @@ module _ {ℓ} {A : Type ℓ} where
       let t3 : drop q rest ≡ drop k (drop a xs) = drop-drop q p (drop a xs) ∙ ap (λ (n : ℕ). drop n (drop a xs)) (sym hk) in
       rw (t1, t2, t3) (append-assoc (take a xs) ys (zs ++ drop k (drop a xs)) ∙ ap (λ (l : List A). take a xs ++ l) (sym (append-assoc ys zs (drop k (drop a xs)))))
 
+  -- a part that goes over the last of the part before it
+  pub mid-over : (a p q k : ℕ) (xs ys zs : List A) → a + p ≤ length xs → length ys ≡ p → k ≤ p → p ≤ k + q → mid (a + k) q (mid a p xs ys) zs ≡ mid a (k + q) xs (take k ys ++ zs)
+  mid-over a p q k xs ys zs ha hy kp pq =
+      let t : length (take a xs) ≡ a = length-take-le a xs (omega arith) in
+      let rest : List A = drop p (drop a xs) in
+      let t1 : take (a + k) (mid a p xs ys) ≡ take a xs ++ take k ys =
+      ap (λ (n : ℕ). take (n + k) (mid a p xs ys)) (sym t) ∙ take-append-add (take a xs) (ys ++ rest) k ∙ ap (λ (l : List A). take a xs ++ l) (take-append-le k ys rest (omega arith)) in
+      let t2 : drop (a + k) (mid a p xs ys) ≡ drop k (ys ++ rest) =
+      ap (λ (n : ℕ). drop (n + k) (mid a p xs ys)) (sym t) ∙ drop-append-add (take a xs) (ys ++ rest) k in
+      let all : k + q ≡ length ys + (k + q - p) = omega arith in
+      let back : p + (k + q - p) ≡ k + q = omega arith in
+      let t3 : drop q (drop k (ys ++ rest)) ≡ drop (k + q) (drop a xs) =
+      drop-drop q k (ys ++ rest)
+      ∙ ap (λ (n : ℕ). drop n (ys ++ rest)) all
+      ∙ drop-append-add ys rest (k + q - p)
+      ∙ drop-drop (k + q - p) p (drop a xs)
+      ∙ ap (λ (n : ℕ). drop n (drop a xs)) back in
+      rw (t1, t2, t3) (append-assoc (take a xs) (take k ys) (zs ++ drop (k + q) (drop a xs)) ∙ ap (λ (l : List A). take a xs ++ l) (sym (append-assoc (take k ys) zs (drop (k + q) (drop a xs)))))
+
   -- ---- a part that is written from its front
 
   mid-store : (src : List A) (z : A) (a i : ℕ) (xs : List A) → i < length src → a + i < length xs → set (mid a i xs (take i src)) (a + i) (getD src i z) ≡ mid a (suc i) xs (take (suc i) src)
@@ -158,26 +177,30 @@ unmoved s ys to i from k h l e =
         getD-take k (drop from (mid to i s ys)) j 0 m ∙ getD-drop from (mid to i s ys) j 0 ∙ mid-before to i s ys 0 (from + j) (omega arith) (omega arith)
         ∙ sym (getD-take k (drop from s) j 0 m ∙ getD-drop from s j 0)
 
-pub copied-more : (s e : List ℕ) (from to i k : ℕ) → from + i + k ≤ to → to + i + k ≤ length s → e ≡ mid to i s (take i (drop from s)) → mid (to + i) k e (take k (drop (from + i) e)) ≡ mid to (i + k) s (take (i + k) (drop from s))
-copied-more s e from to i k h l p =
-    let ys = take i (drop from s) in
-    let y : length ys ≡ i = length-take-le i (drop from s) (simp length-drop (omega arith)) in
-    let z : take k (drop (from + i) (mid to i s ys)) ≡ take k (drop i (drop from s)) =
-    unmoved s ys to i (from + i) k (omega arith) (omega arith) y ∙ ap (take k) (sym (drop-drop i from s)) in
+-- k more from place i on, which is no place behind the m that are there
+pub copied-more : (s e : List ℕ) (from to m i k : ℕ) → i ≤ m → m ≤ i + k → from + i + k ≤ to → to + i + k ≤ length s → e ≡ mid to m s (take m (drop from s))
+    → mid (to + i) k e (take k (drop (from + i) e)) ≡ mid to (i + k) s (take (i + k) (drop from s))
+copied-more s e from to m i k le lk h l p =
+    let ys = take m (drop from s) in
+    let y : length ys ≡ m = length-take-le m (drop from s) (simp length-drop (omega arith)) in
+    let z : take k (drop (from + i) (mid to m s ys)) ≡ take k (drop i (drop from s)) =
+    unmoved s ys to m (from + i) k (omega arith) (omega arith) y ∙ ap (take k) (sym (drop-drop i from s)) in
+    let w : take i ys ++ take k (drop (from + i) (mid to m s ys)) ≡ take (i + k) (drop from s) =
+    rw (take-take i m (drop from s) le, z) (sym (take-add i k (drop from s))) in
     ap (λ (x : List ℕ). mid (to + i) k x (take k (drop (from + i) x))) p
-    ∙ mid-mid to i k (to + i) (i + k) s ys (take k (drop (from + i) (mid to i s ys))) (omega arith) y refl refl
-    ∙ ap (mid to (i + k) s) (ap (λ (x : List ℕ). ys ++ x) z ∙ sym (take-add i k (drop from s)))
+    ∙ mid-over to m k i s ys (take k (drop (from + i) (mid to m s ys))) (omega arith) y le lk
+    ∙ ap (mid to (i + k) s) w
 
--- and the last of n
-pub copied-all : (s e x : List ℕ) (from to i n : ℕ) → i ≤ n → from + n ≤ to → to + n ≤ length s → e ≡ mid to i s (take i (drop from s)) → x ≡ mid (to + i) (n - i) e (take (n - i) (drop (from + i) e)) → x ≡ mid to n s (take n (drop from s))
-copied-all s e x from to i n le h l p q =
-    let k : i + (n - i) ≡ n = omega arith in
-    q ∙ copied-more s e from to i (n - i) (omega arith) (omega arith) p ∙ ap (λ (j : ℕ). mid to j s (take j (drop from s))) k
-
--- ---- a text by eights
+-- ---- a text by eights and by fours
 
 first-of : (s : List ℕ) (i j k : ℕ) → j ≡ i + 1 → i < length s → take (suc k) (drop i s) ≡ getD s i 0 ∷ take k (drop j s)
 first-of s i j k e h = rw (drop-cons s i 0 h, e, add-one i) refl
+
+pub four-of : (s : List ℕ) (i : ℕ) → i + 4 ≤ length s → (getD s i 0 ∷ getD s (i + 1) 0 ∷ getD s (i + 2) 0 ∷ getD s (i + 3) 0 ∷ []) ≡ take 4 (drop i s)
+four-of s i h =
+    sym
+    (rw (first-of s i (i + 1) 3 refl (omega arith), first-of s (i + 1) (i + 2) 2 (omega arith) (omega arith), first-of s (i + 2) (i + 3) 1 (omega arith) (omega arith), first-of s (i + 3) (i + 4) 0 (omega arith) (omega arith))
+    refl)
 
 pub eight-of : (s : List ℕ) (i : ℕ) → i + 8 ≤ length s
     → (getD s i 0 ∷ getD s (i + 1) 0 ∷ getD s (i + 2) 0 ∷ getD s (i + 3) 0 ∷ getD s (i + 4) 0 ∷ getD s (i + 5) 0 ∷ getD s (i + 6) 0 ∷ getD s (i + 7) 0 ∷ []) ≡ take 8 (drop i s)
@@ -202,22 +225,22 @@ pub record Laid (m : ℕ) (src d : List ℕ) : Type 0 where
 pub laid-none : (src d : List ℕ) → length src ≡ length d → Laid 0 src d
 laid-none src d e = record { long = sym e; at = λ j h. absurd (not-suc-le-zero h) }
 
--- eight more from place i on, which is no place behind m
-pub laid-more : (m i : ℕ) (src d e : List ℕ) → Laid m src d → i ≤ m → i + 8 ≤ length src → e ≡ mid i 8 d (take 8 (drop i src)) → Laid (i + 8) src e
-laid-more m i src d e l le h is =
-    let eight : length (take 8 (drop i src)) ≡ 8 = length-take-le 8 (drop i src) (simp length-drop (omega arith)) in
-    let near : i + 8 ≤ length d = omega (arith, l .long) in
+-- k more from place i on, which is no place behind m
+pub laid-more : (k m i : ℕ) (src d e : List ℕ) → Laid m src d → i ≤ m → i + k ≤ length src → e ≡ mid i k d (take k (drop i src)) → Laid (i + k) src e
+laid-more k m i src d e l le h is =
+    let long : length (take k (drop i src)) ≡ k = length-take-le k (drop i src) (simp length-drop (omega arith)) in
+    let near : i + k ≤ length d = omega (arith, l .long) in
     record {
-      long = ap length is ∙ mid-length i 8 d (take 8 (drop i src)) near eight ∙ l .long;
-      at = λ j k. by-test (ltb j i)
-          (λ t. let b = ltb-true j i t in ap (λ (x : List ℕ). getD x j 0) is ∙ mid-before i 8 d (take 8 (drop i src)) 0 j (omega arith) b ∙ l .at j (omega arith))
+      long = ap length is ∙ mid-length i k d (take k (drop i src)) near long ∙ l .long;
+      at = λ j b. by-test (ltb j i)
+          (λ t. let b' = ltb-true j i t in ap (λ (x : List ℕ). getD x j 0) is ∙ mid-before i k d (take k (drop i src)) 0 j (omega arith) b' ∙ l .at j (omega arith))
           (λ t.
-          let b = ltb-false j i t in
+          let b' = ltb-false j i t in
           let q : j ≡ i + (j - i) = omega arith in
           ap (λ (x : List ℕ). getD x j 0) is
-          ∙ ap (λ (n : ℕ). getD (mid i 8 d (take 8 (drop i src))) n 0) q
-          ∙ mid-in i 8 d (take 8 (drop i src)) 0 (j - i) (omega arith) (omega (arith, eight))
-          ∙ getD-take 8 (drop i src) (j - i) 0 (omega arith)
+          ∙ ap (λ (n : ℕ). getD (mid i k d (take k (drop i src))) n 0) q
+          ∙ mid-in i k d (take k (drop i src)) 0 (j - i) (omega arith) (omega (arith, long))
+          ∙ getD-take k (drop i src) (j - i) 0 (omega arith)
           ∙ getD-drop i src (j - i) 0
           ∙ ap (λ (n : ℕ). getD src n 0) (sym q));
     }

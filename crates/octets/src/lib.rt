@@ -147,6 +147,56 @@ fn lay_eight(dst: &mut [u8], src: &[u8], i: usize)
     put_eight(dst, i, x);
 }
 
+// The same of four octets, for a text that has no eight.
+struct Four {
+    a: u8,
+    b: u8,
+    c: u8,
+    d: u8,
+}
+
+fn four_octets_at(s: &[u8], i: usize) -> Four
+    requires { ⌜ i + 4 ≤ length (now s) ⌝ }
+    ensures { λ r. ⌜ (r .a ∷ r .b ∷ r .c ∷ r .d ∷ []) ≡ take 4 (drop i (now (s .entry))) ⌝ }
+{
+    Four {
+        a: s[i],
+        b: s[i + 1],
+        c: s[i + 2],
+        d: s[i + 3],
+    }
+}
+
+fn put_four(s: &mut [u8], i: usize, x: Four)
+    requires { ⌜ i + 4 ≤ length (now s) ⌝ }
+    ensures { λ _. ⌜ now (s .exit) ≡ mid i 4 (now (s .entry)) (x .a ∷ x .b ∷ x .c ∷ x .d ∷ []) ⌝ }
+{
+    let end = i + 4;
+    copy(&mut s[i..end], &[x.a, x.b, x.c, x.d]);
+}
+
+fn lay_four(dst: &mut [u8], src: &[u8], i: usize)
+    requires { ⌜ (i + 4 ≤ length (now dst)) × (i + 4 ≤ length (now src)) ⌝ }
+    ensures { λ _. ⌜ now (dst .exit) ≡ mid i 4 (now (dst .entry)) (take 4 (drop i (now (src .entry)))) ⌝ }
+{
+    let x = four_octets_at(src, i);
+    put_four(dst, i, x);
+}
+
+// Fewer than eight: the first four and the last four, which may be some of the first, and fewer than four one by one.
+fn copy_short(dst: &mut [u8], src: &[u8])
+    requires { ⌜ (length (now src) ≡ length (now dst)) × (length (now src) < 8) ⌝ }
+    ensures { λ _. ⌜ now (dst .exit) ≡ now (src .entry) ⌝ }
+{
+    if src.len() < 4 {
+        copy(dst, src);
+        return;
+    }
+    let last = src.len() - 4;
+    lay_four(dst, src, 0);
+    lay_four(dst, src, last);
+}
+
 // The same as `copy`, for a text whose length nobody foresees: by eights, of which the last goes over some that are there already, where
 // `copy` takes what is left octet by octet. For a few octets of a fixed number `copy` is the quicker.
 pub fn copy_text(dst: &mut [u8], src: &[u8])
@@ -154,7 +204,7 @@ pub fn copy_text(dst: &mut [u8], src: &[u8])
     ensures { λ _. ⌜ now (dst .exit) ≡ now (src .entry) ⌝ }
 {
     if src.len() < 8 {
-        copy(dst, src);
+        copy_short(dst, src);
         return;
     }
     let last = src.len() - 8;
@@ -196,17 +246,22 @@ fn copy_few(s: &mut [u8], from: usize, to: usize, n: usize)
     }
 }
 
-// n octets from one place of a slice to a later one, which they do not reach.
+// n octets from one place of a slice to a later one, which they do not reach: by eights as `copy_text`.
 pub fn copy_within(s: &mut [u8], from: usize, to: usize, n: usize)
     requires { ⌜ (from + n ≤ to) × (to + n ≤ length (now s)) ⌝ }
     ensures { λ _. ⌜ now (s .exit) ≡ mid to n (now (s .entry)) (take n (drop from (now (s .entry)))) ⌝ }
 {
+    if n < 8 {
+        copy_few(s, from, to, n);
+        return;
+    }
+    let last = n - 8;
     let mut i = 0;
-    while 8 <= n - i {
+    while i < last {
         copy_eight(s, from + i, to + i);
         i += 8;
     }
-    copy_few(s, from + i, to + i, n - i);
+    copy_eight(s, from + last, to + last);
 }
 
 pub fn zero(dst: &mut [u64])

@@ -13,8 +13,8 @@ Inv-loop dst₀ src last i₀ dst i = (length dst ≡ length dst₀) × (i ≤ l
 abbrev μ-loop : tie.MeasureT-loop
 μ-loop dst₀ src last i₀ dst i = last + 8 - i
 
-copy-requires : tie.Need-copy-requires Inv-loop μ-loop
-copy-requires c κs = search needs
+copy-short-requires : tie.Need-copy-short-requires Inv-loop μ-loop
+copy-short-requires c κs = search needs
 
 same-length : tie.Need-same-length Inv-loop μ-loop
 same-length c = search needs
@@ -41,7 +41,7 @@ loop-again : tie.Need-loop-again Inv-loop μ-loop
 loop-again c =
     let l = c .before .before .before .before .before in
     let s = l .before .before .before .before in
-    (c .before .dst2 .given ∙ l .loop .inv .0, omega arith, laid-more (l .loop .i) (l .loop .i) (s .args .src .now) _ _ (l .loop .inv .2) (omega arith) (omega arith) (c .before .before .lay-eight .ensures))
+    (c .before .dst2 .given ∙ l .loop .inv .0, omega arith, laid-more 8 (l .loop .i) (l .loop .i) (s .args .src .now) _ _ (l .loop .inv .2) (omega arith) (omega arith) (c .before .before .lay-eight .ensures))
 
 lay-eight-requires-2 : tie.Need-lay-eight-requires-2 Inv-loop μ-loop
 lay-eight-requires-2 c κs = search needs
@@ -56,7 +56,7 @@ returns-2 c =
     let l = c .before .before .before .before .before in
     let s = l .before .before .before .before in
     let last = length (s .args .src .now) - 8 in
-    laid-all (last + 8) (s .args .src .now) _ (laid-more (l .loop .i) last (s .args .src .now) _ _ (l .loop .inv .2) (omega arith) (omega arith) (c .before .before .lay-eight2 .ensures)) (omega arith)
+    laid-all (last + 8) (s .args .src .now) _ (laid-more 8 (l .loop .i) last (s .args .src .now) _ _ (l .loop .inv .2) (omega arith) (omega arith) (c .before .before .lay-eight2 .ensures)) (omega arith)
 
 pub copy-text-spec : {M : Type 1} → statement M
 copy-text-spec =
@@ -64,7 +64,7 @@ copy-text-spec =
     (tie.spec
     Inv-loop
     μ-loop
-    copy-requires
+    copy-short-requires
     same-length
     returns
     sub-last
