@@ -93,11 +93,6 @@ module _ (f : Form) (c : Card) (o : List ℕ) (from : ℕ) where
 
 -- ---- one label, and the tree of its name
 
--- sought from the front
-pub zero-on : (a : List ℕ) (c : Card) (i : ℕ) → i ≡ 0 + place (named a) (drop 0 (c .trees)) → i ≡ treePlace a c
-unfolding treePlace
-zero-on a c i e = omega arith
-
 map-still {ℓ} : {A : Type ℓ} (g : A → A) → ((x : A) → g x ≡ x) → (l : List A) → map g l ≡ l
 map-still g h [] = refl
 map-still g h (x ∷ l) = ap₂ (λ y ys. y ∷ ys) (h x) (map-still g h l)

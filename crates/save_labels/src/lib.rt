@@ -72,24 +72,32 @@ fn read_uses(
 
 // ---- the label that each tree carries
 
-// The tree of the name that the label at place p is mapped for carries it from now on, unless it carries one already.
-fn give_label(numbers: &mut [u64], names: &[u8], tags: &[u32], p: usize)
+// The tree of the name that the label at place p is mapped for carries it from now on, unless it carries one already. Labels are mostly given
+// in the order of the trees: the tree at place `first` is asked before all others, and the place to ask first for the next label is handed back.
+fn give_label(numbers: &mut [u64], names: &[u8], tags: &[u32], p: usize, first: usize) -> usize
     requires { ⌜ (let c = cardOf (now numbers) (now names) in Numbers (now numbers) × Names (now names) × (length (now tags) ≡ treeLimit) × Tagged (now tags) (treeCount (now numbers)) (now names) × (p < labelCount) × (onceEach sameName (c .trees) ≡ true)
         × ((j : ℕ) → j < treeCount (now numbers) → treeAt j c .label ≡ baseIn (now numbers) + p → ⊥)) ⌝ }
     ensures { λ _. ⌜ (let c = cardOf (now (numbers .entry)) (now (names .entry)) in
         cardOf (now (numbers .exit)) (now (names .entry)) ≡ withTrees (map (given (baseIn (now (numbers .entry)) + p) (labelIn (now (numbers .entry)) (now (names .entry)) p)) (c .trees)) c) ⌝ }
 {
     if memory_labels::mapped_at(numbers, p) == NOBODY {
-        return;
+        return first;
     }
-    let i = save_tags::tagged_from(numbers, names, tags, 0, memory_labels::label_name(names, p));
+    let i = save_tags::tagged_near(
+        numbers,
+        names,
+        tags,
+        first,
+        memory_labels::label_name(names, p),
+    );
     if memory::tree_count(numbers) <= i {
-        return;
+        return first;
     }
     if memory_trees::tree_label(numbers, i) != 0 {
-        return;
+        return first;
     }
     memory_marks::attach(numbers, i, p);
+    i + 1
 }
 
 fn label_trees(numbers: &mut [u64], names: &[u8])
@@ -99,9 +107,10 @@ fn label_trees(numbers: &mut [u64], names: &[u8])
 {
     let mut tags = [0u32; TREE_LIMIT];
     save_tags::tree_tags(numbers, names, &mut tags);
+    let mut first = 0;
     let mut p = 0;
     while p < LABEL_COUNT {
-        give_label(numbers, names, &tags, p);
+        first = give_label(numbers, names, &tags, p, first);
         p += 1;
     }
 }

@@ -1,15 +1,14 @@
 -- What the tests of one label and of one tree say, and all rules together. Assumes nothing.
-use Prim.Native.Nat.{ℕ, zero, suc, _+_, _-_, _%_, _≤_, _<_}
-use native.Mathlib.Nat.{not-suc-le-zero, le-of-suc-le-suc}
+use Prim.Native.Nat.{ℕ, _+_, _%_, _≤_, _<_}
 use native.Mathlib.Omega.{arith}
 use mathlib.Core.Path.{_≡_, refl, sym, ap, _∙_}
 use mathlib.Core.Bool.{Bool, true, false, not, _&&_, and-true, and-false}
-use mathlib.Core.List.{List, [], _∷_}
+use mathlib.Core.List.{List, []}
 use lib.ListN.{length, getD}
 use lib.Dec.{eqb, leb, ltb}
 use borrow.Author.Tests.{lt-ltb, le-leb, eq-eqb, ne-eqb, eqb-true, ltb-true, ltb-false}
-use Rattle.meaning.specs.Octets.{place, any, same, all}
-use Rattle.meaning.specs.Lists.{by-test, place-finds, place-skips, getD-out, getD-same, same-eq, same-refl, any-count, count-some, never}
+use Rattle.meaning.specs.Octets.{place, same, all}
+use Rattle.meaning.specs.Lists.{by-test, place-finds, place-skips, getD-out, getD-same, same-eq, same-refl}
 use Rattle.meaning.specs.Card.{Tree, mapped, awaiting, Card, treeOf, treePlace, bare, named, carries, isFree, mappedTo, useOf, labelCount, routeLimit, treeLimit, neighbourCount, mostBase, nobody}
 use Rattle.meaning.specs.Events.{baseOutside}
 use Rattle.meaning_save.specs.Save.{isName, onceEach, isRoute, sameRoot, isTree, sameName, isUse, isCarried, allCarried, isMappedFor, carriesOwn, holdsRight, keepsRows}
@@ -18,6 +17,7 @@ use Rattle.memory.proofs.Memory.{routeCount-le, treeCount-le, base-range, route
 use Rattle.memory.proofs.Marks.{by-use, mapped-use, label-free, label-mapped}
 use Rattle.memory.proofs.Labels.{use-in, use-at, awaited-is}
 use Rattle.meaning_laws.specs.SaveRules.{all-at}
+use Rattle.save_rules_rows.proofs.RowRules.{place-once}
 use Rattle.meaning.specs.Wire.{leastLabel}
 
 -- ---- one label
@@ -86,10 +86,6 @@ module _ (c : Card) (t : Tree) (l : ℕ) (e : l ≡ t .label) where
   unfolding carriesOwn
   own-for a n ne = rw (← e, ne-eqb l 0 ne, ← n) refl
 
-alike : (a : List ℕ) (t s : Tree) → named a t ≡ true → named a s ≡ true → sameName t s ≡ true
-unfolding sameName named
-alike a t s e k = rw (same-eq (t .name) a e) k
-
 label-is : (l : ℕ) (t : Tree) → carries l t ≡ true → t .label ≡ l
 unfolding carries
 label-is l t e = eqb-true (t .label) l e
@@ -97,19 +93,6 @@ label-is l t e = eqb-true (t .label) l e
 is-named : (a : List ℕ) (t : Tree) → a ≡ t .name → named a t ≡ true
 unfolding named
 is-named a t e = rw (← e) (same-refl a)
-
--- the place of a name, where no two trees have it
-place-once : (a : List ℕ) (ts : List Tree) (k : ℕ) (d : Tree) → onceEach sameName ts ≡ true → k < length ts → named a (getD ts k d) ≡ true → place (named a) ts ≡ k
-unfolding place onceEach
-place-once a [] k d once h e = absurd (not-suc-le-zero h)
-place-once a (t ∷ ts) zero d once h e = rw e refl
-place-once a (t ∷ ts) (suc k) d once h e =
-    by-test (any (sameName t) ts)
-    (λ x. absurd (never (rw x at once)))
-    (λ x. by-test (named a t)
-    (λ y.
-    absurd (omega (arith, any-count (sameName t) ts x, count-some (sameName t) ts k d (le-of-suc-le-suc h) (alike a t (getD ts k d) y e))))
-    (λ y. rw y (ap suc (place-once a ts k d (rw x at once) (le-of-suc-le-suc h) e))))
 
 -- whether a mapped label is its tree's: that is whether any tree carries it
 module _ (ns os : List ℕ) (p m : ℕ) (h : p < labelCount) (e : m ≡ mappedTo (labelIn ns os p)) (ne : m ≡ nobody → ⊥) (is : isMappedAt ns p ≡ true)

@@ -1,5 +1,6 @@
 -- What the loops over routes, trees and branches know, and what the tests of one row say. Assumes nothing.
-use Prim.Native.Nat.{ℕ, suc, _+_, _≤_, _<_}
+use Prim.Native.Nat.{ℕ, zero, suc, _+_, _≤_, _<_}
+use native.Mathlib.Nat.{not-suc-le-zero, le-of-suc-le-suc}
 use native.Mathlib.Numerals.{add-one}
 use native.Mathlib.Omega.{arith}
 use mathlib.Core.Path.{_≡_, refl, ap}
@@ -9,8 +10,8 @@ use lib.ListN.{length, drop, getD, set, drop-of-length-le}
 use lib.Seq.{drop-cons, set-out}
 use lib.Dec.{eqb, leb}
 use borrow.Author.Tests.{le-leb, lt-leb, eq-eqb, ne-eqb, not-true, not-false}
-use Rattle.meaning.specs.Octets.{any, same, all}
-use Rattle.meaning.specs.Lists.{getD-same}
+use Rattle.meaning.specs.Octets.{place, any, same, all}
+use Rattle.meaning.specs.Lists.{by-test, getD-same, same-eq, any-count, count-some, never}
 use Rattle.meaning.specs.Wire.{rootIn, leastLabel, mostLabel}
 use Rattle.meaning.specs.Card.{Route, Tree, Use, Card, treeAt, bare, isBranch, isEmpty, isFor, named, routeOf, heldFor, labelCount, neighbourCount}
 use Rattle.meaning.specs.Events.{notRoot, upstream, holderOf, holder}
@@ -195,7 +196,26 @@ module _ (t : Tree) where
   unfolding holdsRight holderOf
   holds c u h k a ea eu eh ek = rw (eh, ek, eu, ea) refl
 
--- one test after the other: b is what the code says of the first
+-- ---- the tree of a name
+
+alike : (a : List ℕ) (t s : Tree) → named a t ≡ true → named a s ≡ true → sameName t s ≡ true
+unfolding sameName named
+alike a t s e k = rw (same-eq (t .name) a e) k
+
+-- its place, where no two trees have it
+pub place-once : (a : List ℕ) (ts : List Tree) (k : ℕ) (d : Tree) → onceEach sameName ts ≡ true → k < length ts → named a (getD ts k d) ≡ true → place (named a) ts ≡ k
+unfolding place onceEach
+place-once a [] k d once h e = absurd (not-suc-le-zero h)
+place-once a (t ∷ ts) zero d once h e = rw e refl
+place-once a (t ∷ ts) (suc k) d once h e =
+    by-test (any (sameName t) ts)
+    (λ x. absurd (never (rw x at once)))
+    (λ x. by-test (named a t)
+    (λ y.
+    absurd (omega (arith, any-count (sameName t) ts x, count-some (sameName t) ts k d (le-of-suc-le-suc h) (alike a t (getD ts k d) y e))))
+    (λ y. rw y (ap suc (place-once a ts k d (rw x at once) (le-of-suc-le-suc h) e))))
+
+-- ---- one test after the other: b is what the code says of the first
 pub and-then : (b a c r : Bool) → b ≡ a → not b ≡ false → c ≡ r → (a && c) ≡ r
 and-then b a c r e k n = rw (← e, not-false b k) n
 

@@ -2,19 +2,22 @@
 use Prim.Native.Nat.{ℕ, suc, _+_, _-_, _≤_, _<_}
 use native.Mathlib.Omega.{arith}
 use mathlib.Core.Path.{_≡_, refl, sym, ap, _∙_}
-use mathlib.Core.Bool.{Bool, false}
+use mathlib.Core.Bool.{Bool, true, false}
 use mathlib.Core.List.{List, [], _∷_}
-use lib.ListN.{length, drop, set, length-drop}
+use lib.ListN.{length, drop, getD, set, length-drop}
 use lib.Seq.{getD-set-same, getD-set-other}
 use lib.Dec.{eqb, ltb}
 use borrow.Author.Tests.{eqb-true, eqb-false, ltb-true, ltb-false, lt-ltb, le-ltb}
 use Rattle.meaning.specs.Octets.{place, any, same, fourAt}
 use Rattle.meaning.specs.Lists.{by-test, same-eq}
-use Rattle.meaning.specs.Card.{Tree, named}
-use Rattle.meaning_save.specs.Save.{sameName}
+use Rattle.meaning.specs.Card.{Tree, Card, bare, named, treePlace}
+use Rattle.meaning_save.specs.Save.{onceEach, sameName}
 use Rattle.octets.specs.Part.{tab}
 use Rattle.memory.specs.Memory.{cardOf, treeCount, treeIn, treeName}
-use Rattle.save_rules_rows.proofs.RowRules.{name-like}
+use Rattle.memory.proofs.Memory.{trees-length}
+use Rattle.memory.proofs.Trees.{named-at}
+use Rattle.octets.proofs.Tab.{tab-get}
+use Rattle.save_rules_rows.proofs.RowRules.{name-like, place-once}
 use Rattle.save_tags.specs.Tags.{tagOf, Tagged}
 
 pub tag-short : (a : List ℕ) (r : ℕ) → length a < 4 → r ≡ fourAt a 0 → r ≡ tagOf a
@@ -57,3 +60,16 @@ found-from a t ts from n r en h ea er =
     like =
         let q : ℕ = place (named a) (drop from ts) in
         by-test (ltb r n) (λ y. y ∙ sym (lt-ltb q (n - from) (omega (arith, ltb-true r n y)))) (λ y. y ∙ sym (le-ltb q (n - from) (omega (arith, ltb-false r n y))))
+
+-- ---- the tree of a name, where no two trees have it
+
+-- sought from the front
+pub from-front : (a : List ℕ) (c : Card) (i : ℕ) → i ≡ 0 + place (named a) (drop 0 (c .trees)) → i ≡ treePlace a c
+unfolding treePlace
+from-front a c i e = omega arith
+
+pub named-there : (a ns os : List ℕ) (i : ℕ) → i < treeCount ns → onceEach sameName (cardOf ns os .trees) ≡ true → same (treeName os i) a ≡ true → i ≡ treePlace a (cardOf ns os)
+unfolding treePlace
+named-there a ns os i h once e =
+    let its : named a (getD (cardOf ns os .trees) i (bare [])) ≡ true = unfold cardOf in rw (tab-get (treeCount ns) (treeIn ns os) i (bare []) h) (named-at a ns os i _ refl ∙ e) in
+    sym (place-once a (cardOf ns os .trees) i (bare []) once (rw trees-length h) its)

@@ -1,10 +1,11 @@
 // Trees sought by their names while a save is read. The last four octets of each tree's name, as a number, are read once: names that differ
 // there, as most do, are told apart without a look at their octets.
 ghost use mathlib.Core.Path.{_≡_};
+ghost use mathlib.Core.Bool.{true};
 ghost use Prim.Native.Nat.{_+_, _≤_, _<_};
 ghost use lib.ListN.{length, drop, getD};
 ghost use Rattle.meaning.specs.Octets.{place, same};
-ghost use Rattle.meaning.specs.Card.{named, treeLimit};
+ghost use Rattle.meaning.specs.Card.{named, treePlace, treeLimit};
 ghost use Rattle.meaning_save.specs.Save.{onceEach, sameName};
 ghost use Rattle.memory.specs.Sizes.{Numbers, Names};
 ghost use Rattle.memory.specs.Memory.{cardOf, treeCount, treeName};
@@ -61,6 +62,21 @@ pub fn tagged_from(numbers: &[u64], names: &[u8], tags: &[u32], from: usize, nam
         i += 1;
     }
     n
+}
+
+// The place of the tree of that name, where no two trees have one name; the number of trees where none has it. The tree at place `first`, if
+// one stands there, is asked before all others.
+pub fn tagged_near(numbers: &[u64], names: &[u8], tags: &[u32], first: usize, name: &[u8]) -> usize
+    requires { ⌜ (let c = cardOf (now numbers) (now names) in Numbers (now numbers) × Names (now names) × (length (now tags) ≡ treeLimit) × Tagged (now tags) (treeCount (now numbers)) (now names)
+        × (onceEach sameName (c .trees) ≡ true)) ⌝ }
+    ensures { λ r. ⌜ (r ≡ treePlace (now (name .entry)) (cardOf (now (numbers .entry)) (now (names .entry)))) × (r ≤ treeCount (now (numbers .entry))) × (r ≤ treeLimit) ⌝ }
+{
+    if first < memory::tree_count(numbers) {
+        if is_named(names, tags, first, tag(name), name) {
+            return first;
+        }
+    }
+    tagged_from(numbers, names, tags, 0, name)
 }
 
 // No two trees have one name.

@@ -2,7 +2,7 @@
 use mathlib.Core.Path.{sym, _∙_}
 use native.Mathlib.Omega.{arith}
 use borrow.Author.Needs.{needs}
-use Rattle.save_labels.proofs.Labels.{given-none, given-out, given-before, given-now, none-has, zero-on}
+use Rattle.save_labels.proofs.Labels.{given-none, given-out, given-before, given-now, none-has}
 use Rattle.save_labels.proofs.give_label.Statement.{statement}
 use Rattle.save_labels.proofs.give_label.Tie as tie
 
@@ -20,8 +20,8 @@ returns c =
 label-name-requires : tie.Need-label-name-requires
 label-name-requires c κs = search needs
 
-tagged-from-requires : tie.Need-tagged-from-requires
-tagged-from-requires c κs = search needs
+tagged-near-requires : tie.Need-tagged-near-requires
+tagged-near-requires c κs = search needs
 
 tree-count-requires : tie.Need-tree-count-requires
 tree-count-requires c κs = search needs
@@ -34,7 +34,7 @@ returns-2 c =
     let k = c .before .before .before in
     let m = k .before .before .before .before in
     let s = m .before .before .before .before .before in
-    given-out (s .args .numbers .now) (s .args .names .now) (s .args .p) _ _ (m .mapped-at .ensures .3 (k .before .before .before .if1 .left)) (k .before .label-name .ensures) (zero-on _ _ _ (k .tagged-from .ensures .0)) (s .pre .5) _ (c .before .tree-count .ensures .0) (c .if2 .taken)
+    given-out (s .args .numbers .now) (s .args .names .now) (s .args .p) _ _ (m .mapped-at .ensures .3 (k .before .before .before .if1 .left)) (k .before .label-name .ensures) (k .tagged-near .ensures .0) (s .pre .5) _ (c .before .tree-count .ensures .0) (c .if2 .taken)
 
 tree-label-requires : tie.Need-tree-label-requires
 tree-label-requires c κs = search needs
@@ -47,7 +47,7 @@ returns-3 c =
     let k = c .before .before .before .before .before .before in
     let m = k .before .before .before .before in
     let s = m .before .before .before .before .before in
-    given-before (s .args .numbers .now) (s .args .names .now) (s .args .p) _ _ (m .mapped-at .ensures .3 (k .before .before .before .if1 .left)) (k .before .label-name .ensures) (zero-on _ _ _ (k .tagged-from .ensures .0)) (s .pre .5) (λ z. c .if3 .taken (c .before .tree-label .ensures _ ∙ z))
+    given-before (s .args .numbers .now) (s .args .names .now) (s .args .p) _ _ (m .mapped-at .ensures .3 (k .before .before .before .if1 .left)) (k .before .label-name .ensures) (k .tagged-near .ensures .0) (s .pre .5) (λ z. c .if3 .taken (c .before .tree-label .ensures _ ∙ z))
 
 attach-requires : tie.Need-attach-requires
 attach-requires c κs =
@@ -59,6 +59,9 @@ attach-requires c κs =
     let n = the-tree-count .ensures in
     (s .pre .0, s .pre .4, m .mapped-at .ensures .3 (k .before .before .before .if1 .left), none-has (s .args .numbers .now) (s .args .names .now) (s .args .p) (s .pre .6), (omega (arith, n .0, the-if2 .left), omega (arith, n, the-if2 .left)))
 
+add-result : tie.Need-add-result
+add-result c = search needs
+
 same-length-4 : tie.Need-same-length-4
 same-length-4 c = search needs
 
@@ -69,7 +72,7 @@ returns-4 c =
     let k = l .before .before .before .before .before in
     let m = k .before .before .before .before in
     let s = m .before .before .before .before .before in
-    given-now (s .args .numbers .now) (s .args .names .now) (s .args .p) _ _ (m .mapped-at .ensures .3 (k .before .before .before .if1 .left)) (k .before .label-name .ensures) (zero-on _ _ _ (k .tagged-from .ensures .0)) (s .pre .5) _ (omega (arith, l .before .before .before .tree-count .ensures .0, l .before .before .if2 .left)) (sym (l .tree-label .ensures _) ∙ the-if3 .left) (c .before .before .attach .ensures _)
+    given-now (s .args .numbers .now) (s .args .names .now) (s .args .p) _ _ (m .mapped-at .ensures .3 (k .before .before .before .if1 .left)) (k .before .label-name .ensures) (k .tagged-near .ensures .0) (s .pre .5) _ (omega (arith, l .before .before .before .tree-count .ensures .0, l .before .before .if2 .left)) (sym (l .tree-label .ensures _) ∙ the-if3 .left) (c .before .before .attach .ensures _)
 
 pub give-label-spec : {M : Type 1} → statement M
 give-label-spec =
@@ -79,7 +82,7 @@ give-label-spec =
     same-length
     returns
     label-name-requires
-    tagged-from-requires
+    tagged-near-requires
     tree-count-requires
     same-length-2
     returns-2
@@ -87,5 +90,6 @@ give-label-spec =
     same-length-3
     returns-3
     attach-requires
+    add-result
     same-length-4
     returns-4)

@@ -10,10 +10,10 @@ use Rattle.save_labels.proofs.label_trees.Statement.{statement}
 use Rattle.save_labels.proofs.label_trees.Tie as tie
 
 abbrev Inv-loop : tie.InvT-loop
-Inv-loop numbers₀ names tags p₀ numbers p = (p ≤ labelCount) × (length numbers ≡ length numbers₀) × Labelled numbers₀ names p numbers
+Inv-loop numbers₀ names tags first₀ p₀ numbers first p = (p ≤ labelCount) × (length numbers ≡ length numbers₀) × Labelled numbers₀ names p numbers
 
 abbrev μ-loop : tie.MeasureT-loop
-μ-loop numbers₀ names tags p₀ numbers p = labelCount - p
+μ-loop numbers₀ names tags first₀ p₀ numbers first p = labelCount - p
 
 slice-aggregate-tree-tags : tie.Need-slice-aggregate-tree-tags Inv-loop μ-loop
 slice-aggregate-tree-tags c = search needs

@@ -1,0 +1,47 @@
+-- `save_tags::tagged_near` meets its contract: where no two trees have one name, whoever has it is the one. Assumes nothing.
+use native.Mathlib.Omega.{arith}
+use mathlib.Core.Path.{sym, _∙_}
+use borrow.Author.Needs.{needs}
+use Rattle.save_tags.proofs.Tags.{from-front, named-there}
+use Rattle.save_tags.proofs.tagged_near.Statement.{statement}
+use Rattle.save_tags.proofs.tagged_near.Tie as tie
+
+tree-count-requires : tie.Need-tree-count-requires
+tree-count-requires c κs = search needs
+
+tag-requires : tie.Need-tag-requires
+tag-requires c κs = search needs
+
+is-named-requires : tie.Need-is-named-requires
+is-named-requires c κs =
+    let start = c .before .before .before .before .before .before .before in
+    let n = c .before .before .tree-count .ensures in
+    let h = c .before .if1 .taken in
+    (start .pre .1, start .pre .2, omega (arith, n, h), start .pre .3 _ (omega (arith, n .0, h)), c .tag .ensures)
+
+returns : tie.Need-returns
+returns c =
+    let start = c .before .before .before .before .before .before .before .before .before in
+    let the-tree-count = c .before .before .before .before .tree-count in
+    let n = the-tree-count .ensures in
+    let h = c .before .before .before .if1 .taken in
+    (named-there _ _ _ _ (omega (arith, n .0, h)) (start .pre .4) (sym (c .before .is-named .ensures) ∙ c .if2 .taken), omega (arith, n .0, h), omega (arith, n, h))
+
+tagged-from-requires : tie.Need-tagged-from-requires
+tagged-from-requires c κs = search needs
+
+returns-2 : tie.Need-returns-2
+returns-2 c =
+    let found = c .tagged-from .ensures in
+    (from-front _ _ _ (found .0), found .1, found .2)
+
+pub tagged-near-spec : {M : Type 1} → statement M
+tagged-near-spec =
+    tie.close
+    (tie.spec
+    tree-count-requires
+    tag-requires
+    is-named-requires
+    returns
+    tagged-from-requires
+    returns-2)
