@@ -7,26 +7,27 @@ use mathlib.Core.List.{List}
 use lib.ListN.{drop, getD, replicate}
 use lib.Dec.{ltb}
 use borrow.Author.Tests.{ltb-true, ltb-false, not-true}
-use Rattle.meaning.specs.Octets.{twoAt, fourAt}
+use Rattle.meaning.specs.Octets.{all, twoAt, fourAt}
 use Rattle.meaning.specs.Lists.{by-test, never}
 use Rattle.meaning_laws.specs.RoundTrip.{both}
 use Rattle.meaning.specs.Events.{baseOutside}
 use Rattle.meaning.specs.Card.{Tree, Use, free, Card, withRoutes, withTrees, labelCount}
-use Rattle.meaning_save.specs.Save.{Form, new, formOf, lastPlace, routesRead, treesRead, treesEnd, usesRead, allLabelled, onceEach, sameName, sameRoot, keepsRules, tableIn, isSave, headSize, routeSize, countsRight, keepsRows}
+use Rattle.meaning_save.specs.Save.{Form, new, formOf, lastPlace, routesRead, treesRead, treesEnd, usesRead, allLabelled, onceEach, sameName, sameRoot, holdsRight, keepsRules, tableIn, isSave, headSize, routeSize, countsRight, keepsRows}
 use Rattle.meaning_laws.specs.SaveLaws.{Head, head-of-save, last-of-save, ruled-keeps, taken-is-save}
 use Rattle.save_rows.specs.Stages.{treesBegin, rowsRead}
 use Rattle.save_labels.specs.Labels.{OfBlock}
 use Rattle.save_labels.proofs.Labels.{all-once}
 use Rattle.save_counts.proofs.Entries.{worked-once}
 
-keeps-once : (c : Card) → keepsRules c ≡ true → (baseOutside (c .base) ≡ false) × (onceEach sameName (c .trees) ≡ true) × (onceEach sameRoot (c .routes) ≡ true)
+keeps-once : (c : Card) → keepsRules c ≡ true → (baseOutside (c .base) ≡ false) × (onceEach sameName (c .trees) ≡ true) × (onceEach sameRoot (c .routes) ≡ true) × (all (holdsRight c) (c .trees) ≡ true)
 unfolding keepsRules keepsRows
 keeps-once c e =
     let rows = both _ (countsRight c) e .0 in
-    let names = both _ _ (both _ _ (both _ _ (both _ _ (both _ _ rows .0) .0) .0) .0) in
+    let held = both _ _ rows in
+    let names = both _ _ (both _ _ (both _ _ (both _ _ (held .0) .0) .0) .0) in
     let roots = both _ _ (both _ _ (names .0) .0) in
     let sizes = both _ _ (both _ _ (both _ _ (both _ _ (roots .0) .0) .0) .0) in
-    (not-true _ (both _ _ (sizes .0) .0), names .1, roots .1)
+    (not-true _ (both _ _ (sizes .0) .0), names .1, roots .1, held .1)
 
 pub no-save : (f : Form) (o : List ℕ) → (Head o → ⊥) → isSave f o ≡ false
 no-save f o h = by-test (isSave f o) (λ e. absurd (h (head-of-save f o e))) (λ e. e)
@@ -55,6 +56,10 @@ module _ (f : Form) (o : List ℕ) where
 
     pub roots-not : onceEach sameRoot (c .routes) ≡ false → isSave f o ≡ false
     roots-not n = by-test (isSave f o) (λ k. absurd (never (sym n ∙ ap (λ (x : Card). onceEach sameRoot (x .routes)) e ∙ save-once k .1))) (λ k. k)
+
+  -- and hold each a label for whom they are to
+  pub held-not : all (holdsRight (tableIn f o)) (tableIn f o .trees) ≡ false → isSave f o ≡ false
+  held-not n = by-test (isSave f o) (λ k. absurd (never (sym n ∙ keeps-once (tableIn f o) (ruled-keeps f (tableIn f o) (taken-is-save f o k .0)) .3))) (λ k. k)
 
 -- the last label given, which the new form has
 pub last-not : (b : Bool) (o : List ℕ) → b ≡ true → (OfBlock (fourAt o 3) (fourAt o lastPlace) → ⊥) → isSave (formOf b) o ≡ false

@@ -3,8 +3,8 @@ ghost use mathlib.Core.Path.{_≡_};
 ghost use mathlib.Core.Bool.{true, false};
 ghost use Prim.Native.Nat.{_≤_};
 ghost use lib.ListN.{getD};
-ghost use Rattle.meaning.specs.Octets.{fourAt};
-ghost use Rattle.meaning_save.specs.Save.{Form, formOf, lastPlace, onceEach, sameName, sameRoot, tableIn, isSave};
+ghost use Rattle.meaning.specs.Octets.{all, fourAt};
+ghost use Rattle.meaning_save.specs.Save.{Form, formOf, lastPlace, onceEach, sameName, sameRoot, holdsRight, tableIn, isSave};
 ghost use Rattle.meaning.specs.Card.{routeLimit, treeLimit, mostBase};
 ghost use Rattle.memory.specs.Sizes.{Numbers, Names};
 ghost use Rattle.memory.specs.Memory.{cardOf};
@@ -57,12 +57,12 @@ fn is_last(octets: &[u8], second: bool) -> bool
     last < base + LABELS
 }
 
-// The table in the octets, into memory that held anything. False where the octets can be no save: then a name or a root stands twice, or the
-// head says what it cannot.
+// The table in the octets, into memory that held anything. False where the octets can be no save: then a name or a root stands twice, a tree
+// holds no label for whom it is to, or the head says what it cannot.
 pub fn decode(octets: &[u8], second: bool, numbers: &mut [u64], names: &mut [u8]) -> bool
     requires { ⌜ Numbers (now numbers) × Names (now names) ⌝ }
     ensures { λ r. ⌜ (r ≡ true → (let t = tableIn (formOf second) (now (octets .entry)) in
-        (cardOf (now (numbers .exit)) (now (names .exit)) ≡ t) × (onceEach sameName (t .trees) ≡ true) × (onceEach sameRoot (t .routes) ≡ true)))
+        (cardOf (now (numbers .exit)) (now (names .exit)) ≡ t) × (onceEach sameName (t .trees) ≡ true) × (onceEach sameRoot (t .routes) ≡ true) × (all (holdsRight t) (t .trees) ≡ true)))
         × (r ≡ false → isSave (formOf second) (now (octets .entry)) ≡ false) ⌝ }
 {
     if !is_head(octets) {
@@ -78,6 +78,5 @@ pub fn decode(octets: &[u8], second: bool, numbers: &mut [u64], names: &mut [u8]
     if !save_rules_rows::roots_once(numbers, names) {
         return false;
     }
-    save_labels::read_labels(octets, at, second, numbers, names);
-    true
+    save_labels::read_labels(octets, at, second, numbers, names)
 }

@@ -10,11 +10,11 @@ use lib.ListN.{length, take, drop, getD, set, length-append}
 use lib.Seq.{drop-drop, getD-drop, set-getD, set-out, take-all, take-suc, length-take-le}
 use lib.Dec.{eqb, leb, ltb}
 use borrow.Author.Tests.{lt-ltb, le-ltb, ltb-true, ltb-false, leb-true, leb-false, eqb-true, eqb-false, eq-eqb, ne-eqb}
-use Rattle.meaning.specs.Octets.{pick, place, any, same, twoAt, fourAt}
+use Rattle.meaning.specs.Octets.{pick, place, any, all, same, twoAt, fourAt}
 use Rattle.meaning.specs.Lists.{by-test, place-finds, same-eq, same-refl, same-flip}
 use Rattle.meaning.specs.Card.{Route, Tree, Use, free, mapped, awaiting, Card, fresh, withNext, withRoutes, withTrees, withLabels, withLabel, bare, treeAt, treePlace, named, labelCount, withLast, isFree}
 use Rattle.meaning.specs.Events.{setLabel, total, workedOut}
-use Rattle.meaning_save.specs.Save.{Form, formOf, lastPlace, nameIn, extent, useRead, useEnd, usesRead, useBeside, isMappedFor, labelled, allLabelled, onceEach, sameName, sameRoot, allWorkedOut, routesRead, routeRead, headSize, routeSize, tableIn, highestUsed, lastIn}
+use Rattle.meaning_save.specs.Save.{Form, formOf, lastPlace, nameIn, extent, useRead, useEnd, usesRead, useBeside, isMappedFor, labelled, allLabelled, onceEach, sameName, sameRoot, allWorkedOut, routesRead, routeRead, headSize, routeSize, holdsRight, tableIn, highestUsed, lastIn}
 use Rattle.meaning_laws.specs.SavePlaces.{usesEnd, use-there, uses-end-more, uses-read-more}
 use Rattle.memory.specs.Memory.{cardOf, baseIn, treeCount, labelIn, labelName, isFreeAt, isMappedAt, labelBefore}
 use Rattle.memory.proofs.Memory.{base-range, trees-length, labels-length}
@@ -27,6 +27,7 @@ use Rattle.octets.proofs.Tab.{tab-get}
 use Rattle.save_rules.proofs.Rules.{mapped-not, mapped-named}
 use Rattle.save_rows.specs.Stages.{headRead, treesBegin, rowsRead, labelsBegin}
 use Rattle.save_counts.specs.Counted.{counted}
+use Rattle.save_counts.proofs.Held.{held-counted}
 use Rattle.save_counts.proofs.Places.{one-changed}
 use Rattle.save_fields.proofs.Read.{four-drop}
 use Rattle.save_rows.proofs.Rows.{trees-bare}
@@ -355,6 +356,10 @@ module _ (f : Form) (o : List ℕ) where
       → n ≡ twoAt o 13 → s ≡ withLast (lastIn f o (t .base) (t .labels)) t → u ≡ counted s → u ≡ tableIn f o
   unfolding counted tableIn rowsRead headRead treesBegin labelsBegin withLast withLabels withTrees withRoutes withNext fresh
   table-whole n at c d t s u ec ea ed et en es eu = rw (eu, es, et, ed, ec, en, ea) refl
+
+  -- whether its trees hold a label for whom they are to, with the counts or without
+  pub table-held : (s : Card) (r : Bool) → counted s ≡ tableIn f o → r ≡ all (holdsRight s) (s .trees) → r ≡ all (holdsRight (tableIn f o)) (tableIn f o .trees)
+  table-held s r e h = h ∙ sym (held-counted s) ∙ ap (λ (x : Card). all (holdsRight x) (x .trees)) e
 
 -- ---- the highest label in use, from the block's end down
 

@@ -6,9 +6,9 @@ ghost use mathlib.Core.Bool.{true};
 ghost use mathlib.Core.List.{List, map};
 ghost use Prim.Native.Nat.{ℕ, _+_, _-_, _<_};
 ghost use lib.ListN.{length, drop, set};
-ghost use Rattle.meaning.specs.Octets.{fourAt};
+ghost use Rattle.meaning.specs.Octets.{all, fourAt};
 ghost use Rattle.meaning.specs.Card.{withTrees, withLabels, withLast, treeAt, labelCount, treeLimit};
-ghost use Rattle.meaning_save.specs.Save.{formOf, lastPlace, useRead, usesRead, allLabelled, sameName, sameRoot, onceEach, tableIn, highestUsed, lastIn};
+ghost use Rattle.meaning_save.specs.Save.{formOf, lastPlace, useRead, usesRead, allLabelled, sameName, sameRoot, onceEach, holdsRight, tableIn, highestUsed, lastIn};
 ghost use Rattle.memory.specs.Sizes.{Numbers, Names};
 ghost use Rattle.memory.specs.Memory.{cardOf, baseIn, treeCount, labelIn, labelBefore};
 ghost use Rattle.save_tags.specs.Tags.{Tagged};
@@ -156,16 +156,24 @@ fn settle(octets: &[u8], second: bool, numbers: &mut [u64])
     memory::set_turn(numbers, v);
 }
 
-// The labels, whose records begin at a place, where no two trees have one name and no two routes one root.
-pub fn read_labels(octets: &[u8], at: usize, second: bool, numbers: &mut [u64], names: &mut [u8])
+// The labels, whose records begin at a place, where no two trees have one name and no two routes one root. Whether each tree then holds a
+// label for whom it is to; where one does not, the table may not be whole.
+pub fn read_labels(
+    octets: &[u8],
+    at: usize,
+    second: bool,
+    numbers: &mut [u64],
+    names: &mut [u8],
+) -> bool
     requires { ⌜ (let c = cardOf (now numbers) (now names) in Numbers (now numbers) × Names (now names) × (at < 65536) × (drop at (now octets) ≡ labelsBegin (formOf second) (now octets))
         × (c ≡ rowsRead (formOf second) (now octets)) × (onceEach sameName (c .trees) ≡ true) × (onceEach sameRoot (c .routes) ≡ true)
         × (second ≡ true → OfBlock (fourAt (now octets) 3) (fourAt (now octets) lastPlace))) ⌝ }
-    ensures { λ _. ⌜ cardOf (now (numbers .exit)) (now (names .exit)) ≡ tableIn (formOf second) (now (octets .entry)) ⌝ }
+    ensures { λ r. ⌜ (let t = tableIn (formOf second) (now (octets .entry)) in
+        (r ≡ all (holdsRight t) (t .trees)) × (r ≡ true → cardOf (now (numbers .exit)) (now (names .exit)) ≡ t)) ⌝ }
 {
     let labels = octets::two_at(octets, 13) as usize;
     read_uses(octets, at, second, labels, numbers, names);
     label_trees(numbers, names);
     settle(octets, second, numbers);
-    save_counts::work_out_all(numbers, names);
+    save_counts::work_out_all(numbers, names)
 }

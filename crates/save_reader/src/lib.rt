@@ -4,8 +4,8 @@ ghost use mathlib.Core.Bool.{true, false};
 ghost use mathlib.Core.List.{List};
 ghost use Prim.Native.Nat.{ℕ, _≤_};
 ghost use lib.ListN.{length};
-ghost use Rattle.meaning.specs.Octets.{same};
-ghost use Rattle.meaning_save.specs.Save.{new, formOf, saved, saveLimit, onceEach, sameName, sameRoot, keepsRules, tableIn, lastRight, rowsRuled, isSave, restore};
+ghost use Rattle.meaning.specs.Octets.{all, same};
+ghost use Rattle.meaning_save.specs.Save.{new, formOf, saved, saveLimit, onceEach, sameName, sameRoot, holdsRight, keepsRules, tableIn, lastRight, rowsRuled, isSave, restore};
 ghost use Rattle.memory.specs.Sizes.{Numbers, Names};
 ghost use Rattle.memory.specs.Memory.{cardOf};
 use meaning::LABEL_COUNT;
@@ -24,10 +24,11 @@ fn is_last_right(numbers: &[u64]) -> bool
     memory_free::free_labels(numbers) == LABEL_COUNT
 }
 
-// Whether the table in the memory, where names and roots stand once, keeps the rules that the form asks for, that of the counts aside: what
-// is read keeps it.
+// Whether the table in the memory, where names and roots stand once and trees hold their labels for whom they are to, keeps the rules that
+// the form asks for, that of the counts aside: what is read keeps it.
 fn is_ruled(numbers: &[u64], names: &[u8], second: bool) -> bool
-    requires { ⌜ (let c = cardOf (now numbers) (now names) in Numbers (now numbers) × Names (now names) × (onceEach sameName (c .trees) ≡ true) × (onceEach sameRoot (c .routes) ≡ true)) ⌝ }
+    requires { ⌜ (let c = cardOf (now numbers) (now names) in Numbers (now numbers) × Names (now names) × (onceEach sameName (c .trees) ≡ true) × (onceEach sameRoot (c .routes) ≡ true)
+        × (all (holdsRight c) (c .trees) ≡ true)) ⌝ }
     ensures { λ r. ⌜ r ≡ rowsRuled (formOf second) (cardOf (now (numbers .entry)) (now (names .entry))) ⌝ }
 {
     if !save_rules::keeps_rules(numbers, names) {

@@ -163,15 +163,15 @@ module _ (ns os : List ℕ) where
   labels-kept = eq-eqb _ 256 (labels-length ns os)
 
   -- what is left to test, with what the code says of each
-  pub kept : (a d f g h k : Bool)
-      → onceEach sameName (cardOf ns os .trees) ≡ true → onceEach sameRoot (cardOf ns os .routes) ≡ true
+  pub kept : (a d f g h : Bool)
+      → onceEach sameName (cardOf ns os .trees) ≡ true → onceEach sameRoot (cardOf ns os .routes) ≡ true → all (holdsRight (cardOf ns os)) (cardOf ns os .trees) ≡ true
       → a ≡ all isRoute (cardOf ns os .routes) → d ≡ all isTree (cardOf ns os .trees) → f ≡ all isUse (cardOf ns os .labels)
       → (all (carriesOwn (cardOf ns os)) (cardOf ns os .trees) ≡ true → g ≡ allCarried (cardOf ns os) (cardOf ns os .base) (cardOf ns os .labels))
-      → h ≡ all (carriesOwn (cardOf ns os)) (cardOf ns os .trees) → k ≡ all (holdsRight (cardOf ns os)) (cardOf ns os .trees)
-      → (a && d && f && g && h && k) ≡ keepsRows (cardOf ns os)
+      → h ≡ all (carriesOwn (cardOf ns os)) (cardOf ns os .trees)
+      → (a && d && f && g && h) ≡ keepsRows (cardOf ns os)
   unfolding keepsRows
-  kept a d f g h k names roots ea ed ef eg eh ek =
-      rw (base-kept, next-kept, routes-kept, trees-kept, labels-kept, names, roots, ea, ed, ef, eh, ek, and-true (all isRoute (cardOf ns os .routes)), and-true (all isRoute (cardOf ns os .routes) && all isTree (cardOf ns os .trees)))
+  kept a d f g h names roots held ea ed ef eg eh =
+      rw (base-kept, next-kept, routes-kept, trees-kept, labels-kept, names, roots, held, ea, ed, ef, eh, and-true (all isRoute (cardOf ns os .routes)), and-true (all isRoute (cardOf ns os .routes) && all isTree (cardOf ns os .trees)), and-true (all isRoute (cardOf ns os .routes) && all isTree (cardOf ns os .trees) && all isUse (cardOf ns os .labels) && allCarried (cardOf ns os) (cardOf ns os .base) (cardOf ns os .labels) && all (carriesOwn (cardOf ns os)) (cardOf ns os .trees)))
       (by-test (all (carriesOwn (cardOf ns os)) (cardOf ns os .trees))
       (λ t. rw (eg t) refl)
       (λ t. rw (t, and-false _, and-false _) refl))

@@ -125,34 +125,13 @@ fn own_labels(numbers: &[u64], names: &[u8]) -> bool
     true
 }
 
-fn holds_right(numbers: &[u64], names: &[u8], i: usize) -> bool
-    requires { ⌜ Numbers (now numbers) × Names (now names) × StandsAt (now numbers) i ⌝ }
-    ensures { λ r. ⌜ (let c = cardOf (now (numbers .entry)) (now (names .entry)) in r ≡ holdsRight c (treeAt i c)) ⌝ }
-{
-    let u = event_holder::upstream_of(numbers, names, memory_trees::tree_name(names, i));
-    memory_trees::held_for(numbers, i) == event_holder::holder(numbers, i, u)
-}
-
-fn held_right(numbers: &[u64], names: &[u8]) -> bool
-    requires { ⌜ Numbers (now numbers) × Names (now names) ⌝ }
-    ensures { λ r. ⌜ (let c = cardOf (now (numbers .entry)) (now (names .entry)) in r ≡ all (holdsRight c) (c .trees)) ⌝ }
-{
-    let n = memory::tree_count(numbers);
-    let mut i = 0;
-    while i < n {
-        if !holds_right(numbers, names, i) {
-            return false;
-        }
-        i += 1;
-    }
-    true
-}
-
 // ---- all of them
 
-// Each is asked: a table that keeps the rules passes them all. That names and roots stand once is known.
+// Each is asked: a table that keeps the rules passes them all. That names and roots stand once, and that trees hold their labels for whom
+// they are to, is known.
 pub fn keeps_rules(numbers: &[u64], names: &[u8]) -> bool
-    requires { ⌜ (let c = cardOf (now numbers) (now names) in Numbers (now numbers) × Names (now names) × (onceEach sameName (c .trees) ≡ true) × (onceEach sameRoot (c .routes) ≡ true)) ⌝ }
+    requires { ⌜ (let c = cardOf (now numbers) (now names) in Numbers (now numbers) × Names (now names) × (onceEach sameName (c .trees) ≡ true) × (onceEach sameRoot (c .routes) ≡ true)
+        × (all (holdsRight c) (c .trees) ≡ true)) ⌝ }
     ensures { λ r. ⌜ r ≡ keepsRows (cardOf (now (numbers .entry)) (now (names .entry))) ⌝ }
 {
     save_rules_rows::routes_good(numbers, names)
@@ -160,5 +139,4 @@ pub fn keeps_rules(numbers: &[u64], names: &[u8]) -> bool
         & uses_good(numbers, names)
         & all_carried(numbers)
         & own_labels(numbers, names)
-        & held_right(numbers, names)
 }

@@ -1,5 +1,6 @@
--- `save_decoder::decode` meets its contract: what the head cannot say, and a name or a root that stands twice, are no save. Assumes nothing.
-use Rattle.save_decoder.proofs.Head.{names-not, roots-not, read-once}
+-- `save_decoder::decode` meets its contract: what the head cannot say, a name or a root that stands twice, and a tree that
+-- holds no label for whom it is to, are no save. Assumes nothing.
+use Rattle.save_decoder.proofs.Head.{names-not, roots-not, held-not, read-once}
 use borrow.Author.Tests.{not-true, not-false}
 use mathlib.Core.Path.{sym, _∙_}
 use borrow.Author.Needs.{needs}
@@ -91,7 +92,8 @@ returns-5 c =
     let the-if4 = c .before .before .before .before .before .before .before .if4 in
     let the-read-labels = c .before .before .before .before .read-labels in
     let once = read-once _ _ _ (the-read-rows .ensures .0) (sym (the-names-once .ensures) ∙ not-false _ (the-if3 .left)) (sym (the-roots-once .ensures) ∙ not-false _ (the-if4 .left)) in
-    ((λ _. (the-read-labels .ensures, once .0, once .1)), (λ t. absurd (never (sym t))))
+    let held = the-read-labels .ensures in
+    ((λ t. (held .1 t, once .0, once .1, sym (held .0) ∙ t)), (λ t. held-not _ _ (sym (held .0) ∙ t)))
 
 pub decode-spec : {M : Type 1} → statement M
 decode-spec =

@@ -1,8 +1,8 @@
 -- `save_labels::read_labels` meets its contract: the labels, then the label of each tree, then the last one given. Assumes nothing.
-use Rattle.save_labels.proofs.Labels.{rows-unlabelled, rows-uncounted, unlabelled-kept, once-kept, base-kept, block-kept, table-whole}
+use Rattle.save_labels.proofs.Labels.{rows-unlabelled, rows-uncounted, unlabelled-kept, once-kept, base-kept, block-kept, table-whole, table-held}
 use Rattle.memory.specs.Memory.{cardOf}
 use Rattle.meaning.specs.Card.{Card}
-use mathlib.Core.Path.{_∙_}
+use mathlib.Core.Path.{refl, _∙_}
 use native.Mathlib.Omega.{arith}
 use borrow.Author.Needs.{needs}
 use Rattle.save_labels.proofs.read_labels.Statement.{statement}
@@ -51,10 +51,12 @@ returns : tie.Need-returns
 returns c =
     let w = c .before .before .before .before .before in
     let s = w .before .before .before .before .before .before .before .before .before .before .before .before .before .before .before .before .before .before .before .before in
-    let the-labels = w .before .before .before .before .before .before .before .before .before .before .before .before .before .before .before .before .two-at in
     let the-read-uses = w .before .before .before .before .before .before .before .before .before .before .before .before .before .read-uses in
     let the-label-trees = w .before .before .before .before .before .before .label-trees in
-    table-whole _ (s .args .octets .now) _ (s .args .at) _ _ _ _ _ (s .pre .4) (s .pre .3) (the-read-uses .ensures) (the-label-trees .ensures) (the-labels .ensures .0) (w .before .before .settle .ensures _) (c .before .before .work-out-all .ensures)
+    let the-two-at = w .before .before .before .before .before .before .before .before .before .before .before .before .before .before .before .before .two-at in
+    let worked = c .before .before .work-out-all .ensures in
+    let whole = table-whole _ (s .args .octets .now) _ (s .args .at) _ _ _ _ _ (s .pre .4) (s .pre .3) (the-read-uses .ensures) (the-label-trees .ensures) (the-two-at .ensures .0) (w .before .before .settle .ensures _) refl in
+    (table-held _ (s .args .octets .now) _ _ whole (worked .0), (λ t. worked .1 t ∙ whole))
 
 pub read-labels-spec : {M : Type 1} → statement M
 read-labels-spec =

@@ -24,7 +24,7 @@ is-ruled-requires : tie.Need-is-ruled-requires
 is-ruled-requires c κs =
     let the-decode = c .before .before .before .before .before .before .before .decode in
     let d = the-decode .ensures .0 (not-false _ (c .before .before .if1 .left)) in
-    (search needs, search needs, rw (d .0) (d .1), rw (d .0) (d .2))
+    (search needs, search needs, rw (d .0) (d .1), rw (d .0) (d .2), rw (d .0) (d .3))
 
 same-length-3 : tie.Need-same-length-3
 same-length-3 c = search needs

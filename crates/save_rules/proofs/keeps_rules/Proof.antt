@@ -19,23 +19,19 @@ all-carried-requires c κs = search needs
 own-labels-requires : tie.Need-own-labels-requires
 own-labels-requires c κs = search needs
 
-held-right-requires : tie.Need-held-right-requires
-held-right-requires c κs = search needs
-
 returns : tie.Need-returns
 returns c =
-    let the-trees-good = c .before .before .before .before .trees-good in
-    let r = c .before .before .before .before .before in
+    let r = c .before .before .before .before in
     let s = r .before .before .before in
-    kept _ (s .args .names .now) _ _ _ _ _ _
+    kept _ (s .args .names .now) _ _ _ _ _
     (s .pre .2)
     (s .pre .3)
+    (s .pre .4)
     (r .routes-good .ensures)
-    (the-trees-good .ensures)
-    (c .before .before .before .uses-good .ensures)
-    (c .before .before .all-carried .ensures _ (s .pre .2))
-    (c .before .own-labels .ensures)
-    (c .held-right .ensures)
+    (c .before .before .before .trees-good .ensures)
+    (c .before .before .uses-good .ensures)
+    (c .before .all-carried .ensures _ (s .pre .2))
+    (c .own-labels .ensures)
 
 pub keeps-rules-spec : {M : Type 1} → statement M
 keeps-rules-spec =
@@ -46,5 +42,4 @@ keeps-rules-spec =
     uses-good-requires
     all-carried-requires
     own-labels-requires
-    held-right-requires
     returns)
