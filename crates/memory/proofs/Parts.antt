@@ -5,7 +5,7 @@ use native.Mathlib.Omega.{arith}
 use mathlib.Core.Path.{_≡_, refl, sym, ap, _∙_}
 use mathlib.Core.List.{List, _∷_}
 use lib.ListN.{length, take, drop, getD, set, replicate, length-set, length-drop, length-replicate}
-use lib.Seq.{getD-set-same, getD-set-other, length-take-le}
+use lib.Seq.{getD-set-same, getD-set-other, getD-take, length-take-le}
 use lib.Dec.{ltb}
 use borrow.Author.Tests.{ltb-true, ltb-false}
 use mathlib.Core.Bool.{true, false}
@@ -15,7 +15,7 @@ use Rattle.octets.specs.Part.{mid, shifted}
 use Rattle.octets.proofs.Parts.{mid-length, mid-in, mid-before, mid-after, moved-length, moved-in, shifted-length}
 use Rattle.octets.proofs.Same.{same-at}
 use Rattle.octets.proofs.Tab.{tab-length, tab-get, tab-ext, tab-is}
-use Rattle.memory.specs.Memory.{upTo, textAt}
+use Rattle.memory.specs.Memory.{upTo, textAt, Placed}
 use Rattle.memory.proofs.Memory.{upTo-le, upTo-in}
 use Rattle.memory.specs.Parts.{Written, Closed}
 
@@ -109,6 +109,35 @@ text-put k at o os os' h w =
     rw (z, upTo-in k (length o) h) (sym (tab-is o (length o) _ 0 refl (λ j lt.
     let x : at + suc j ≡ at + 1 + j = omega arith in
     sym (w .here (suc j) (omega arith)) ∙ ap (λ (n : ℕ). getD os' n 0) x)))
+
+-- and so it stands in its space
+pub placed : (k at : ℕ) (o os os' : List ℕ) → length o ≤ k → Written at (length o ∷ o) os os' → Placed k at o os os'
+placed k at o os os' h w = record { reads = text-put k at o os os' h w; rest = λ j out. w .rest j (λ x y. out x (omega arith)) }
+
+-- a text that was laid in its space, and its length then put before it
+pub text-laid : (k at q n : ℕ) (o os qs : List ℕ) → at + 1 + k ≤ length os → q ≡ k → length qs ≡ k → n ≤ k → take n qs ≡ o → Placed k at o os (set (mid (at + 1) q os qs) at n)
+text-laid k at q n o os qs h hq lq hn ho = record {
+  reads = unfold textAt in rw (first, upTo-in k n hn) (sym (tab-is o n _ 0 long octet));
+  rest = λ j out. getD-set-other ls at j n 0 (λ e. out (omega arith) (omega arith)) ∙ mid-out (at + 1) q os qs j (omega arith) (omega arith) (λ x y. out (omega arith) (omega arith));
+}
+  where
+    ls : List ℕ
+    ls = mid (at + 1) q os qs
+
+    l' : length ls ≡ length os
+    l' = mid-length (at + 1) q os qs (omega arith) (omega arith)
+
+    first : getD (set ls at n) at 0 ≡ n
+    first = getD-set-same ls at n 0 (omega (arith, l'))
+
+    long : length o ≡ n
+    long = ap length (sym ho) ∙ length-take-le n qs (omega arith)
+
+    octet : (j : ℕ) → j < n → getD o j 0 ≡ getD (set ls at n) (at + 1 + j) 0
+    octet j lt =
+        ap (λ (l : List ℕ). getD l j 0) (sym ho)
+        ∙ getD-take n qs j 0 lt
+        ∙ sym (getD-set-other ls at (at + 1 + j) n 0 (λ e. omega arith) ∙ mid-in (at + 1) q os qs 0 j (omega arith) (omega arith))
 
 -- where the text is s, its octets stand behind its length
 text-octet : (k at j : ℕ) (os s : List ℕ) → textAt k os at ≡ s → j < length s → getD os (at + 1 + j) 0 ≡ getD s j 0

@@ -22,6 +22,11 @@ upTo k n = pick (ltb n k) n k
 unfoldable pub textAt : ℕ → List ℕ → ℕ → List ℕ
 textAt k os p = tab (upTo k (getD os p 0)) (λ j. getD os (p + 1 + j) 0)
 
+-- the text o stands in the space at place a, which has room for its length and k octets; all outside that space is as it was
+pub record Placed (k a : ℕ) (o xs ys : List ℕ) : Type 0 where
+  pub reads : textAt k ys a ≡ o
+  pub rest : (j : ℕ) → (a ≤ j → j < a + 1 + k → ⊥) → getD ys j 0 ≡ getD xs j 0
+
 unfoldable pub treeName : List ℕ → ℕ → List ℕ
 treeName os i = textAt nameLimit os (i * nameSpace)
 

@@ -3,7 +3,7 @@ use Prim.Native.Nat.{ℕ, _+_, _*_, _-_, _≤_, _<_}
 use native.Mathlib.Omega.{arith}
 use mathlib.Core.Path.{_≡_, refl, sym, ap, _∙_}
 use mathlib.Core.Bool.{Bool, true, false}
-use mathlib.Core.List.{List, _∷_}
+use mathlib.Core.List.{List}
 use lib.ListN.{length, take, drop, getD, set, length-set, length-drop}
 use lib.Seq.{getD-set-same, getD-set-other, getD-take, getD-drop, length-take-le}
 use lib.Dec.{eqb}
@@ -17,10 +17,10 @@ use Rattle.octets.specs.Part.{mid}
 use Rattle.octets.proofs.Tab.{tab-ext, tab-set}
 use Rattle.memory.specs.Sizes.{nameSpace, ownColumn, markColumn, wordColumn, wordCount, nowhere, rootOctets, labelNames, rootNames, Numbers, Names}
 use Rattle.memory.specs.Parts.{Written}
-use Rattle.memory.specs.Memory.{treeName, labelName, baseIn, treeCount, isFreeAt, markAt, markUse, markPlace, isMappedAt, labelIn, carriesAt, ownPlace, ownLabel, treeIn, cardOf, Relabelled}
+use Rattle.memory.specs.Memory.{Placed, treeName, labelName, baseIn, treeCount, isFreeAt, markAt, markUse, markPlace, isMappedAt, labelIn, carriesAt, ownPlace, ownLabel, treeIn, cardOf, Relabelled}
 use Rattle.memory.proofs.Memory.{treeCount-le, base-same, free-same, own-same, tree-with, tree-same, label-same, but-rows, but-trees, agree-refl, agree-set, tree-at}
 use Rattle.memory.proofs.Marks.{mapped-at, mapped-use, unmapped-free, label-mapped, label-awaiting, carried-in, not-mapped, not-named, own-some, use-kept, relabelled-again, remarked, remarked-free, own-beside}
-use Rattle.memory.proofs.Parts.{written, Carries, text-brought, text-put}
+use Rattle.memory.proofs.Parts.{written, Carries, text-brought}
 use Rattle.memory.proofs.Trees.{label-at}
 
 -- ---- a label mapped
@@ -136,7 +136,7 @@ not-own ns os p j lt ne e =
     (λ t. absurd (ne (label-at ns os j lt ∙ rw e (own-some ns j p t))))
     (λ t. t)
 
-module _ (ns ks os qs a : List ℕ) (p n v : ℕ) (m : Bool) (hp : p < labelCount) (hn : n < neighbourCount) (ha : length a ≤ nameLimit) (w : Written (labelNames + p * nameSpace) (length a ∷ a) os qs)
+module _ (ns ks os qs a : List ℕ) (p n v : ℕ) (m : Bool) (hp : p < labelCount) (hn : n < neighbourCount) (w : Placed nameLimit (labelNames + p * nameSpace) a os qs)
     (taken : Relabelled p ns ks) (not-free : isFreeAt ks p ≡ false) where
   used : (ms : List ℕ) → isFreeAt ms p ≡ false → markUse (markAt ms p) ≡ pick m n (n + 16) → labelIn ms qs p ≡ pick m (mapped n a) (awaiting n a)
   unfolding labelName
@@ -144,11 +144,11 @@ module _ (ns ks os qs a : List ℕ) (p n v : ℕ) (m : Bool) (hp : p < labelCoun
       by-test m
       (λ t.
       let u : markUse (markAt ms p) ≡ n = e ∙ rw t refl in
-      rw (t, label-mapped ms p qs f (omega arith), u, text-put nameLimit (labelNames + p * nameSpace) a os qs ha w) refl)
+      rw (t, label-mapped ms p qs f (omega arith), u, w .reads) refl)
       (λ t.
       let u : markUse (markAt ms p) ≡ n + 16 = e ∙ rw t refl in
       let back : markUse (markAt ms p) - 16 ≡ n = omega arith in
-      rw (t, label-awaiting ms p qs f (omega arith), back, text-put nameLimit (labelNames + p * nameSpace) a os qs ha w) refl)
+      rw (t, label-awaiting ms p qs f (omega arith), back, w .reads) refl)
 
   pub enter-use : Numbers ns → ((j : ℕ) → j < treeCount ns → treeAt j (cardOf ns os) .label ≡ baseIn ns + p → ⊥) → v ≡ pick m n (n + 16)
       → cardOf (set ks (markColumn + p) (v + nowhere)) qs ≡ withLabels (set (cardOf ns os .labels) p (pick m (mapped n a) (awaiting n a))) (cardOf ns os)

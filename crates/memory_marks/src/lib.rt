@@ -2,14 +2,14 @@
 ghost use mathlib.Core.Path.{_≡_};
 ghost use mathlib.Core.Bool.{true};
 ghost use mathlib.Core.List.{List};
-ghost use Prim.Native.Nat.{ℕ, _+_, _*_, _-_, _≤_, _<_};
-ghost use lib.ListN.{length, set};
+ghost use Prim.Native.Nat.{ℕ, _+_, _*_, _-_, _<_};
+ghost use lib.ListN.{set};
 ghost use Rattle.meaning.specs.Octets.{pick};
 ghost use Rattle.meaning.specs.Wire.{nameLimit};
 ghost use Rattle.meaning.specs.Card.{withLabels, treeAt, mapped, awaiting, labelCount, neighbourCount};
 ghost use Rattle.meaning.specs.Events.{setUse, setLabel};
-ghost use Rattle.memory.specs.Sizes.{Numbers, Names};
-ghost use Rattle.memory.specs.Memory.{cardOf, baseIn, treeCount, isFreeAt, isMappedAt, StandsAt};
+ghost use Rattle.memory.specs.Sizes.{nameSpace, labelNames, Numbers, Names};
+ghost use Rattle.memory.specs.Memory.{Placed, cardOf, baseIn, treeCount, isFreeAt, isMappedAt, StandsAt};
 use memory::LABEL_NAMES;
 use memory::MARK_COLUMN;
 use memory::NAME_SPACE;
@@ -38,22 +38,14 @@ fn use_of(held: bool, n: u64) -> u64
     if held { n } else { n + NEIGHBOURS }
 }
 
-// The label at that place of the block, which no tree carries, is from now on mapped to neighbour n for that name, or awaits release
-// from n. Its mark names place 64, where no tree stands.
-pub fn enter_use(
-    numbers: &mut [u64],
-    names: &mut [u8],
-    place: usize,
-    held: bool,
-    n: u64,
-    name: &[u8],
-)
-    requires { ⌜ Numbers (now numbers) × Names (now names) × (place < labelCount) × (n < neighbourCount) × (length (now name) ≤ nameLimit)
-        × ((j : ℕ) → j < treeCount (now numbers) → treeAt j (cardOf (now numbers) (now names)) .label ≡ baseIn (now numbers) + place → ⊥) ⌝ }
-    ensures { λ _. ⌜ (let c = cardOf (now (numbers .entry)) (now (names .entry)) in cardOf (now (numbers .exit)) (now (names .exit))
-        ≡ withLabels (set (c .labels) place (pick held (mapped n (now (name .entry))) (awaiting n (now (name .entry))))) c) ⌝ }
+// The label at that place of the block, which no tree carries, is from now on mapped to neighbour n for the name that stands in its space
+// already, or awaits release from n. Its mark names place 64, where no tree stands.
+pub fn enter_use(numbers: &mut [u64], place: usize, held: bool, n: u64)
+    requires { ⌜ Numbers (now numbers) × (place < labelCount) × (n < neighbourCount) ⌝ }
+    ensures { λ _. ⌜ ((os qs name : List ℕ) → Placed nameLimit (labelNames + place * nameSpace) name os qs → (let c = cardOf (now (numbers .entry)) os in
+        ((j : ℕ) → j < treeCount (now (numbers .entry)) → treeAt j c .label ≡ baseIn (now (numbers .entry)) + place → ⊥)
+        → cardOf (now (numbers .exit)) qs ≡ withLabels (set (c .labels) place (pick held (mapped n name) (awaiting n name))) c)) ⌝ }
 {
-    memory::set_text(names, LABEL_NAMES + place * NAME_SPACE, name);
     memory_free::set_taken(numbers, place);
     numbers[MARK_COLUMN + place] = use_of(held, n) + NOWHERE;
 }

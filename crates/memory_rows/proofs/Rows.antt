@@ -16,10 +16,10 @@ use Rattle.octets.proofs.Tab.{tab-ext, tab-snoc, tab-cut}
 use Rattle.memory.proofs.Labels.{word-free}
 use Rattle.memory.specs.Sizes.{nameSpace, ownColumn, rowWidth, rowColumn, branchColumn, markColumn, wordColumn, wordCount, Numbers, noLabel, turnPlace}
 use Rattle.memory.specs.Parts.{Written, Closed}
-use Rattle.memory.specs.Memory.{upTo, textAt, treeName, baseIn, nextIn, routeCount, treeCount, routeIn, wordAt, isFreeAt, labelIn, ownPlace, ownLabel, treeIn, cardOf, turnIn, lastIn, labelBefore}
+use Rattle.memory.specs.Memory.{upTo, textAt, Placed, treeName, baseIn, nextIn, routeCount, treeCount, routeIn, wordAt, isFreeAt, labelIn, ownPlace, ownLabel, treeIn, cardOf, turnIn, lastIn, labelBefore}
 use Rattle.memory.proofs.Memory.{upTo-le, upTo-in, free-same, own-same, own-kept, tree-same, label-same, but-trees}
 use Rattle.memory.proofs.Marks.{label-free, not-far, own-none}
-use Rattle.memory.proofs.Parts.{Carries, lower, text-put}
+use Rattle.memory.proofs.Parts.{Carries, lower}
 use Rattle.memory_rows.specs.Lower.{Lowered, NamesLowered}
 use Rattle.memory.proofs.Head.{base-in}
 
@@ -180,21 +180,21 @@ remove-tree ns ks ls rs os qs i n hl hn hi lo cl cr cn =
 
 -- ---- a row comes
 
-new-tree : (ns os qs o : List ℕ) (n : ℕ) → length o ≤ nameLimit → getD ns (ownColumn + n) 0 ≡ noLabel → ((j : ℕ) → j < rowWidth → getD ns (rowColumn + n * rowWidth + j) 0 ≡ 0) → Written (n * nameSpace) (length o ∷ o) os qs → treeIn ns qs n ≡ bare o
+new-tree : (ns os qs o : List ℕ) (n : ℕ) → getD ns (ownColumn + n) 0 ≡ noLabel → ((j : ℕ) → j < rowWidth → getD ns (rowColumn + n * rowWidth + j) 0 ≡ 0) → Placed nameLimit (n * nameSpace) o os qs → treeIn ns qs n ≡ bare o
 unfolding treeIn treeName bare
-new-tree ns os qs o n h l r w =
+new-tree ns os qs o n l r w =
     let label : ownLabel ns n (getD ns (ownColumn + n) 0) ≡ 0 = own-none ns n (getD ns (ownColumn + n) 0) (not-far ns n (getD ns (ownColumn + n) 0) (omega arith)) in
-    let name : textAt nameLimit qs (n * nameSpace) ≡ o = text-put nameLimit (n * nameSpace) o os qs h w in
+    let name : textAt nameLimit qs (n * nameSpace) ≡ o = w .reads in
     let branches : tab 16 (λ k. getD ns (branchColumn + n * rowWidth + k) 0) ≡ replicate 16 0 =
     tab-replicate 16 _ 0 (λ k lt. let x : branchColumn + n * rowWidth + k ≡ rowColumn + n * rowWidth + (1 + k) = omega arith in ap (λ (m : ℕ). getD ns m 0) x ∙ r (1 + k) (omega arith)) in
     let leaf : getD ns (rowColumn + n * rowWidth) 0 ≡ 0 = simp add-zero at (r 0 (omega arith)) in
     cc
 
-pub enter-tree : (ns zs os qs o : List ℕ) (n : ℕ) → Numbers ns → n ≡ treeCount ns → n < treeLimit → length o ≤ nameLimit
-    → Written (rowColumn + n * rowWidth) (replicate rowWidth 0) ns zs → Written (n * nameSpace) (length o ∷ o) os qs
+pub enter-tree : (ns zs os qs o : List ℕ) (n : ℕ) → Numbers ns → n ≡ treeCount ns → n < treeLimit
+    → Written (rowColumn + n * rowWidth) (replicate rowWidth 0) ns zs → Placed nameLimit (n * nameSpace) o os qs
     → cardOf (set (set zs (ownColumn + n) noLabel) 3 (n + 1)) qs ≡ withTrees (cardOf ns os .trees ++ (bare o ∷ [])) (cardOf ns os)
 unfolding treeCount cardOf
-enter-tree ns zs os qs o n hl hn h64 ho wr wn =
+enter-tree ns zs os qs o n hl hn h64 wr wn =
     but-trees ns ms os qs _
     (λ j x y. keep j (λ e. omega arith) (λ e. omega arith) (λ u v. omega arith))
     (λ j x y. keep j (λ e. omega arith) (λ e. omega arith) (λ u v. omega arith))
@@ -226,7 +226,7 @@ enter-tree ns zs os qs o n hl hn h64 ho wr wn =
 
     new : treeIn ms qs n ≡ bare o
     new =
-        new-tree ms os qs o n ho
+        new-tree ms os qs o n
         (getD-set-other (set zs (ownColumn + n) noLabel) 3 (ownColumn + n) (n + 1) 0 (λ e. omega arith) ∙ getD-set-same zs (ownColumn + n) noLabel 0 (omega (arith, wr .long)))
         (λ j lt. getD-set-other (set zs (ownColumn + n) noLabel) 3 (rowColumn + n * rowWidth + j) (n + 1) 0 (λ e. omega arith) ∙ getD-set-other zs (ownColumn + n) (rowColumn + n * rowWidth + j) noLabel 0 (λ e. omega arith) ∙ wr .here j lt ∙ getD-all rowWidth j 0)
         wn

@@ -1,13 +1,13 @@
 // Trees that come and go in the card's memory, and the fresh card.
 ghost use mathlib.Core.Path.{_≡_};
 ghost use mathlib.Core.List.{List, [], _∷_, _++_};
-ghost use Prim.Native.Nat.{ℕ, _+_, _-_, _≤_, _<_};
+ghost use Prim.Native.Nat.{ℕ, _+_, _*_, _-_, _≤_, _<_};
 ghost use lib.ListN.{length};
 ghost use Rattle.meaning.specs.Octets.{cut};
 ghost use Rattle.meaning.specs.Wire.{nameLimit, leastLabel};
 ghost use Rattle.meaning.specs.Card.{fresh, withTrees, bare, treeLimit, mostBase};
-ghost use Rattle.memory.specs.Sizes.{Numbers, Names};
-ghost use Rattle.memory.specs.Memory.{cardOf, treeCount, StandsAt};
+ghost use Rattle.memory.specs.Sizes.{nameSpace, Numbers, Names};
+ghost use Rattle.memory.specs.Memory.{Placed, cardOf, treeCount, StandsAt};
 ghost use Rattle.memory_rows.specs.Lower.{Lowered, LoweredOne, NamesLowered};
 use memory::FOURTH_WORD;
 use memory::MARK_COLUMN;
@@ -22,17 +22,26 @@ use memory::WORD_COLUMN;
 
 // ---- trees
 
-// A tree comes, with neither branch nor leaf nor label: the newest.
+// The row of a tree comes, with neither branch nor leaf nor label: the newest, whose name stands in its space already.
+pub fn enter_row(numbers: &mut [u64], n: usize)
+    requires { ⌜ Numbers (now numbers) × (n ≡ treeCount (now numbers)) × (n < treeLimit) ⌝ }
+    ensures { λ _. ⌜ ((os qs name : List ℕ) → Placed nameLimit (n * nameSpace) name os qs → (let c = cardOf (now (numbers .entry)) os in
+        cardOf (now (numbers .exit)) qs ≡ withTrees (c .trees ++ (bare name ∷ [])) c)) ⌝ }
+{
+    memory::clear(numbers, ROW_COLUMN + n * ROW_WIDTH, ROW_WIDTH);
+    numbers[OWN_COLUMN + n] = NO_LABEL;
+    numbers[3] = (n + 1) as u64;
+}
+
+// A tree comes with its name.
 pub fn enter_tree(numbers: &mut [u64], names: &mut [u8], name: &[u8])
     requires { ⌜ Numbers (now numbers) × Names (now names) × (treeCount (now numbers) < treeLimit) × (length (now name) ≤ nameLimit) ⌝ }
     ensures { λ _. ⌜ (let c = cardOf (now (numbers .entry)) (now (names .entry)) in cardOf (now (numbers .exit)) (now (names .exit))
         ≡ withTrees (c .trees ++ (bare (now (name .entry)) ∷ [])) c) ⌝ }
 {
     let n = memory::tree_count(numbers);
-    memory::clear(numbers, ROW_COLUMN + n * ROW_WIDTH, ROW_WIDTH);
     memory::set_text(names, n * NAME_SPACE, name);
-    numbers[OWN_COLUMN + n] = NO_LABEL;
-    numbers[3] = (n + 1) as u64;
+    enter_row(numbers, n);
 }
 
 // The tree at place j + 1 is to stand at place j: the mark of its label names that place. Where it does not carry the label that

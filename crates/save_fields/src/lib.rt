@@ -7,7 +7,7 @@ ghost use Rattle.meaning.specs.Octets.{pick, two, fourAt};
 ghost use Rattle.meaning.specs.Wire.{nameLimit, rootLimit};
 ghost use lib.Dec.{eqb};
 ghost use Rattle.meaning_save.specs.Save.{old, new, formOf, spacedIn, nameIn, extent, savedOpaque};
-ghost use Rattle.memory.specs.Memory.{upTo};
+ghost use Rattle.memory.specs.Memory.{upTo, Placed};
 use meaning::NAME_LIMIT;
 use meaning::ROOT_LIMIT;
 use meaning::SAVED_OPAQUE;
@@ -98,7 +98,7 @@ fn read_whole(octets: &[u8], at: usize, out: &mut [u8]) -> usize
 }
 
 // The name at a place, at the front of a buffer; its length.
-pub fn read_name(octets: &[u8], at: usize, second: bool, out: &mut [u8]) -> usize
+fn read_name(octets: &[u8], at: usize, second: bool, out: &mut [u8]) -> usize
     requires { ⌜ (length (now out) ≡ nameLimit) × (at < 1073741824) ⌝ }
     ensures { λ r. ⌜ (take r (now (out .exit)) ≡ nameIn (formOf second) (drop at (now (octets .entry)))) × (r ≤ nameLimit) ⌝ }
 {
@@ -106,6 +106,17 @@ pub fn read_name(octets: &[u8], at: usize, second: bool, out: &mut [u8]) -> usiz
         return read_whole(octets, at, out);
     }
     read_spaces(octets, at, out)
+}
+
+// The name at a place, into its space at place a of the card's memory.
+pub fn lay_name(octets: &[u8], at: usize, second: bool, names: &mut [u8], a: usize)
+    requires { ⌜ (a + 1 + nameLimit ≤ length (now names)) × (at < 1073741824) ⌝ }
+    ensures { λ _. ⌜ Placed nameLimit a (nameIn (formOf second) (drop at (now (octets .entry)))) (now (names .entry)) (now (names .exit)) ⌝ }
+{
+    let f = a + 1;
+    let e = f + NAME_LIMIT;
+    let n = read_name(octets, at, second, &mut names[f..e]);
+    names[a] = n as u8;
 }
 
 // How many octets the name at a place takes.

@@ -16,10 +16,11 @@ ghost use Rattle.save_rows.specs.Stages.{rowsRead, labelsBegin};
 ghost use Rattle.save_labels.specs.Labels.{Unlabelled, given, OfBlock};
 use meaning::LABEL_COUNT;
 use meaning::LAST_PLACE;
-use meaning::NAME_LIMIT;
 use meaning::TREE_LIMIT;
 use meaning::USE_BESIDE;
+use memory::LABEL_NAMES;
 use memory::LABELS;
+use memory::NAME_SPACE;
 use memory::NEIGHBOURS;
 use memory::NOBODY;
 
@@ -41,11 +42,17 @@ fn read_use(octets: &[u8], at: usize, second: bool, numbers: &mut [u64], names: 
     if LABELS <= p {
         return;
     }
-    let mut name = [0u8; NAME_LIMIT];
-    let n = save_fields::read_name(octets, at + 9, second, &mut name);
+    let place = p as usize;
+    save_fields::lay_name(
+        octets,
+        at + 9,
+        second,
+        names,
+        LABEL_NAMES + place * NAME_SPACE,
+    );
     let held = octets::at(octets, at + 7) == 1;
     let neighbour = octets::at(octets, at + 8) % NEIGHBOURS;
-    memory_marks::enter_use(numbers, names, p as usize, held, neighbour, &name[0..n]);
+    memory_marks::enter_use(numbers, place, held, neighbour);
 }
 
 fn read_uses(

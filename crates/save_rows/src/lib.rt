@@ -10,11 +10,11 @@ ghost use Rattle.memory.specs.Sizes.{Numbers, Names};
 ghost use Rattle.memory.specs.Memory.{cardOf, treeCount, routeCount, StandsAt};
 ghost use Rattle.save_rows.specs.Stages.{withBranches, rowsRead, labelsBegin};
 ghost use Rattle.meaning.specs.Wire.{leastLabel};
-use meaning::NAME_LIMIT;
 use meaning::NEIGHBOUR_COUNT;
 use meaning::ROOT_LIMIT;
 use meaning::ROUTE_SIZE;
 use meaning::TREE_BESIDE;
+use memory::NAME_SPACE;
 
 // ---- routes
 
@@ -59,9 +59,9 @@ fn enter_name(octets: &[u8], at: usize, second: bool, numbers: &mut [u64], names
     ensures { λ _. ⌜ (let c = cardOf (now (numbers .entry)) (now (names .entry)) in
         cardOf (now (numbers .exit)) (now (names .exit)) ≡ withTrees (c .trees ++ (bare (nameIn (formOf second) (drop at (now (octets .entry)))) ∷ [])) c) ⌝ }
 {
-    let mut name = [0u8; NAME_LIMIT];
-    let n = save_fields::read_name(octets, at, second, &mut name);
-    memory_rows::enter_tree(numbers, names, &name[0..n]);
+    let n = memory::tree_count(numbers);
+    save_fields::lay_name(octets, at, second, names, n * NAME_SPACE);
+    memory_rows::enter_row(numbers, n);
 }
 
 // The tree at a place, whose name takes e octets.

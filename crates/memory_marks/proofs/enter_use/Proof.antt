@@ -4,15 +4,6 @@ use borrow.Author.Needs.{needs}
 use Rattle.memory_marks.proofs.enter_use.Statement.{statement}
 use Rattle.memory_marks.proofs.enter_use.Tie as tie
 
-mul-set-text : tie.Need-mul-set-text
-mul-set-text c = search needs
-
-add-set-text : tie.Need-add-set-text
-add-set-text c = search needs
-
-set-text-requires : tie.Need-set-text-requires
-set-text-requires c κs = search needs
-
 set-taken-requires : tie.Need-set-taken-requires
 set-taken-requires c κs = search needs
 
@@ -34,23 +25,16 @@ slice-write-numbers c = search needs
 same-length : tie.Need-same-length
 same-length c = search needs
 
-same-length-2 : tie.Need-same-length-2
-same-length-2 c = search needs
-
 returns : tie.Need-returns
-returns c =
-    let the-set-text = c .before .before .before .before .before .before .before .set-text in
-    let s = c .before .before .before .before .before .before .before .before .before .before .before .before in
+returns c os qs name at-place none-carries =
+    let start = c .before .before .before .before .before .before in
     let t = c .before .before .before .set-taken .ensures in
-    enter-use (s .args .numbers .now) _ (s .args .names .now) _ (s .args .name .now) (s .args .place) (s .args .n) _ (s .args .held) (s .pre .2) (s .pre .3) (s .pre .4) (the-set-text .ensures) (t .0) (t .1) (s .pre .0) (s .pre .5) (c .use-of .ensures .0)
+    enter-use (start .args .numbers .now) _ os qs name (start .args .place) (start .args .n) _ (start .args .held) (start .pre .1) (start .pre .2) at-place (t .0) (t .1) (start .pre .0) none-carries (c .use-of .ensures .0)
 
 pub enter-use-spec : {M : Type 1} → statement M
 enter-use-spec =
     tie.close
     (tie.spec
-    mul-set-text
-    add-set-text
-    set-text-requires
     set-taken-requires
     use-of-requires
     add-numbers
@@ -58,5 +42,4 @@ enter-use-spec =
     mul-numbers
     slice-write-numbers
     same-length
-    same-length-2
     returns)

@@ -1,9 +1,8 @@
-use Prim.Native.Nat.{_-_, _%_}
-use native.Mathlib.Omega.{arith}
-use mathlib.Core.Path.{_≡_, ap}
+use Prim.Native.Nat.{_%_}
+use mathlib.Core.Path.{refl, ap}
 use lib.Dec.{eqb}
-use borrow.Author.Needs.{needs}
 use Rattle.save_labels.proofs.Labels.{use-out, use-put, none-carries}
+use borrow.Author.Needs.{needs}
 use Rattle.save_labels.proofs.read_use.Statement.{statement}
 use Rattle.save_labels.proofs.read_use.Tie as tie
 
@@ -28,14 +27,17 @@ returns c =
     let s = c .before .before .before .before .before .before .before .before in
     use-out (s .args .numbers .now) (s .args .names .now) (s .args .octets .now) (s .args .at) _ _ _ (c .before .place-of .ensures) (the-four-at .ensures .0) (c .before .before .base .ensures .0) _ (c .if1 .taken)
 
-add-read-name : tie.Need-add-read-name
-add-read-name c = search needs
+add-lay-name : tie.Need-add-lay-name
+add-lay-name c = search needs
 
-slice-aggregate-read-name : tie.Need-slice-aggregate-read-name
-slice-aggregate-read-name c = search needs
+mul-lay-name : tie.Need-mul-lay-name
+mul-lay-name c = search needs
 
-read-name-requires : tie.Need-read-name-requires
-read-name-requires c κs = search needs
+add-lay-name-2 : tie.Need-add-lay-name-2
+add-lay-name-2 c = search needs
+
+lay-name-requires : tie.Need-lay-name-requires
+lay-name-requires c κs = search needs
 
 add-at : tie.Need-add-at
 add-at c = search needs
@@ -49,20 +51,8 @@ add-at-2 c = search needs
 at-requires-2 : tie.Need-at-requires-2
 at-requires-2 c κs = search needs
 
-sub-enter-use : tie.Need-sub-enter-use
-sub-enter-use c = search needs
-
-part-enter-use-start : tie.Need-part-enter-use-start
-part-enter-use-start c = search needs
-
-part-enter-use-end : tie.Need-part-enter-use-end
-part-enter-use-end c = search needs
-
 enter-use-requires : tie.Need-enter-use-requires
-enter-use-requires c κs =
-    let at-read-name = c .before .before .before .before .before .before .before in
-    let s = at-read-name .before .before .before .before .before .before .before .before .before .before in
-    (s .pre .0, s .pre .1, omega arith, omega arith, omega (arith, at-read-name .read-name .ensures .1), none-carries _ _ _ (s .pre .3))
+enter-use-requires c κs = search needs
 
 same-length-2 : tie.Need-same-length-2
 same-length-2 c = search needs
@@ -72,16 +62,15 @@ same-length-3 c = search needs
 
 returns-2 : tie.Need-returns-2
 returns-2 c =
-    let the-enter-use = c .before .before .before .before .enter-use in
-    let at-at2 = c .before .before .before .before .before .before .before .before .before in
+    let at-at2 = c .before .before .before .before in
     let at-at = at-at2 .before in
-    let at-read-name = at-at .before .before in
-    let at-place-of = at-read-name .before .before .before in
+    let the-lay-name = at-at .before .before .before .lay-name in
+    let at-place-of = at-at .before .before .before .before .before .before in
     let at-base = at-place-of .before in
     let at-four-at = at-base .before .before in
     let s = at-four-at .before .before .before .before in
-    let z : at-read-name .read-name .result - 0 ≡ at-read-name .read-name .result = omega arith in
-    use-put (s .args .numbers .now) (s .args .names .now) (s .args .octets .now) (s .args .at) _ _ _ (at-place-of .place-of .ensures) (at-four-at .four-at .ensures .0) (at-base .base .ensures .0) _ _ _ _ _ (the-enter-use .ensures) (ap (λ x. eqb x 1) (at-at .at .ensures .0)) (ap (λ x. x % 16) (at-at2 .at2 .ensures .0)) (rw z (at-read-name .read-name .ensures .0))
+    let entered = c .before .before .enter-use .ensures _ _ _ (the-lay-name .ensures) (none-carries _ _ _ (s .pre .3)) in
+    use-put (s .args .numbers .now) (s .args .names .now) (s .args .octets .now) (s .args .at) _ _ _ (at-place-of .place-of .ensures) (at-four-at .four-at .ensures .0) (at-base .base .ensures .0) _ _ _ _ _ entered (ap (λ x. eqb x 1) (at-at .at .ensures .0)) (ap (λ x. x % 16) (at-at2 .at2 .ensures .0)) refl
 
 pub read-use-spec : {M : Type 1} → statement M
 read-use-spec =
@@ -93,16 +82,14 @@ read-use-spec =
     place-of-requires
     same-length
     returns
-    add-read-name
-    slice-aggregate-read-name
-    read-name-requires
+    add-lay-name
+    mul-lay-name
+    add-lay-name-2
+    lay-name-requires
     add-at
     at-requires
     add-at-2
     at-requires-2
-    sub-enter-use
-    part-enter-use-start
-    part-enter-use-end
     enter-use-requires
     same-length-2
     same-length-3
