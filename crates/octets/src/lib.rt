@@ -197,6 +197,25 @@ fn copy_short(dst: &mut [u8], src: &[u8])
     lay_four(dst, src, last);
 }
 
+// Where the second of three eights begins that are to cover n octets and eight: behind the first, or with the last.
+fn second_eight(n: usize) -> usize
+    ensures { λ r. ⌜ (r ≤ 8) × (r ≤ n) × (n ≤ 16 → n ≤ r + 8) ⌝ }
+{
+    if n < 8 { n } else { 8 }
+}
+
+// Eight to twenty-four, as most names have: three eights, the last two over some that are there already, with no loop and no test.
+fn copy_three(dst: &mut [u8], src: &[u8])
+    requires { ⌜ (length (now src) ≡ length (now dst)) × (8 ≤ length (now src)) × (length (now src) ≤ 24) ⌝ }
+    ensures { λ _. ⌜ now (dst .exit) ≡ now (src .entry) ⌝ }
+{
+    let last = src.len() - 8;
+    let second = second_eight(last);
+    lay_eight(dst, src, 0);
+    lay_eight(dst, src, second);
+    lay_eight(dst, src, last);
+}
+
 // The same as `copy`, for a text whose length nobody foresees: by eights, of which the last goes over some that are there already, where
 // `copy` takes what is left octet by octet. For a few octets of a fixed number `copy` is the quicker.
 pub fn copy_text(dst: &mut [u8], src: &[u8])
@@ -205,6 +224,10 @@ pub fn copy_text(dst: &mut [u8], src: &[u8])
 {
     if src.len() < 8 {
         copy_short(dst, src);
+        return;
+    }
+    if src.len() <= 24 {
+        copy_three(dst, src);
         return;
     }
     let last = src.len() - 8;

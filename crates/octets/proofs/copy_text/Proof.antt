@@ -22,11 +22,20 @@ same-length c = search needs
 returns : tie.Need-returns Inv-loop μ-loop
 returns c = search needs
 
+copy-three-requires : tie.Need-copy-three-requires Inv-loop μ-loop
+copy-three-requires c κs = search needs
+
+same-length-2 : tie.Need-same-length-2 Inv-loop μ-loop
+same-length-2 c = search needs
+
+returns-2 : tie.Need-returns-2 Inv-loop μ-loop
+returns-2 c = search needs
+
 sub-last : tie.Need-sub-last Inv-loop μ-loop
 sub-last c = search needs
 
 loop-holds : tie.Need-loop-holds Inv-loop μ-loop
-loop-holds c = (refl, omega arith, laid-none _ _ (c .before .before .before .pre))
+loop-holds c = (refl, omega arith, laid-none _ _ (c .before .before .before .before .pre))
 
 lay-eight-requires : tie.Need-lay-eight-requires Inv-loop μ-loop
 lay-eight-requires c κs = search needs
@@ -40,21 +49,21 @@ loop-less c = search needs
 loop-again : tie.Need-loop-again Inv-loop μ-loop
 loop-again c =
     let l = c .before .before .before .before .before in
-    let s = l .before .before .before .before in
-    (c .before .dst2 .given ∙ l .loop .inv .0, omega arith, laid-more 8 (l .loop .i) (l .loop .i) (s .args .src .now) _ _ (l .loop .inv .2) (omega arith) (omega arith) (c .before .before .lay-eight .ensures))
+    let s = l .before .before .before .before .before in
+    (c .before .dst3 .given ∙ l .loop .inv .0, omega arith, laid-more 8 (l .loop .i) (l .loop .i) (s .args .src .now) _ _ (l .loop .inv .2) (omega arith) (omega arith) (c .before .before .lay-eight .ensures))
 
 lay-eight-requires-2 : tie.Need-lay-eight-requires-2 Inv-loop μ-loop
 lay-eight-requires-2 c κs = search needs
 
-same-length-2 : tie.Need-same-length-2 Inv-loop μ-loop
-same-length-2 c =
+same-length-3 : tie.Need-same-length-3 Inv-loop μ-loop
+same-length-3 c =
     let the-loop = c .before .before .before .before .before .loop in
-    c .before .dst3 .given ∙ the-loop .inv .0
+    c .before .dst4 .given ∙ the-loop .inv .0
 
-returns-2 : tie.Need-returns-2 Inv-loop μ-loop
-returns-2 c =
+returns-3 : tie.Need-returns-3 Inv-loop μ-loop
+returns-3 c =
     let l = c .before .before .before .before .before in
-    let s = l .before .before .before .before in
+    let s = l .before .before .before .before .before in
     let last = length (s .args .src .now) - 8 in
     laid-all (last + 8) (s .args .src .now) _ (laid-more 8 (l .loop .i) last (s .args .src .now) _ _ (l .loop .inv .2) (omega arith) (omega arith) (c .before .before .lay-eight2 .ensures)) (omega arith)
 
@@ -67,6 +76,9 @@ copy-text-spec =
     copy-short-requires
     same-length
     returns
+    copy-three-requires
+    same-length-2
+    returns-2
     sub-last
     loop-holds
     lay-eight-requires
@@ -74,5 +86,5 @@ copy-text-spec =
     loop-less
     loop-again
     lay-eight-requires-2
-    same-length-2
-    returns-2)
+    same-length-3
+    returns-3)
