@@ -65,6 +65,11 @@ abbrev pub NoneWrong : List ℕ → Type 0
 NoneWrong [] = Unit {0}
 NoneWrong (n ∷ ns) = TheseRowsAreWrong (n ∷ ns)
 
+-- the numbers of the tests, counted from n, that do not hold
+unfoldable pub wrongTests : ℕ → List Bool → List ℕ
+wrongTests n [] = []
+wrongTests n (b ∷ bs) = let later = wrongTests (suc n) bs in let here = n ∷ later in pick b later here
+
 -- ---- the cases
 
 unfoldable pub A : List ℕ

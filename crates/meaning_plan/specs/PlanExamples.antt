@@ -1,6 +1,7 @@
 -- Examples of plans, as tables of which one test is computed: what the planner says, what the checker says, and what carrying out comes to.
 -- Assumes nothing.
 use Prim.Native.Nat.{ℕ, suc, _-_}
+use mathlib.Core.Path.{_≡_, refl}
 use mathlib.Core.Bool.{Bool, true, false, not, _&&_}
 use mathlib.Core.List.{List, [], _∷_, _++_}
 use lib.ListN.{length, replicate}
@@ -10,7 +11,7 @@ use Rattle.meaning.specs.Wire.{element, mapping}
 use Rattle.meaning.specs.Card.{Card, sentLimit}
 use Rattle.meaning.specs.Events.{join, route, event, start}
 use Rattle.meaning.specs.Computing.{computing}
-use Rattle.meaning.specs.Examples.{NoneWrong, heard}
+use Rattle.meaning.specs.Examples.{NoneWrong, wrongTests, heard}
 use Rattle.meaning.specs.Corners.{scarce, left}
 use Rattle.meaning_save.specs.Save.{padded, spaced, spacedIn}
 use Rattle.meaning_plan.specs.Plan.{Move, moveFor, Allowed, allowedFor, setOf, permits, goesBy, needList, mayHave, isMove, listedOnce, accepts, Verdict, refusal, rejected, accepted, checked, goesFirst, cheapest, choice, isBelow, isBefore, insert, asMove, through, chosen, proposal, isFound, Plan, refused, none, listed, planned, ordered, carriedOut, answers, isTaken, noRefusal, someThrough}
@@ -117,6 +118,11 @@ asks =
     ask 4 0 (may A 0xFFFF ∷ may B 0x0089 ∷ may X 0x8000 ∷ may W 0x0002 ∷ []) (listed (to A 1 ∷ to B 3 ∷ to W 1 ∷ to X 15 ∷ [])) ∷
     -- 5. three are not
     ask 3 0 (may A 0xFFFF ∷ may B 0x0089 ∷ may X 0x8000 ∷ may W 0x0002 ∷ []) none ∷
+    []
+
+-- sets that leave a root nowhere to go, other neighbours than 0, and none at all
+unfoldable pub narrowAsks : List Ask
+narrowAsks =
     -- 6. an empty set for B; no entry for B; n alone for B; a set beyond sixteen bits
     ask 251 0 (may A 0xFFFF ∷ may B 0 ∷ may X 0xFFFF ∷ may W 0xFFFF ∷ []) none ∷
     ask 251 0 (may A 0xFFFF ∷ may X 0xFFFF ∷ may W 0xFFFF ∷ []) none ∷
@@ -239,10 +245,11 @@ octetTests =
     sameVerdict (checkedOctets card 16 [] []) (refusal 1) ∷
     []
 
-unfoldable pub wrongTests : ℕ → List Bool → List ℕ
-wrongTests i [] = []
-wrongTests i (b ∷ bs) = let later = wrongTests (suc i) bs in let here = i ∷ later in pick b later here
+-- where every neighbour is permitted a root may go to any but the one that it is to leave
+pub not-back : mayHave 3 every A 3 ≡ false
+unfolding computing mayHave permits setOf allowedFor A
+not-back = refl
 
-pub plans-shown : NoneWrong (wrongAsks 1 asks) × NoneWrong (wrongLooks 1 looks) × NoneWrong (wrongTests 1 octetTests)
-unfolding computing moveFor asMove padded spaced spacedIn spaceRoot setIn setsIn allowedIn entryOf listOf entryIn entriesIn isList listIn checkedOctets plannedOctets inSpace sets toZero octetsOf octetTests wrongTests scarce left heard all A B D X W one done leaf card sameList samePlan agrees wrongAsks asks sameVerdict isRight wrongLooks looks allowedFor setOf permits goesBy needList mayHave isMove listedOnce accepts checked goesFirst cheapest choice isBelow isBefore insert through chosen proposal isFound planned ordered carriedOut answers isTaken noRefusal someThrough
-plans-shown = (tt, tt, tt)
+pub plans-shown : NoneWrong (wrongAsks 1 asks) × NoneWrong (wrongAsks 6 narrowAsks) × NoneWrong (wrongLooks 1 looks) × NoneWrong (wrongTests 1 octetTests)
+unfolding computing moveFor asMove padded spaced spacedIn spaceRoot setIn setsIn allowedIn entryOf listOf entryIn entriesIn isList listIn checkedOctets plannedOctets inSpace sets toZero octetsOf octetTests wrongTests scarce left heard all A B D X W one done leaf card sameList samePlan agrees wrongAsks asks narrowAsks sameVerdict isRight wrongLooks looks allowedFor setOf permits goesBy needList mayHave isMove listedOnce accepts checked goesFirst cheapest choice isBelow isBefore insert through chosen proposal isFound planned ordered carriedOut answers isTaken noRefusal someThrough
+plans-shown = (tt, tt, tt, tt)

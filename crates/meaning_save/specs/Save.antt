@@ -9,7 +9,7 @@ use mathlib.Core.Bool.{Bool, true, false, not, _&&_, _||_}
 use mathlib.Core.List.{List, [], _∷_, _++_}
 use lib.ListN.{take, drop, getD, length, set, replicate}
 use lib.Dec.{eqb, leb, ltb}
-use Rattle.meaning.specs.Octets.{pick, place, any, same, two, four, twoAt, fourAt, _when_else_, all}
+use Rattle.meaning.specs.Octets.{pick, place, any, same, two, four, twoAt, fourAt, all}
 use Rattle.meaning.specs.Wire.{rootIn, opaqueIn, elementRefusal, element, rootLimit, nameLimit, leastLabel, mostLabel}
 use Rattle.meaning.specs.Card.{Route, Tree, Use, free, mapped, awaiting, Card, withLabel, treeLimit, routeLimit, labelCount, isFor, named, isEmpty, isFree, heldFor, useOf, treeOf, freeLabels, neighbourCount, thisNode, withLast}
 use Rattle.meaning.specs.Events.{Out, roomShort, refuse, baseOutside, notRoot, workedOut, holderOf}

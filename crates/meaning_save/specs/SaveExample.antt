@@ -2,17 +2,17 @@
 -- Assumes nothing.
 use Prim.Native.Nat.{ℕ}
 use mathlib.Core.Path.{_≡_, refl}
-use mathlib.Core.Bool.{Bool, true, _&&_}
+use mathlib.Core.Bool.{Bool, _&&_}
 use mathlib.Core.List.{List, [], _∷_, _++_}
-use lib.ListN.{replicate}
+use lib.ListN.{take, drop, replicate}
 use lib.Dec.{eqb}
 use Rattle.meaning.specs.Octets.{same, all}
 use Rattle.meaning.specs.Wire.{rootIn, opaqueIn, element, mapping}
 use Rattle.meaning.specs.Card.{Card, free, mapped, fresh, withLabels, withLast}
 use Rattle.meaning.specs.Events.{Out, Event, join, leave, route, event, start}
 use Rattle.meaning.specs.Computing.{computing}
-use Rattle.meaning.specs.Examples.{enough, A, wide, heard}
-use Rattle.meaning_save.specs.Save.{old, new, padded, spaced, nameSaved, marked, lastSaved, headSaved, routeSaved, foursOf, treeSaved, useSaved, routesSaved, treesSaved, usesSaved, saved, isShort, isShortTree, isShortUse, fitsSave, save, spacedIn, nameIn, routeRead, foursIn, treeRead, useRead, routesRead, treesRead, usesRead, isMappedFor, labelled, allLabelled, allWorkedOut, tableIn, isName, onceEach, isRoute, sameRoot, isBranchLabel, isTree, sameName, isUse, isCarried, allCarried, carriesOwn, holdsRight, isCounted, countsRight, keepsRows, keepsRules, isSave, restore, highestUsed, settled, carriedBy, lastIn, treeEnd, treesEnd, useEnd, lastRight, ruled, notMoved, move, newer, older}
+use Rattle.meaning.specs.Examples.{NoneWrong, wrongTests, enough, A, wide, heard}
+use Rattle.meaning_save.specs.Save.{old, new, routeKind, headSize, padded, spaced, nameSaved, marked, lastSaved, headSaved, routeSaved, foursOf, treeSaved, useSaved, routesSaved, treesSaved, usesSaved, saved, isShort, isShortTree, isShortUse, fitsSave, save, spacedIn, nameIn, routeRead, foursIn, treeRead, useRead, routesRead, treesRead, usesRead, isMappedFor, labelled, allLabelled, allWorkedOut, tableIn, isName, onceEach, isRoute, sameRoot, isBranchLabel, isTree, sameName, isUse, isCarried, allCarried, carriesOwn, holdsRight, isCounted, countsRight, keepsRows, keepsRules, isSave, restore, highestUsed, settled, carriedBy, lastIn, treeEnd, treesEnd, useEnd, lastRight, ruled, notMoved, move, newer, older}
 
 -- as `computing`, for the definitions of saves
 unfoldable pub computingSaves : ℕ
@@ -135,6 +135,11 @@ label17 =
 unfoldable pub example : List ℕ
 example = headOf ++ (routeA ++ (treeA ++ (treeB ++ (label16 ++ label17))))
 
+-- behind the head, the mark and the kind of the route
+pub route-behind-head : take 3 (drop (headSize old) (saved old swapped)) ≡ 0x4C ∷ 0x53 ∷ routeKind ∷ []
+unfolding computingSaves computing B after swapped A heard
+route-behind-head = refl
+
 -- the save of that card is exactly these octets
 pub example-saved : saved old swapped ≡ example
 unfolding computingSaves computing B after swapped headOf routeA treeA treeB label16 label17 example A heard
@@ -172,21 +177,37 @@ inAwaiting n = after (inBoth n) (leave (wide n) ∷ [])
 unfoldable pub inMapped : ℕ → Card
 inMapped n = withLabels (mapped 0 (wideB n) ∷ replicate 255 free) (fresh 16)
 
-unfoldable pub savesRight : Bool
-savesRight =
-    agrees (save old 389 swapped) 16 [] example && agrees (save old 390 swapped) 0 example example
-    -- the last label given is not carried: reading takes the highest in use for it, or none where none is
-    && same (saved old (withLast 200 swapped)) example && eqb (restore old example (fresh 99) .card .last) 17
-    && eqb (restore old (saved old (withLast 200 (fresh 16))) (fresh 99) .card .last) 0
-    -- and the new form carries it; a value that is longer than the old form's space is not moved back
-    && eqb (restore new (saved new (withLast 200 swapped)) (fresh 99) .card .last) 200 && eqb (older 23343 (saved new (inBoth 33)) .answer) 19
-    -- what is no save of the form is refused 19, and the table stays
-    && agrees (restore old [] swapped) 19 [] example && agrees (restore old (saved new swapped) swapped) 19 [] example && agrees (restore new example swapped) 19 [] example
-    && agrees (save old 14 (fresh 16)) 16 [] (saved old (fresh 16)) && agrees (save old 15 (fresh 16)) 0 (saved old (fresh 16)) (saved old (fresh 16))
+unfoldable pub roomTests : List Bool
+roomTests =
+    agrees (save old 389 swapped) 16 [] example ∷ agrees (save old 390 swapped) 0 example example ∷
+    agrees (save old 14 (fresh 16)) 16 [] (saved old (fresh 16)) ∷ agrees (save old 15 (fresh 16)) 0 (saved old (fresh 16)) (saved old (fresh 16)) ∷
+    []
 
-pub room-shown : savesRight ≡ true
-unfolding computingSaves computing agrees savesRight inBoth wide B after swapped headOf routeA treeA treeB label16 label17 example A heard
-room-shown = refl
+-- the last label given, in the old form
+unfoldable pub lastTests : List Bool
+lastTests =
+    -- 1. it is not carried: reading takes the highest in use for it, or none where none is
+    same (saved old (withLast 200 swapped)) example ∷ eqb (restore old example (fresh 99) .card .last) 17 ∷
+    eqb (restore old (saved old (withLast 200 (fresh 16))) (fresh 99) .card .last) 0 ∷
+    []
+
+-- and the new form carries it
+pub last-carried : restore new (saved new (withLast 200 swapped)) (fresh 99) .card .last ≡ 200
+unfolding computingSaves computing B after swapped A heard
+last-carried = refl
+
+-- what is of the other form, or of none
+unfoldable pub formTests : List Bool
+formTests =
+    -- 1. what is no save of the form is refused 19, and the table stays
+    agrees (restore old [] swapped) 19 [] example ∷ agrees (restore old (saved new swapped) swapped) 19 [] example ∷ agrees (restore new example swapped) 19 [] example ∷
+    -- 4. a value that is longer than the old form's space is not moved back
+    eqb (older 23343 (saved new (inBoth 33)) .answer) 19 ∷
+    []
+
+pub saves-shown : NoneWrong (wrongTests 1 roomTests) × NoneWrong (wrongTests 1 lastTests) × NoneWrong (wrongTests 1 formTests)
+unfolding computingSaves computing wrongTests agrees roomTests lastTests formTests inBoth wide B after swapped headOf routeA treeA treeB label16 label17 example A heard
+saves-shown = (tt, tt, tt)
 
 -- the answers in so much room
 unfoldable pub answersIn : List ℕ → Card → List ℕ
@@ -194,18 +215,23 @@ answersIn [] c = []
 answersIn (room ∷ rooms) c = save old room c .answer ∷ answersIn rooms c
 
 -- 16 and 0 by the room where the value has 32 octets; 19 in any room, none and more than any save takes, where it has 33
-unfoldable pub longRight : Bool
-longRight =
-    same (answersIn (132 ∷ 133 ∷ []) (inTree 32)) (16 ∷ 0 ∷ []) && same (answersIn (0 ∷ 132 ∷ 133 ∷ 23343 ∷ []) (inTree 33)) (19 ∷ 19 ∷ 19 ∷ 19 ∷ [])
-    && same (answersIn (212 ∷ 213 ∷ []) (inBoth 32)) (16 ∷ 0 ∷ []) && same (answersIn (0 ∷ 212 ∷ 213 ∷ 23343 ∷ []) (inBoth 33)) (19 ∷ 19 ∷ 19 ∷ 19 ∷ [])
-    && same (answersIn (94 ∷ 95 ∷ []) (inAwaiting 32)) (16 ∷ 0 ∷ []) && same (answersIn (0 ∷ 94 ∷ 95 ∷ 23343 ∷ []) (inAwaiting 33)) (19 ∷ 19 ∷ 19 ∷ 19 ∷ [])
-    && same (answersIn (73 ∷ 74 ∷ []) (inMapped 32)) (16 ∷ 0 ∷ []) && same (answersIn (0 ∷ 73 ∷ 74 ∷ 23343 ∷ []) (inMapped 33)) (19 ∷ 19 ∷ 19 ∷ 19 ∷ [])
-    -- and the longest
-    && same (answersIn (23343 ∷ []) (inTree 128)) (19 ∷ []) && same (answersIn (23343 ∷ []) (inAwaiting 128)) (19 ∷ [])
+unfoldable pub longTests : List Bool
+longTests =
+    -- 1. in a tree
+    same (answersIn (132 ∷ 133 ∷ []) (inTree 32)) (16 ∷ 0 ∷ []) ∷ same (answersIn (0 ∷ 132 ∷ 133 ∷ 23343 ∷ []) (inTree 33)) (19 ∷ 19 ∷ 19 ∷ 19 ∷ []) ∷
+    -- 3. in a tree and its label
+    same (answersIn (212 ∷ 213 ∷ []) (inBoth 32)) (16 ∷ 0 ∷ []) ∷ same (answersIn (0 ∷ 212 ∷ 213 ∷ 23343 ∷ []) (inBoth 33)) (19 ∷ 19 ∷ 19 ∷ 19 ∷ []) ∷
+    -- 5. in an awaiting label alone
+    same (answersIn (94 ∷ 95 ∷ []) (inAwaiting 32)) (16 ∷ 0 ∷ []) ∷ same (answersIn (0 ∷ 94 ∷ 95 ∷ 23343 ∷ []) (inAwaiting 33)) (19 ∷ 19 ∷ 19 ∷ 19 ∷ []) ∷
+    -- 7. in a mapped label alone
+    same (answersIn (73 ∷ 74 ∷ []) (inMapped 32)) (16 ∷ 0 ∷ []) ∷ same (answersIn (0 ∷ 73 ∷ 74 ∷ 23343 ∷ []) (inMapped 33)) (19 ∷ 19 ∷ 19 ∷ 19 ∷ []) ∷
+    -- 9. and the longest
+    same (answersIn (23343 ∷ []) (inTree 128)) (19 ∷ []) ∷ same (answersIn (23343 ∷ []) (inAwaiting 128)) (19 ∷ []) ∷
+    []
 
-pub long-shown : longRight ≡ true
-unfolding computingSaves computing longRight answersIn wide wideB inTree inBoth inAwaiting inMapped after A B
-long-shown = refl
+pub long-shown : NoneWrong (wrongTests 1 longTests)
+unfolding computingSaves computing wrongTests longTests answersIn wide wideB inTree inBoth inAwaiting inMapped after A B
+long-shown = tt
 
 -- nothing is written, and the table stays
 pub long-stays : save old 23343 (inBoth 33) ≡ record { answer = 19; octets = []; card = inBoth 33 }
