@@ -4,34 +4,31 @@ use native.Mathlib.Omega.{arith}
 use mathlib.Core.Path.{_≡_, refl, sym, _∙_}
 use mathlib.Core.Bool.{Bool, true, false}
 use mathlib.Core.List.{List}
-use lib.ListN.{length, take, drop}
-use lib.Seq.{take-append-seam}
-use Rattle.meaning.specs.Octets.{same}
 use lib.Dec.{eqb}
 use borrow.Author.Tests.{eq-eqb, ne-eqb, le-leb, lt-ltb}
 use Rattle.meaning.specs.Card.{Card, freeLabels, labelCount, turn}
 use Rattle.meaning.specs.Events.{refuse}
 use Rattle.meaning.specs.Lists.{positive}
-use Rattle.meaning.specs.Calls.{over}
 use Rattle.memory.specs.Memory.{cardOf, baseIn}
 use Rattle.memory.proofs.Memory.{base-range}
 use Rattle.save_records.proofs.Records.{last-none, last-some}
-use Rattle.meaning_save.specs.Save.{Form, new, formOf, saveLimit, keepsRows, keepsRules, lastRight, rowsRuled, saved, tableIn, isSave, restore}
+use Rattle.meaning_save.specs.Save.{Form, formOf, keepsRows, lastRight, rowsRuled, tableIn, isSave, restore}
+use Rattle.meaning_laws.specs.NoticeLaws.{Octets}
 use Rattle.meaning_laws.specs.SaveCounts.{read-ruled}
-use Rattle.meaning_laws.specs.SaveLaws.{ruled-keeps, saved-short}
+use Rattle.save_written.specs.Written.{written}
+use Rattle.save_written.proofs.Laws.{written-is-save}
 
 -- A table that is read has true counts, so that its other rules alone are tested.
 
 module _ (f : Form) (o : List ℕ) where
-  -- ---- the octets that its save are
+  -- ---- the octets that are its save
 
   pub not-taken : (c : Card) → c ≡ tableIn f o → rowsRuled f c ≡ false → isSave f o ≡ false
   unfolding isSave
   not-taken c e k = rw (read-ruled f o, ← e, k) refl
 
-  pub taken : (c : Card) (r : Bool) → c ≡ tableIn f o → rowsRuled f c ≡ true → r ≡ same (saved f c) o → r ≡ isSave f o
-  unfolding isSave
-  taken c r e k h = rw (read-ruled f o, ← e, k) h
+  pub taken : (c : Card) (r : Bool) → c ≡ tableIn f o → rowsRuled f c ≡ true → Octets o → r ≡ written f o → r ≡ isSave f o
+  taken c r e k small h = h ∙ written-is-save f o small (rw (← e) k)
 
   pub refused : (c : Card) → isSave f o ≡ false → (19 ≡ restore f o c .answer) × (c ≡ restore f o c .card)
   unfolding restore refuse
@@ -40,25 +37,6 @@ module _ (f : Form) (o : List ℕ) where
   pub restored : (c d : Card) → isSave f o ≡ true → d ≡ tableIn f o → (0 ≡ restore f o c .answer) × (d ≡ restore f o c .card)
   unfolding restore
   restored c d e h = rw e (refl, h)
-
-  pub read-keeps : (c : Card) → c ≡ tableIn f o → rowsRuled f c ≡ true → keepsRules c ≡ true
-  read-keeps c e k = ruled-keeps f c (rw e (read-ruled f o ∙ rw (← e) k))
-
--- the longest save of either form is one of the new form
-limit-new : (b : Bool) → saveLimit (formOf b) ≤ saveLimit new
-unfolding formOf
-limit-new true = omega arith
-limit-new false = omega arith
-
-pub fits-spare : (b : Bool) (c : Card) (n : ℕ) → keepsRules c ≡ true → saveLimit new ≤ n → length (saved (formOf b) c) ≤ n
-fits-spare b c n k h = omega (arith, saved-short (formOf b) c k, limit-new b)
-
--- what was written over the front
-pub over-front : (s t l : List ℕ) (n : ℕ) → l ≡ over s t → n ≡ length s → take (n - 0) l ≡ s
-unfolding over
-over-front s t l n e h =
-    let k : n - 0 ≡ length s = omega arith in
-    rw (k, e) (take-append-seam s (drop (length s) t))
 
 -- ---- the rules that a form asks for
 

@@ -4,8 +4,8 @@ ghost use mathlib.Core.Bool.{true, false};
 ghost use mathlib.Core.List.{List};
 ghost use Prim.Native.Nat.{ℕ, _≤_};
 ghost use lib.ListN.{length};
-ghost use Rattle.meaning.specs.Octets.{all, same};
-ghost use Rattle.meaning_save.specs.Save.{new, formOf, saved, saveLimit, onceEach, sameName, sameRoot, holdsRight, keepsRules, tableIn, lastRight, rowsRuled, isSave, restore};
+ghost use Rattle.meaning.specs.Octets.{all};
+ghost use Rattle.meaning_save.specs.Save.{new, formOf, saveLimit, onceEach, sameName, sameRoot, holdsRight, tableIn, lastRight, rowsRuled, isSave, restore};
 ghost use Rattle.memory.specs.Sizes.{Numbers, Names};
 ghost use Rattle.memory.specs.Memory.{cardOf};
 use meaning::LABEL_COUNT;
@@ -40,17 +40,8 @@ fn is_ruled(numbers: &[u64], names: &[u8], second: bool) -> bool
     true
 }
 
-// Whether the save of the table in the memory, which keeps the rules, is these octets. That save is written into a spare part, which held
-// anything.
-fn is_saved_as(numbers: &[u64], names: &[u8], second: bool, octets: &[u8], spare: &mut [u8]) -> bool
-    requires { ⌜ Numbers (now numbers) × Names (now names) × (saveLimit new ≤ length (now spare)) × (keepsRules (cardOf (now numbers) (now names)) ≡ true) ⌝ }
-    ensures { λ r. ⌜ r ≡ same (saved (formOf second) (cardOf (now (numbers .entry)) (now (names .entry)))) (now (octets .entry)) ⌝ }
-{
-    let n = save_writer::write_save(numbers, names, second, spare);
-    octets::equal(&spare[0..n], octets)
-}
-
-// Whether the octets are a save; where they are, its table is in the memory, which held anything.
+// Whether the octets are a save; where they are, its table is in the memory, which held anything. (The spare part for a save is left as it
+// is: callers lend one as they did when a second save was written.)
 pub fn is_taken(
     octets: &[u8],
     second: bool,
@@ -67,7 +58,7 @@ pub fn is_taken(
     if !is_ruled(numbers, names, second) {
         return false;
     }
-    is_saved_as(numbers, names, second, octets, spare)
+    save_written::is_written(octets, second)
 }
 
 fn put_over(numbers: &mut [u64], names: &mut [u8], from: &[u64], octets: &[u8])
@@ -79,8 +70,7 @@ fn put_over(numbers: &mut [u64], names: &mut [u8], from: &[u64], octets: &[u8])
 }
 
 // Takes back a save, of the new form where `second` says so: 0, with its table in the card's memory, or 19, with the memory as it was. The
-// table is read into spare memory first, and its own save written into a spare part, so that octets that are no save change nothing. What is
-// spare may hold anything before and after.
+// table is read into spare memory first, so that octets that are no save change nothing. What is spare may hold anything before and after.
 pub fn restore(
     numbers: &mut [u64; NUMBER_COUNT],
     names: &mut [u8; OCTET_COUNT],

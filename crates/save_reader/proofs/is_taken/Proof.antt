@@ -1,7 +1,9 @@
+-- `save_reader::is_taken` meets its contract: where the table that is read keeps the rules, the octets are a save exactly where they are laid out as one. Assumes nothing.
+use native.Mathlib.Omega.{arith}
 use mathlib.Core.Path.{sym, _∙_}
 use borrow.Author.Tests.{not-true, not-false}
 use borrow.Author.Needs.{needs}
-use Rattle.save_reader.proofs.Whole.{taken, not-taken, read-keeps}
+use Rattle.save_reader.proofs.Whole.{taken, not-taken}
 use Rattle.save_reader.proofs.is_taken.Statement.{statement}
 use Rattle.save_reader.proofs.is_taken.Tie as tie
 use Rattle.meaning.specs.Lists.{never}
@@ -39,13 +41,8 @@ returns-2 c =
     let d = at-decode .decode .ensures .0 (not-false _ (the-if1 .left)) .0 in
     (sym (not-taken _ _ _ d (sym (c .before .is-ruled .ensures) ∙ not-true _ (c .if2 .taken))), (λ t. absurd (never t)))
 
-is-saved-as-requires : tie.Need-is-saved-as-requires
-is-saved-as-requires c κs =
-    let the-decode = c .before .before .before .before .before .before .before .before .before .before .before .before .decode in
-    let the-if1 = c .before .before .before .before .before .before .before .if1 in
-    let the-is-ruled = c .before .before .before .before .is-ruled in
-    let d = the-decode .ensures .0 (not-false _ (the-if1 .left)) .0 in
-    (search needs, search needs, search needs, read-keeps _ _ _ d (sym (the-is-ruled .ensures) ∙ not-false _ (c .before .before .before .if2 .left)))
+is-written-requires : tie.Need-is-written-requires
+is-written-requires c κs = search needs
 
 same-length-5 : tie.Need-same-length-5
 same-length-5 c = search needs
@@ -53,17 +50,13 @@ same-length-5 c = search needs
 same-length-6 : tie.Need-same-length-6
 same-length-6 c = search needs
 
-same-length-7 : tie.Need-same-length-7
-same-length-7 c = search needs
-
 returns-3 : tie.Need-returns-3
 returns-3 c =
-    let the-decode = c .before .before .before .before .before .before .before .before .before .before .before .before .before .before .before .decode in
-    let the-if1 = c .before .before .before .before .before .before .before .before .before .before .if1 in
-    let the-is-ruled = c .before .before .before .before .before .before .before .is-ruled in
-    let the-if2 = c .before .before .before .before .before .before .if2 in
+    let the-decode = c .before .before .before .before .before .before .before .before .before .before .decode in
+    let the-if1 = c .before .before .before .before .before .if1 in
+    let known = c .before .before .before .before .before .before .before .before .before .before .before .before .before .before .before .before .shared-slice-known in
     let d = the-decode .ensures .0 (not-false _ (the-if1 .left)) .0 in
-    (taken _ _ _ _ d (sym (the-is-ruled .ensures) ∙ not-false _ (the-if2 .left)) (c .before .before .is-saved-as .ensures), (λ _. d))
+    (taken _ _ _ _ d (sym (c .before .before .is-ruled .ensures) ∙ not-false _ (c .before .if2 .left)) (λ i. omega (arith, known .given i)) (c .is-written .ensures), (λ _. d))
 
 pub is-taken-spec : {M : Type 1} → statement M
 is-taken-spec =
@@ -77,8 +70,7 @@ is-taken-spec =
     same-length-3
     same-length-4
     returns-2
-    is-saved-as-requires
+    is-written-requires
     same-length-5
     same-length-6
-    same-length-7
     returns-3)
