@@ -16,7 +16,7 @@ use Rattle.meaning_save.specs.Save.{Form, formOf, keepsRows, lastRight, rowsRul
 use Rattle.meaning_laws.specs.NoticeLaws.{Octets}
 use Rattle.meaning_laws.specs.SaveCounts.{read-ruled}
 use Rattle.save_written.specs.Written.{written}
-use Rattle.save_written.proofs.Laws.{written-is-save}
+use Rattle.save_written.proofs.Exact.{written-is-save}
 
 -- A table that is read has true counts, so that its other rules alone are tested.
 

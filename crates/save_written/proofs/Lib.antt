@@ -1,6 +1,6 @@
 pub mod Fields
 pub mod Records
-pub mod Laws
+pub mod Exact
 pub mod Places
 pub mod Steps
 pub mod Whole

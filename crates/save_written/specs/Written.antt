@@ -1,5 +1,5 @@
 -- Whether octets are laid out as a save is: each record is what is written of the entry that is read there, labels stand by rising number, nothing stands behind the last record.
--- Such octets are what is written of the table that is read from them, and a save is so laid out (proofs/Laws).
+-- Such octets are what is written of the table that is read from them, and a save is so laid out (proofs/Exact).
 -- Assumes nothing.
 use Prim.Native.Nat.{ℕ, zero, suc, _+_, _*_}
 use mathlib.Core.Bool.{Bool, true, false, _&&_, _||_}
