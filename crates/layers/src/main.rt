@@ -112,14 +112,14 @@ fn put_refused(text: &mut [u8]) -> usize
 }
 
 // Whether the octets are a save of either form, and its card in the memory where they are. What is lent may hold anything before.
-fn is_taken(octets: &[u8], numbers: &mut [u64], names: &mut [u8], spare: &mut [u8]) -> bool
-    requires { ⌜ Numbers (now numbers) × Names (now names) × (saveLimit new ≤ length (now spare)) ⌝ }
+fn is_taken(octets: &[u8], numbers: &mut [u64], names: &mut [u8]) -> bool
+    requires { ⌜ Numbers (now numbers) × Names (now names) ⌝ }
     ensures { λ r. ⌜ Shows r (shownOf (now (octets .entry))) (cardOf (now (numbers .exit)) (now (names .exit))) ⌝ }
 {
-    if save_reader::is_taken(octets, false, numbers, names, spare) {
+    if save_reader::is_taken(octets, false, numbers, names) {
         return true;
     }
-    save_reader::is_taken(octets, true, numbers, names, spare)
+    save_reader::is_taken(octets, true, numbers, names)
 }
 
 // Where the HEX ends.
@@ -137,34 +137,22 @@ fn hex_end(input: &[u8]) -> usize
 }
 
 // The same of octets in HEX of no more digits than the longest save's.
-fn is_taken_hex(
-    hex: &[u8],
-    octets: &mut [u8],
-    numbers: &mut [u64],
-    names: &mut [u8],
-    spare: &mut [u8],
-) -> bool
-    requires { ⌜ (length (now hex) ≤ 2 * saveLimit new) × (saveLimit new ≤ length (now octets)) × Numbers (now numbers) × Names (now names) × (saveLimit new ≤ length (now spare)) ⌝ }
+fn is_taken_hex(hex: &[u8], octets: &mut [u8], numbers: &mut [u64], names: &mut [u8]) -> bool
+    requires { ⌜ (length (now hex) ≤ 2 * saveLimit new) × (saveLimit new ≤ length (now octets)) × Numbers (now numbers) × Names (now names) ⌝ }
     ensures { λ r. ⌜ Shows r (shownOf (octetsOf (now (hex .entry)))) (cardOf (now (numbers .exit)) (now (names .exit))) ⌝ }
 {
     let n = bench_words::decode_hex(hex, octets);
-    is_taken(&octets[..n], numbers, names, spare)
+    is_taken(&octets[..n], numbers, names)
 }
 
 // The same of an input.
-fn is_taken_input(
-    input: &[u8],
-    octets: &mut [u8],
-    numbers: &mut [u64],
-    names: &mut [u8],
-    spare: &mut [u8],
-) -> bool
-    requires { ⌜ (saveLimit new ≤ length (now octets)) × Numbers (now numbers) × Names (now names) × (saveLimit new ≤ length (now spare)) ⌝ }
+fn is_taken_input(input: &[u8], octets: &mut [u8], numbers: &mut [u64], names: &mut [u8]) -> bool
+    requires { ⌜ (saveLimit new ≤ length (now octets)) × Numbers (now numbers) × Names (now names) ⌝ }
     ensures { λ r. ⌜ Shows r (shown (now (input .entry))) (cardOf (now (numbers .exit)) (now (names .exit))) ⌝ }
 {
     let n = hex_end(input);
     if bench_words::is_hex_to(&input[..n], SAVE_DIGITS) {
-        return is_taken_hex(&input[..n], octets, numbers, names, spare);
+        return is_taken_hex(&input[..n], octets, numbers, names);
     }
     false
 }
@@ -175,13 +163,12 @@ fn show(
     octets: &mut [u8; SAVE_LIMIT],
     numbers: &mut [u64; NUMBER_COUNT],
     names: &mut [u8; OCTET_COUNT],
-    spare: &mut [u8; SAVE_LIMIT],
     text: &mut [u8; SHOWN_SPACE],
 ) -> usize
     ensures { λ r. ⌜ take r (now (text .exit)) ≡ shown (now (input .entry)) ⌝ }
     ensures { λ r. ⌜ r ≤ shownSpace ⌝ }
 {
-    if is_taken_input(input, octets, numbers, names, spare) {
+    if is_taken_input(input, octets, numbers, names) {
         return put_trees(text, numbers, names);
     }
     put_refused(text)
@@ -219,7 +206,6 @@ fn main() {
     let mut octets = blank_save();
     let mut numbers = [0u64; NUMBER_COUNT];
     let mut names = [0u8; OCTET_COUNT];
-    let mut spare = blank_save();
     let mut text = blank_text();
     let n = io::read_full(STDIN_FILENO, &mut input);
     let end = show(
@@ -227,7 +213,6 @@ fn main() {
         &mut octets,
         &mut numbers,
         &mut names,
-        &mut spare,
         &mut text,
     );
     print(&text, end);

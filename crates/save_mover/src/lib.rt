@@ -23,7 +23,7 @@ pub fn move_core(
 ) -> usize
     ensures { λ r. ⌜ Moves (move (formOf second) (formOf (not second)) (length (now (out .entry))) (now (octets .entry))) (now (answer .exit)) r (now (out .entry)) (now (out .exit)) ⌝ }
 {
-    if !save_reader::is_taken(octets, second, spare_numbers, spare_names, spare_save) {
+    if !save_reader::is_taken(octets, second, spare_numbers, spare_names) {
         *answer = 19;
         return 0;
     }

@@ -2,10 +2,10 @@
 ghost use mathlib.Core.Path.{_≡_};
 ghost use mathlib.Core.Bool.{true, false};
 ghost use mathlib.Core.List.{List};
-ghost use Prim.Native.Nat.{ℕ, _≤_};
+ghost use Prim.Native.Nat.{ℕ};
 ghost use lib.ListN.{length};
 ghost use Rattle.meaning.specs.Octets.{all};
-ghost use Rattle.meaning_save.specs.Save.{new, formOf, saveLimit, onceEach, sameName, sameRoot, holdsRight, tableIn, lastRight, rowsRuled, isSave, restore};
+ghost use Rattle.meaning_save.specs.Save.{formOf, onceEach, sameName, sameRoot, holdsRight, tableIn, lastRight, rowsRuled, isSave, restore};
 ghost use Rattle.memory.specs.Sizes.{Numbers, Names};
 ghost use Rattle.memory.specs.Memory.{cardOf};
 use meaning::LABEL_COUNT;
@@ -40,16 +40,9 @@ fn is_ruled(numbers: &[u64], names: &[u8], second: bool) -> bool
     true
 }
 
-// Whether the octets are a save; where they are, its table is in the memory, which held anything. (The spare part for a save is left as it
-// is: callers lend one as they did when a second save was written.)
-pub fn is_taken(
-    octets: &[u8],
-    second: bool,
-    numbers: &mut [u64],
-    names: &mut [u8],
-    spare: &mut [u8],
-) -> bool
-    requires { ⌜ Numbers (now numbers) × Names (now names) × (saveLimit new ≤ length (now spare)) ⌝ }
+// Whether the octets are a save; where they are, its table is in the memory, which held anything.
+pub fn is_taken(octets: &[u8], second: bool, numbers: &mut [u64], names: &mut [u8]) -> bool
+    requires { ⌜ Numbers (now numbers) × Names (now names) ⌝ }
     ensures { λ r. ⌜ (r ≡ isSave (formOf second) (now (octets .entry))) × (r ≡ true → cardOf (now (numbers .exit)) (now (names .exit)) ≡ tableIn (formOf second) (now (octets .entry))) ⌝ }
 {
     if !save_decoder::decode(octets, second, numbers, names) {
@@ -70,7 +63,8 @@ fn put_over(numbers: &mut [u64], names: &mut [u8], from: &[u64], octets: &[u8])
 }
 
 // Takes back a save, of the new form where `second` says so: 0, with its table in the card's memory, or 19, with the memory as it was. The
-// table is read into spare memory first, so that octets that are no save change nothing. What is spare may hold anything before and after.
+// table is read into spare memory first, so that octets that are no save change nothing. What is spare may hold anything before and after;
+// the spare part for a save is lent as ever, and left as it is.
 pub fn restore(
     numbers: &mut [u64; NUMBER_COUNT],
     names: &mut [u8; OCTET_COUNT],
@@ -84,7 +78,7 @@ pub fn restore(
         (r ≡ restore (formOf second) (now (octets .entry)) c .answer)
         × (cardOf (now (numbers .exit)) (now (names .exit)) ≡ restore (formOf second) (now (octets .entry)) c .card)) ⌝ }
 {
-    if !is_taken(octets, second, spare_numbers, spare_names, spare_save) {
+    if !is_taken(octets, second, spare_numbers, spare_names) {
         return 19;
     }
     put_over(numbers, names, spare_numbers, spare_names);

@@ -24,13 +24,10 @@ same-length-2 c = search needs
 same-length-3 : tie.Need-same-length-3
 same-length-3 c = search needs
 
-same-length-4 : tie.Need-same-length-4
-same-length-4 c = search needs
-
 returns : tie.Need-returns
 returns c =
-    let the-decode-hex = c .before .before .before .before .before .before .before .before .before .before .before .before .before .decode-hex in
-    let the-is-taken = c .before .before .before .before .before .before .is-taken in
+    let the-decode-hex = c .before .before .before .before .before .before .before .before .before .before .decode-hex in
+    let the-is-taken = c .before .before .before .before .is-taken in
     shows-decoded (the-decode-hex .ensures .0) (the-is-taken .ensures)
 
 pub is-taken-hex-spec : {M : Type 1} → statement M
@@ -44,5 +41,4 @@ is-taken-hex-spec =
     same-length
     same-length-2
     same-length-3
-    same-length-4
     returns)

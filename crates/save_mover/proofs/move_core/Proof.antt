@@ -11,7 +11,7 @@ is-taken-requires c κs = search needs
 
 returns : tie.Need-returns
 returns c =
-    let start = c .before .before .before .before .before .before .before in
+    let start = c .before .before .before .before .before .before in
     moves-none _ _ _ (start .args .octets .now) (start .args .out .now) (sym (c .before .is-taken .ensures .0) ∙ not-true _ (c .if1 .taken))
 
 save-core-requires : tie.Need-save-core-requires
@@ -24,7 +24,7 @@ returns-2 : tie.Need-returns-2
 returns-2 c =
     let the-is-taken = c .before .before .before .before .before .before .before .before .is-taken in
     let the-if1 = c .before .before .before .before .before .before .before .if1 in
-    let start = c .before .before .before .before .before .before .before .before .before .before .before .before .before .before in
+    let start = c .before .before .before .before .before .before .before .before .before .before .before .before .before in
     let t = the-is-taken .ensures in
     let e = not-false _ (the-if1 .left) in
     moves-saved _ _ _ (start .args .octets .now) _ _ _ (start .args .out .now) _ (sym (t .0) ∙ e) (t .1 e) (c .before .before .save-core .ensures)

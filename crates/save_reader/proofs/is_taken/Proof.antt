@@ -54,7 +54,7 @@ returns-3 : tie.Need-returns-3
 returns-3 c =
     let the-decode = c .before .before .before .before .before .before .before .before .before .before .decode in
     let the-if1 = c .before .before .before .before .before .if1 in
-    let known = c .before .before .before .before .before .before .before .before .before .before .before .before .before .before .before .before .shared-slice-known in
+    let known = c .before .before .before .before .before .before .before .before .before .before .before .before .before .before .before .shared-slice-known in
     let d = the-decode .ensures .0 (not-false _ (the-if1 .left)) .0 in
     (taken _ _ _ _ d (sym (c .before .before .is-ruled .ensures) ∙ not-false _ (c .before .if2 .left)) (λ i. omega (arith, known .given i)) (c .is-written .ensures), (λ _. d))
 
