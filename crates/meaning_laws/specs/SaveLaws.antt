@@ -115,7 +115,7 @@ module _ (c : Card) (R : Rules c) where
 
 -- ---- the head
 
-after-head : (f : Form) (c : Card) → drop (headSize f) (saved f c) ≡ routesSaved (c .routes) ++ (treesSaved f (c .trees) ++ usesSaved f (c .base) (c .labels))
+pub after-head : (f : Form) (c : Card) → drop (headSize f) (saved f c) ≡ routesSaved (c .routes) ++ (treesSaved f (c .trees) ++ usesSaved f (c .base) (c .labels))
 unfolding saved headSaved marked four two lastSaved
 after-head old c = refl
 after-head new c = refl
@@ -167,7 +167,7 @@ module _ (f : Form) (c : Card) (R : Rules c) where
   unfolding saved headSaved marked four two
   head-trees = refl
 
-  head-labels : twoAt (saved f c) 13 ≡ count inUse (c .labels)
+  pub head-labels : twoAt (saved f c) 13 ≡ count inUse (c .labels)
   unfolding saved headSaved marked four two twoAt
   head-labels = two-back (labelCount - freeLabels c) (omega arith) ∙ used-count c (R .many)
 

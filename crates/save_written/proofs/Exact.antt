@@ -10,18 +10,18 @@ use lib.ListN.{drop, getD, length, set, replicate, length-append, length-set, le
 use lib.Seq.{drop-drop, drop-at, getD-set-other}
 use lib.Dec.{eqb, leb}
 use borrow.Author.Tests.{eqb-true, leb-true, le-leb}
-use Rattle.meaning.specs.Octets.{pick, count, all, two, four, twoAt, fourAt}
+use Rattle.meaning.specs.Octets.{pick, count, all, four, twoAt, fourAt}
 use Rattle.meaning.specs.Lists.{by-test, never, append-nil, count-less, getD-all, same-refl}
 use Rattle.meaning.specs.Card.{Route, Tree, Use, free, mapped, awaiting, Card, withLabel, isFree, freeLabels, labelCount, neighbourCount}
 use Rattle.meaning.specs.Wire.{elementRefusal}
 use Rattle.meaning.specs.Events.{workedOut}
-use Rattle.meaning_laws.specs.RoundTrip.{both, two-back}
+use Rattle.meaning_laws.specs.RoundTrip.{both}
 use Rattle.meaning_laws.specs.NoticeLaws.{Octets, two-spelt, four-spelt}
 use Rattle.meaning_laws.specs.SaveFields.{all-cons, useRecord, route-length, tree-after, use-after, use-label}
-use Rattle.meaning_laws.specs.SaveLists.{route-ok, tree-ok, mapped-ok, awaiting-ok, routes-length, trees-after, inUse, used-free}
+use Rattle.meaning_laws.specs.SaveLists.{route-ok, tree-ok, mapped-ok, awaiting-ok, routes-length, trees-after, inUse}
 use Rattle.meaning_laws.specs.SaveRules.{Rules, rules}
 use Rattle.meaning_laws.specs.SaveCounts.{read-ruled}
-use Rattle.meaning_laws.specs.SaveLaws.{read-fits, ruled-keeps, taken-is-save, head-length}
+use Rattle.meaning_laws.specs.SaveLaws.{after-head, head-labels, read-fits, ruled-keeps, taken-is-save, head-length}
 use Rattle.meaning_save.specs.Save.{Form, old, new, headKind, headSize, routeSize, lastPlace, marked, lastSaved, headSaved, routeSaved, treeSaved, useSaved, routesSaved, treesSaved, usesSaved, saved, routeRead, treeRead, treeEnd, useRead, useEnd, routesRead, treesRead, treesEnd, usesRead, labelled, allLabelled, lastIn, allWorkedOut, tableIn, isRoute, isTree, isUse, isShort, isShortTree, isShortUse, fitsSave, rowsRuled, isSave}
 use Rattle.octets.specs.Part.{tab}
 use Rattle.save_written.specs.Written.{routeWritten, treeWritten, useWritten, headWritten, routesWritten, treesWritten, usesWritten, rowsWritten, written}
@@ -301,17 +301,10 @@ module _ (f : Form) (o : List ℕ) where
     its-head = subst (λ (s : List ℕ). headWritten f s ≡ true) e (head-written f c (routesSaved (c .routes) ++ trees-on))
 
     its-labels : twoAt o 13 ≡ count inUse (c .labels)
-    its-labels = ap (λ (s : List ℕ). twoAt s 13) (sym e) ∙ counted ∙ omega (arith, used-free (c .labels), R .many, free-count)
-      where
-        counted : twoAt (saved f c) 13 ≡ labelCount - freeLabels c
-        counted = unfold saved headSaved marked four two twoAt in two-back (labelCount - freeLabels c) (omega arith)
-
-        free-count : freeLabels c ≡ count isFree (c .labels)
-        free-count = unfold freeLabels in refl
+    its-labels = ap (λ (s : List ℕ). twoAt s 13) (sym e) ∙ head-labels f c R
 
     routes-on : drop (headSize f) o ≡ routesSaved (c .routes) ++ trees-on
-    unfolding saved
-    routes-on = ap (drop (headSize f)) (sym e) ∙ drop-at (headSaved f c) (routesSaved (c .routes) ++ trees-on) (headSize f) (head-length f c)
+    routes-on = ap (drop (headSize f)) (sym e) ∙ after-head f c
 
     trees-begin : after-routes ≡ trees-on
     trees-begin =
