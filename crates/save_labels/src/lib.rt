@@ -11,7 +11,7 @@ ghost use Rattle.meaning.specs.Card.{withTrees, withLabels, withLast, treeAt, l
 ghost use Rattle.meaning_save.specs.Save.{formOf, lastPlace, useRead, usesRead, allLabelled, sameName, sameRoot, onceEach, holdsRight, tableIn, highestUsed, lastIn};
 ghost use Rattle.memory.specs.Sizes.{Numbers, Names};
 ghost use Rattle.memory.specs.Memory.{cardOf, baseIn, treeCount, labelIn, labelBefore};
-ghost use Rattle.save_tags.specs.Tags.{Tagged};
+ghost use Rattle.save_tags.specs.Tags.{Tagged, hintCount};
 ghost use Rattle.save_rows.specs.Stages.{rowsRead, labelsBegin};
 ghost use Rattle.save_labels.specs.Labels.{Unlabelled, given, OfBlock};
 use meaning::LABEL_COUNT;
@@ -23,6 +23,7 @@ use memory::LABELS;
 use memory::NAME_SPACE;
 use memory::NEIGHBOURS;
 use memory::NOBODY;
+use save_tags::HINT_COUNT;
 
 // ---- labels in use
 
@@ -79,32 +80,30 @@ fn read_uses(
 
 // ---- the label that each tree carries
 
-// The tree of the name that the label at place p is mapped for carries it from now on, unless it carries one already. Labels are mostly given
-// in the order of the trees: the tree at place `first` is asked before all others, and the place to ask first for the next label is handed back.
-fn give_label(numbers: &mut [u64], names: &[u8], tags: &[u32], p: usize, first: usize) -> usize
+// The tree of the name that the label at place p is mapped for carries it from now on, unless it carries one already.
+fn give_label(numbers: &mut [u64], names: &[u8], tags: &[u32], hints: &[u8], p: usize)
     requires { ⌜ (let c = cardOf (now numbers) (now names) in Numbers (now numbers) × Names (now names) × (length (now tags) ≡ treeLimit) × Tagged (now tags) (treeCount (now numbers)) (now names) × (p < labelCount) × (onceEach sameName (c .trees) ≡ true)
-        × ((j : ℕ) → j < treeCount (now numbers) → treeAt j c .label ≡ baseIn (now numbers) + p → ⊥)) ⌝ }
+        × ((j : ℕ) → j < treeCount (now numbers) → treeAt j c .label ≡ baseIn (now numbers) + p → ⊥) × (length (now hints) ≡ hintCount)) ⌝ }
     ensures { λ _. ⌜ (let c = cardOf (now (numbers .entry)) (now (names .entry)) in
         cardOf (now (numbers .exit)) (now (names .entry)) ≡ withTrees (map (given (baseIn (now (numbers .entry)) + p) (labelIn (now (numbers .entry)) (now (names .entry)) p)) (c .trees)) c) ⌝ }
 {
     if memory_labels::mapped_at(numbers, p) == NOBODY {
-        return first;
+        return;
     }
     let i = save_tags::tagged_near(
         numbers,
         names,
         tags,
-        first,
+        hints,
         memory_labels::label_name(names, p),
     );
     if memory::tree_count(numbers) <= i {
-        return first;
+        return;
     }
     if memory_trees::tree_label(numbers, i) != 0 {
-        return first;
+        return;
     }
     memory_marks::attach(numbers, i, p);
-    i + 1
 }
 
 fn label_trees(numbers: &mut [u64], names: &[u8])
@@ -114,10 +113,11 @@ fn label_trees(numbers: &mut [u64], names: &[u8])
 {
     let mut tags = [0u32; TREE_LIMIT];
     save_tags::tree_tags(numbers, names, &mut tags);
-    let mut first = 0;
+    let mut hints = [0u8; HINT_COUNT];
+    save_tags::tree_hints(numbers, &tags, &mut hints);
     let mut p = 0;
     while p < LABEL_COUNT {
-        first = give_label(numbers, names, &tags, p, first);
+        give_label(numbers, names, &tags, &hints, p);
         p += 1;
     }
 }

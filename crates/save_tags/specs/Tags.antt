@@ -10,6 +10,10 @@ use Rattle.memory.specs.Memory.{treeName}
 unfoldable pub tagOf : List ℕ → ℕ
 tagOf a = fourAt a (length a - 4)
 
+-- how many hints there are: as many as the last octet of a tag can tell apart
+abbrev pub hintCount : ℕ
+hintCount = 256
+
 -- the tags of the first n trees' names
 abbrev pub Tagged : List ℕ → ℕ → List ℕ → Type 0
 Tagged tags n os = (j : ℕ) → j < n → getD tags j 0 ≡ tagOf (treeName os j)

@@ -9,8 +9,11 @@ ghost use Rattle.meaning.specs.Card.{named, treePlace, treeLimit};
 ghost use Rattle.meaning_save.specs.Save.{onceEach, sameName};
 ghost use Rattle.memory.specs.Sizes.{Numbers, Names};
 ghost use Rattle.memory.specs.Memory.{cardOf, treeCount, treeName};
-ghost use Rattle.save_tags.specs.Tags.{tagOf, Tagged};
+ghost use Rattle.save_tags.specs.Tags.{tagOf, Tagged, hintCount};
 use meaning::TREE_LIMIT;
+
+// As many as the last octet of a tag can tell apart.
+pub const HINT_COUNT: usize = 256;
 
 fn tag(name: &[u8]) -> u32
     ensures { λ r. ⌜ r ≡ tagOf (now (name .entry)) ⌝ }
@@ -64,16 +67,40 @@ pub fn tagged_from(numbers: &[u64], names: &[u8], tags: &[u32], from: usize, nam
     n
 }
 
-// The place of the tree of that name, where no two trees have one name; the number of trees where none has it. The tree at place `first`, if
-// one stands there, is asked before all others.
-pub fn tagged_near(numbers: &[u64], names: &[u8], tags: &[u32], first: usize, name: &[u8]) -> usize
+// The place in the hints of the names with that tag.
+fn hint_place(t: u32) -> usize
+    ensures { λ r. ⌜ r < hintCount ⌝ }
+{
+    t as usize % HINT_COUNT
+}
+
+// For each tree a hint, which is its place. Of trees with one place in the hints the last one stays: a hint says whom to ask first, and tells
+// nothing by itself.
+pub fn tree_hints(numbers: &[u64], tags: &[u32], hints: &mut [u8])
+    requires { ⌜ Numbers (now numbers) × (length (now tags) ≡ treeLimit) × (length (now hints) ≡ hintCount) ⌝ }
+{
+    let n = memory::tree_count(numbers);
+    let mut i = 0;
+    while i < n {
+        let k = hint_place(tags[i]);
+        hints[k] = i as u8;
+        i += 1;
+    }
+}
+
+// The place of the tree of that name, where no two trees have one name; the number of trees where none has it. The tree that the hints name,
+// whatever they hold, is asked before all others.
+pub fn tagged_near(numbers: &[u64], names: &[u8], tags: &[u32], hints: &[u8], name: &[u8]) -> usize
     requires { ⌜ (let c = cardOf (now numbers) (now names) in Numbers (now numbers) × Names (now names) × (length (now tags) ≡ treeLimit) × Tagged (now tags) (treeCount (now numbers)) (now names)
-        × (onceEach sameName (c .trees) ≡ true)) ⌝ }
+        × (onceEach sameName (c .trees) ≡ true) × (length (now hints) ≡ hintCount)) ⌝ }
     ensures { λ r. ⌜ (r ≡ treePlace (now (name .entry)) (cardOf (now (numbers .entry)) (now (names .entry)))) × (r ≤ treeCount (now (numbers .entry))) × (r ≤ treeLimit) ⌝ }
 {
-    if first < memory::tree_count(numbers) {
-        if is_named(names, tags, first, tag(name), name) {
-            return first;
+    let t = tag(name);
+    let k = hint_place(t);
+    let i = hints[k] as usize;
+    if i < memory::tree_count(numbers) {
+        if is_named(names, tags, i, t, name) {
+            return i;
         }
     }
     tagged_from(numbers, names, tags, 0, name)

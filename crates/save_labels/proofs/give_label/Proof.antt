@@ -14,7 +14,7 @@ same-length c = search needs
 
 returns : tie.Need-returns
 returns c =
-    let s = c .before .before .before .before .before .before in
+    let s = c .before .before .before .before .before .before .before in
     given-none (s .args .numbers .now) (s .args .names .now) (s .args .p) (c .before .mapped-at .ensures .2 (c .if1 .taken))
 
 label-name-requires : tie.Need-label-name-requires
@@ -33,7 +33,7 @@ returns-2 : tie.Need-returns-2
 returns-2 c =
     let k = c .before .before .before in
     let m = k .before .before .before .before in
-    let s = m .before .before .before .before .before in
+    let s = m .before .before .before .before .before .before in
     given-out (s .args .numbers .now) (s .args .names .now) (s .args .p) _ _ (m .mapped-at .ensures .3 (k .before .before .before .if1 .left)) (k .before .label-name .ensures) (k .tagged-near .ensures .0) (s .pre .5) _ (c .before .tree-count .ensures .0) (c .if2 .taken)
 
 tree-label-requires : tie.Need-tree-label-requires
@@ -46,7 +46,7 @@ returns-3 : tie.Need-returns-3
 returns-3 c =
     let k = c .before .before .before .before .before .before in
     let m = k .before .before .before .before in
-    let s = m .before .before .before .before .before in
+    let s = m .before .before .before .before .before .before in
     given-before (s .args .numbers .now) (s .args .names .now) (s .args .p) _ _ (m .mapped-at .ensures .3 (k .before .before .before .if1 .left)) (k .before .label-name .ensures) (k .tagged-near .ensures .0) (s .pre .5) (λ z. c .if3 .taken (c .before .tree-label .ensures _ ∙ z))
 
 attach-requires : tie.Need-attach-requires
@@ -55,12 +55,9 @@ attach-requires c κs =
     let the-if2 = c .before .before .before .before .if2 in
     let k = c .before .before .before .before .before .before .before in
     let m = k .before .before .before .before in
-    let s = m .before .before .before .before .before in
+    let s = m .before .before .before .before .before .before in
     let n = the-tree-count .ensures in
     (s .pre .0, s .pre .4, m .mapped-at .ensures .3 (k .before .before .before .if1 .left), none-has (s .args .numbers .now) (s .args .names .now) (s .args .p) (s .pre .6), (omega (arith, n .0, the-if2 .left), omega (arith, n, the-if2 .left)))
-
-add-result : tie.Need-add-result
-add-result c = search needs
 
 same-length-4 : tie.Need-same-length-4
 same-length-4 c = search needs
@@ -71,7 +68,7 @@ returns-4 c =
     let l = c .before .before .before .before .before in
     let k = l .before .before .before .before .before in
     let m = k .before .before .before .before in
-    let s = m .before .before .before .before .before in
+    let s = m .before .before .before .before .before .before in
     given-now (s .args .numbers .now) (s .args .names .now) (s .args .p) _ _ (m .mapped-at .ensures .3 (k .before .before .before .if1 .left)) (k .before .label-name .ensures) (k .tagged-near .ensures .0) (s .pre .5) _ (omega (arith, l .before .before .before .tree-count .ensures .0, l .before .before .if2 .left)) (sym (l .tree-label .ensures _) ∙ the-if3 .left) (c .before .before .attach .ensures _)
 
 pub give-label-spec : {M : Type 1} → statement M
@@ -90,6 +87,5 @@ give-label-spec =
     same-length-3
     returns-3
     attach-requires
-    add-result
     same-length-4
     returns-4)
