@@ -188,10 +188,6 @@ module _ (t : Tree) where
   unfolding named
   tree-for r a e = rw e refl
 
-  pub name-like : (a : List ℕ) (l : List Tree) → a ≡ t .name → any (named a) l ≡ any (sameName t) l
-  unfolding sameName
-  name-like a l e = rw e refl
-
   pub holds : (c : Card) (u h k : ℕ) (a : List ℕ) → a ≡ t .name → u ≡ upstream (routeOf (rootIn a) c) → h ≡ heldFor c t → k ≡ holder u t → eqb h k ≡ holdsRight c t
   unfolding holdsRight holderOf
   holds c u h k a ea eu eh ek = rw (eh, ek, eu, ea) refl

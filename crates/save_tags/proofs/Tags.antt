@@ -1,15 +1,15 @@
 -- What tags tell: names whose tags differ are not the same. Assumes nothing.
-use Prim.Native.Nat.{ℕ, suc, _+_, _-_, _≤_, _<_}
+use Prim.Native.Nat.{ℕ, suc, _+_, _-_, _%_, _≤_, _<_, suc-le-suc, zero-le}
 use native.Mathlib.Omega.{arith}
 use mathlib.Core.Path.{_≡_, refl, sym, ap, _∙_}
 use mathlib.Core.Bool.{Bool, true, false}
 use mathlib.Core.List.{List, [], _∷_}
 use lib.ListN.{length, drop, getD, set, length-drop}
-use lib.Seq.{getD-set-same, getD-set-other}
+use lib.Seq.{getD-set-same, getD-set-other, getD-drop}
 use lib.Dec.{eqb, ltb}
-use borrow.Author.Tests.{eqb-true, eqb-false, ltb-true, ltb-false, lt-ltb, le-ltb}
+use borrow.Author.Tests.{eqb-true, eqb-false, ltb-true, ltb-false}
 use Rattle.meaning.specs.Octets.{place, any, same, fourAt}
-use Rattle.meaning.specs.Lists.{by-test, same-eq}
+use Rattle.meaning.specs.Lists.{by-test, same-eq, same-refl, same-flip, place-finds, place-skips}
 use Rattle.meaning.specs.Card.{Tree, Card, bare, named, treePlace}
 use Rattle.meaning_save.specs.Save.{onceEach, sameName}
 use Rattle.octets.specs.Part.{tab}
@@ -17,8 +17,8 @@ use Rattle.memory.specs.Memory.{cardOf, treeCount, treeIn, treeName}
 use Rattle.memory.proofs.Memory.{trees-length}
 use Rattle.memory.proofs.Trees.{named-at}
 use Rattle.octets.proofs.Tab.{tab-get}
-use Rattle.save_rules_rows.proofs.RowRules.{name-like, place-once}
-use Rattle.save_tags.specs.Tags.{tagOf, Tagged}
+use Rattle.save_rules_rows.proofs.RowRules.{place-once}
+use Rattle.save_tags.specs.Tags.{tagOf, Tagged, hintCount, hinted, Alone}
 
 pub tag-short : (a : List ℕ) (r : ℕ) → length a < 4 → r ≡ fourAt a 0 → r ≡ tagOf a
 unfolding tagOf
@@ -37,29 +37,9 @@ tagged-more tags os i v t h e j k =
 pub tag-tells : (a n : List ℕ) (t u : ℕ) → u ≡ tagOf n → t ≡ tagOf a → (u ≡ t → ⊥) → same n a ≡ false
 tag-tells a n t u eu et ne = by-test (same n a) (λ x. absurd (ne (eu ∙ ap tagOf (same-eq n a x) ∙ sym et))) (λ x. x)
 
--- one is found from there on where its place is below the end
-any-place {ℓ} : {A : Type ℓ} (t : A → Bool) (l : List A) → any t l ≡ ltb (place t l) (length l)
-unfolding any place
-any-place t [] = refl
-any-place t (x ∷ l) =
-    by-test (t x)
-    (λ k. rw k (sym (lt-ltb 0 (suc (length l)) (omega arith))))
-    (λ k. rw k (any-place t l ∙ by-test (ltb (place t l) (length l)) (λ y. y ∙ sym (lt-ltb (suc (place t l)) (suc (length l)) (omega (arith, ltb-true (place t l) (length l) y)))) (λ y. y ∙ sym (le-ltb (suc (place t l)) (suc (length l)) (omega (arith, ltb-false (place t l) (length l) y))))))
-
 pub trees-from : (a ns os : List ℕ) (from n : ℕ) → n ≡ treeCount ns → from + place (named a) (drop from (cardOf ns os .trees)) ≡ from + place (named a) (drop from (tab n (treeIn ns os)))
 unfolding cardOf
 trees-from a ns os from n e = rw e refl
-
-pub found-from : (a : List ℕ) (t : Tree) (ts : List Tree) (from n r : ℕ) → n ≡ length ts → from ≤ n → a ≡ t .name → r ≡ from + place (named a) (drop from ts) → ltb r n ≡ any (sameName t) (drop from ts)
-found-from a t ts from n r en h ea er =
-    let q : ℕ = place (named a) (drop from ts) in
-    let l : length (drop from ts) ≡ n - from = simp length-drop (omega arith) in
-    like ∙ sym (any-place (named a) (drop from ts) ∙ ap (ltb q) l) ∙ name-like t a (drop from ts) ea
-  where
-    like : ltb r n ≡ ltb (place (named a) (drop from ts)) (n - from)
-    like =
-        let q : ℕ = place (named a) (drop from ts) in
-        by-test (ltb r n) (λ y. y ∙ sym (lt-ltb q (n - from) (omega (arith, ltb-true r n y)))) (λ y. y ∙ sym (le-ltb q (n - from) (omega (arith, ltb-false r n y))))
 
 -- ---- the tree of a name, where no two trees have it
 
@@ -73,3 +53,99 @@ unfolding treePlace
 named-there a ns os i h once e =
     let its : named a (getD (cardOf ns os .trees) i (bare [])) ≡ true = unfold cardOf in rw (tab-get (treeCount ns) (treeIn ns os) i (bare []) h) (named-at a ns os i _ refl ∙ e) in
     sym (place-once a (cardOf ns os .trees) i (bare []) once (rw trees-length h) its)
+
+-- ---- no two trees of one name
+
+none-any {ℓ} : {A : Type ℓ} (t : A → Bool) (l : List A) (d : A) → ((j : ℕ) → j < length l → t (getD l j d) ≡ false) → any t l ≡ false
+unfolding any
+none-any t [] d h = refl
+none-any t (x ∷ l) d h = rw (h 0 (suc-le-suc zero-le)) (none-any t l d (λ j k. h (suc j) (suc-le-suc k)))
+
+once-of : (ts : List Tree) (d : Tree) → ((i j : ℕ) → i < j → j < length ts → sameName (getD ts i d) (getD ts j d) ≡ false) → onceEach sameName ts ≡ true
+unfolding onceEach
+once-of [] d h = refl
+once-of (t ∷ ts) d h =
+    rw (none-any (sameName t) ts d (λ j k. h 0 (suc j) (suc-le-suc zero-le) (suc-le-suc k)))
+    (once-of ts d (λ i j lt k. h (suc i) (suc j) (suc-le-suc lt) (suc-le-suc k)))
+
+module _ (ns os : List ℕ) where
+  name-of : (i : ℕ) → i < treeCount ns → getD (cardOf ns os .trees) i (bare []) .name ≡ treeName os i
+  unfolding cardOf treeIn
+  name-of i h = ap (λ (t : Tree). t .name) (tab-get (treeCount ns) (treeIn ns os) i (bare []) h)
+
+  -- two trees that their hints name have not one name, since names of one tag have one place in the hints
+  apart : (tags hints : List ℕ) → Tagged tags (treeCount ns) os → ((k : ℕ) → k < treeCount ns → hinted tags hints k ≡ false → Alone os (treeCount ns) k)
+      → (i j : ℕ) → i < j → j < treeCount ns → same (treeName os j) (treeName os i) ≡ false
+  unfolding hinted
+  apart tags hints tagged told i j lt jn =
+      by-test (hinted tags hints i)
+      (λ hi. by-test (hinted tags hints j)
+      (λ hj. by-test (same (treeName os j) (treeName os i))
+      (λ e.
+      let tag : getD tags j 0 ≡ getD tags i 0 = tagged j jn ∙ ap tagOf (same-eq (treeName os j) (treeName os i) e) ∙ sym (tagged i (omega arith)) in
+      let one : j ≡ i = sym (eqb-true _ j hj) ∙ ap (λ (t : ℕ). getD hints (t % hintCount) 0) tag ∙ eqb-true _ i hi in
+      absurd (omega arith))
+      (λ e. e))
+      (λ hj. same-flip (treeName os i) (treeName os j) (told j jn hj i (omega arith) (λ e. omega arith))))
+      (λ hi. told i (omega arith) hi j jn (λ e. omega arith))
+
+  pub all-told : (tags hints : List ℕ) → Tagged tags (treeCount ns) os → ((k : ℕ) → k < treeCount ns → hinted tags hints k ≡ false → Alone os (treeCount ns) k)
+      → onceEach sameName (cardOf ns os .trees) ≡ true
+  all-told tags hints tagged told =
+      once-of (cardOf ns os .trees) (bare []) (λ i j lt k.
+      let jn : j < treeCount ns = rw trees-length at k in
+      unfold sameName named in rw (name-of i (omega arith), name-of j jn) (apart tags hints tagged told i j lt jn))
+
+  module _ (i : ℕ) (h : i < treeCount ns) (a : List ℕ) (ea : a ≡ treeName os i) where
+    own : named a (getD (cardOf ns os .trees) i (bare [])) ≡ true
+    unfolding named
+    own = rw (name-of i h, ea) (same-refl (treeName os i))
+
+    inside : i < length (cardOf ns os .trees)
+    inside = rw trees-length h
+
+    pub double-before : (r : ℕ) → r ≡ 0 + place (named a) (drop 0 (cardOf ns os .trees)) → r < i → onceEach sameName (cardOf ns os .trees) ≡ false
+    double-before r er lt =
+        by-test (onceEach sameName (cardOf ns os .trees))
+        (λ once. let e = place-once a (cardOf ns os .trees) i (bare []) once inside own in absurd (omega arith))
+        (λ e. e)
+
+    pub double-behind : (r : ℕ) → r ≡ i + 1 + place (named a) (drop (i + 1) (cardOf ns os .trees)) → r < treeCount ns → onceEach sameName (cardOf ns os .trees) ≡ false
+    double-behind r er lt =
+        let ts : List Tree = cardOf ns os .trees in
+        let q : ℕ = place (named a) (drop (i + 1) ts) in
+        let long : length ts ≡ treeCount ns = trees-length ns os in
+        by-test (onceEach sameName ts)
+        (λ once.
+        let found : named a (getD ts (i + 1 + q) (bare [])) ≡ true =
+        ap (named a) (sym (getD-drop (i + 1) ts q (bare []))) ∙ place-finds (named a) (drop (i + 1) ts) (bare []) (simp length-drop (omega arith)) in
+        let here = place-once a ts i (bare []) once inside own in
+        let there = place-once a ts (i + 1 + q) (bare []) once (omega arith) found in
+        absurd (omega arith))
+        (λ e. e)
+
+    skipped : (j : ℕ) → j < treeCount ns → named a (getD (cardOf ns os .trees) j (bare [])) ≡ false → same (treeName os j) (treeName os i) ≡ false
+    unfolding named
+    skipped j jn e = rw (name-of j jn, ea) at e
+
+    pub alone : (r q : ℕ) → r ≡ 0 + place (named a) (drop 0 (cardOf ns os .trees)) → i ≤ r → q ≡ i + 1 + place (named a) (drop (i + 1) (cardOf ns os .trees)) → treeCount ns ≤ q → Alone os (treeCount ns) i
+    alone r q er lr eq lq j jn ne =
+        let ts : List Tree = cardOf ns os .trees in
+        by-test (ltb j i)
+        (λ t. let lt = ltb-true j i t in skipped j jn (place-skips (named a) ts (bare []) j (omega arith)))
+        (λ t. by-test (ltb i j)
+        (λ u.
+        let lt = ltb-true i j u in
+        let at : i + 1 + (j - (i + 1)) ≡ j = omega arith in
+        skipped j jn
+        (ap (λ (k : ℕ). named a (getD ts k (bare []))) (sym at)
+        ∙ ap (named a) (sym (getD-drop (i + 1) ts (j - (i + 1)) (bare [])))
+        ∙ place-skips (named a) (drop (i + 1) ts) (bare []) (j - (i + 1)) (omega arith)))
+        (λ u. absurd (ne (omega (arith, ltb-false j i t, ltb-false i j u)))))
+
+-- one tree more that is told from the others
+pub told-more : (tags hints os : List ℕ) (n i : ℕ) → ((k : ℕ) → k < i → hinted tags hints k ≡ false → Alone os n k) → (hinted tags hints i ≡ false → Alone os n i) → (k : ℕ) → k < i + 1 → hinted tags hints k ≡ false → Alone os n k
+told-more tags hints os n i before this k lt =
+    by-test (eqb k i)
+    (λ e. let q : k ≡ i = eqb-true k i e in rw q this)
+    (λ e. let ne = eqb-false k i e in before k (by-test (ltb k i) (λ y. ltb-true k i y) (λ y. absurd (ne (omega (arith, ltb-false k i y))))))

@@ -1,15 +1,15 @@
 // Trees sought by their names while a save is read. The last four octets of each tree's name, as a number, are read once: names that differ
 // there, as most do, are told apart without a look at their octets.
 ghost use mathlib.Core.Path.{_≡_};
-ghost use mathlib.Core.Bool.{true};
-ghost use Prim.Native.Nat.{_+_, _≤_, _<_};
+ghost use mathlib.Core.Bool.{true, false};
+ghost use Prim.Native.Nat.{_+_, _%_, _≤_, _<_};
 ghost use lib.ListN.{length, drop, getD};
 ghost use Rattle.meaning.specs.Octets.{place, same};
 ghost use Rattle.meaning.specs.Card.{named, treePlace, treeLimit};
 ghost use Rattle.meaning_save.specs.Save.{onceEach, sameName};
 ghost use Rattle.memory.specs.Sizes.{Numbers, Names};
-ghost use Rattle.memory.specs.Memory.{cardOf, treeCount, treeName};
-ghost use Rattle.save_tags.specs.Tags.{tagOf, Tagged, hintCount};
+ghost use Rattle.memory.specs.Memory.{cardOf, treeCount, treeName, StandsAt};
+ghost use Rattle.save_tags.specs.Tags.{tagOf, Tagged, hintCount, hinted, Alone};
 use meaning::TREE_LIMIT;
 
 // As many as the last octet of a tag can tell apart.
@@ -69,7 +69,7 @@ pub fn tagged_from(numbers: &[u64], names: &[u8], tags: &[u32], from: usize, nam
 
 // The place in the hints of the names with that tag.
 fn hint_place(t: u32) -> usize
-    ensures { λ r. ⌜ r < hintCount ⌝ }
+    ensures { λ r. ⌜ (r ≡ t % hintCount) × (r < hintCount) ⌝ }
 {
     t as usize % HINT_COUNT
 }
@@ -106,25 +106,52 @@ pub fn tagged_near(numbers: &[u64], names: &[u8], tags: &[u32], hints: &[u8], na
     tagged_from(numbers, names, tags, 0, name)
 }
 
-// No two trees have one name.
+// Whether the hint at the place of its tag names the tree at place i.
+fn is_hinted(tags: &[u32], hints: &[u8], i: usize) -> bool
+    requires { ⌜ (length (now tags) ≡ treeLimit) × (length (now hints) ≡ hintCount) × (i < treeLimit) ⌝ }
+    ensures { λ r. ⌜ r ≡ hinted (now (tags .entry)) (now (hints .entry)) i ⌝ }
+{
+    let k = hint_place(tags[i]);
+    hints[k] as usize == i
+}
+
+// Whether another tree has the name of the tree at place i.
+fn has_double(numbers: &[u64], names: &[u8], tags: &[u32], i: usize) -> bool
+    requires { ⌜ Numbers (now numbers) × Names (now names) × (length (now tags) ≡ treeLimit) × Tagged (now tags) (treeCount (now numbers)) (now names) × StandsAt (now numbers) i ⌝ }
+    ensures { λ r. ⌜ (r ≡ true → onceEach sameName (cardOf (now (numbers .entry)) (now (names .entry)) .trees) ≡ false) × (r ≡ false → Alone (now (names .entry)) (treeCount (now (numbers .entry))) i) ⌝ }
+{
+    let name = memory_trees::tree_name(names, i);
+    if tagged_from(numbers, names, tags, 0, name) < i {
+        return true;
+    }
+    tagged_from(numbers, names, tags, i + 1, name) < memory::tree_count(numbers)
+}
+
+// Whether the tree at place i is told from the others: its hint names it, or no other has its name.
+fn is_told(numbers: &[u64], names: &[u8], tags: &[u32], hints: &[u8], i: usize) -> bool
+    requires { ⌜ Numbers (now numbers) × Names (now names) × (length (now tags) ≡ treeLimit) × Tagged (now tags) (treeCount (now numbers)) (now names) × (length (now hints) ≡ hintCount) × StandsAt (now numbers) i ⌝ }
+    ensures { λ r. ⌜ (r ≡ true → hinted (now (tags .entry)) (now (hints .entry)) i ≡ false → Alone (now (names .entry)) (treeCount (now (numbers .entry))) i)
+        × (r ≡ false → onceEach sameName (cardOf (now (numbers .entry)) (now (names .entry)) .trees) ≡ false) ⌝ }
+{
+    if is_hinted(tags, hints, i) {
+        return true;
+    }
+    !has_double(numbers, names, tags, i)
+}
+
+// No two trees have one name. Two that their hints name have two places in the hints, and so two tags: the name of any other is sought.
 pub fn names_once(numbers: &[u64], names: &[u8]) -> bool
     requires { ⌜ Numbers (now numbers) × Names (now names) ⌝ }
     ensures { λ r. ⌜ r ≡ onceEach sameName (cardOf (now (numbers .entry)) (now (names .entry)) .trees) ⌝ }
 {
     let mut tags = [0u32; TREE_LIMIT];
     tree_tags(numbers, names, &mut tags);
+    let mut hints = [0u8; HINT_COUNT];
+    tree_hints(numbers, &tags, &mut hints);
     let n = memory::tree_count(numbers);
     let mut i = 0;
     while i < n {
-        if tagged_from(
-            numbers,
-            names,
-            &tags,
-            i + 1,
-            memory_trees::tree_name(names, i),
-        )
-            < n
-        {
+        if !is_told(numbers, names, &tags, &hints, i) {
             return false;
         }
         i += 1;
