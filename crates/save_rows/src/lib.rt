@@ -5,7 +5,7 @@ ghost use Prim.Native.Nat.{ℕ, _+_, _*_, _≤_, _<_};
 ghost use lib.ListN.{drop, set, getD};
 ghost use Rattle.meaning.specs.Octets.{fourAt};
 ghost use Rattle.meaning.specs.Card.{withRoutes, withTrees, bare, treeAt, routeLimit, treeLimit, neighbourCount, mostBase};
-ghost use Rattle.meaning_save.specs.Save.{formOf, nameIn, extent, routeRead, treeRead, foursIn, routesRead, treesRead, treesEnd};
+ghost use Rattle.meaning_save.specs.Save.{formOf, nameIn, extent, routeRead, treeRead, foursIn, routesRead, treesRead, treesEnd, treeBeside};
 ghost use Rattle.memory.specs.Sizes.{Numbers, Names};
 ghost use Rattle.memory.specs.Memory.{cardOf, treeCount, routeCount, StandsAt};
 ghost use Rattle.save_rows.specs.Stages.{withBranches, rowsRead, labelsBegin};
@@ -96,7 +96,7 @@ fn read_trees(
 ) -> usize
     requires { ⌜ Numbers (now numbers) × Names (now names) × (n ≤ treeLimit) × (from < 65536) × (cardOf (now numbers) (now names) .trees ≡ []) ⌝ }
     ensures { λ r. ⌜ (cardOf (now (numbers .exit)) (now (names .exit)) ≡ withTrees (treesRead (formOf second) n (drop from (now (octets .entry)))) (cardOf (now (numbers .entry)) (now (names .entry))))
-        × (drop r (now (octets .entry)) ≡ treesEnd (formOf second) n (drop from (now (octets .entry)))) × (r ≤ from + n * 324) ⌝ }
+        × (drop r (now (octets .entry)) ≡ treesEnd (formOf second) n (drop from (now (octets .entry)))) × (r ≤ from + n * (treeBeside + 256)) ⌝ }
 {
     let mut at = from;
     let mut i = 0;

@@ -2,7 +2,7 @@
 use borrow.Author.Needs.{needs}
 use Rattle.save_rows.proofs.Rows.{trees-none, none-behind, trees-room, trees-more, tree-behind}
 use Rattle.memory.specs.Memory.{cardOf}
-use Rattle.meaning_save.specs.Save.{formOf, treesRead, treesEnd}
+use Rattle.meaning_save.specs.Save.{formOf, treesRead, treesEnd, treeBeside}
 use Rattle.meaning.specs.Card.{withTrees}
 use lib.ListN.{drop, length}
 use Prim.Native.Nat.{_+_, _*_, _-_, _≤_}
@@ -12,7 +12,7 @@ use Rattle.save_rows.proofs.read_trees.Statement.{statement}
 use Rattle.save_rows.proofs.read_trees.Tie as tie
 
 abbrev Inv-loop : tie.InvT-loop
-Inv-loop octets from second n numbers₀ names₀ at₀ i₀ numbers names at i = (i ≤ n) × (length numbers ≡ length numbers₀) × (length names ≡ length names₀) × (cardOf numbers names ≡ withTrees (treesRead (formOf second) i (drop from octets)) (cardOf numbers₀ names₀)) × (drop at octets ≡ treesEnd (formOf second) i (drop from octets)) × (at ≤ from + i * 324)
+Inv-loop octets from second n numbers₀ names₀ at₀ i₀ numbers names at i = (i ≤ n) × (length numbers ≡ length numbers₀) × (length names ≡ length names₀) × (cardOf numbers names ≡ withTrees (treesRead (formOf second) i (drop from octets)) (cardOf numbers₀ names₀)) × (drop at octets ≡ treesEnd (formOf second) i (drop from octets)) × (at ≤ from + i * (treeBeside + 256))
 
 abbrev μ-loop : tie.MeasureT-loop
 μ-loop octets from second n numbers₀ names₀ at₀ i₀ numbers names at i = n - i
