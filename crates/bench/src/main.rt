@@ -1,4 +1,6 @@
 // Reads orders from standard input, a line each, and writes one line for each order.
+#![tactic(auto)]
+
 ghost use Rattle.std.specs.Prelude.{◌≡◌, ℕ, ◌≤◌, List, length};
 ghost use Rattle.memory.specs.Memory.{card_of};
 ghost use Rattle.bench_verbs.specs.Line.{line_limit, order_of};
@@ -18,7 +20,7 @@ use memory::{NUMBER_COUNT, OCTET_COUNT};
 const WHOLE_ROOM: u32 = SAVE_LIMIT as u32;
 
 // How many lines are done, how much of the next is kept, and the room.
-#[derive(Drop)]
+#[derive(Clone, Copy)]
 struct State {
     number: u64,
     kept: usize,

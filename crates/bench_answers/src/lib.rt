@@ -1,4 +1,6 @@
 // What a line is answered with: the order that it is, obeyed, and the line that tells of it, at the front of a lent text.
+#![tactic(auto)]
+
 ghost use Rattle.std.specs.Prelude.{◌≡◌, List, ℕ, ◌≤◌, length, take};
 ghost use Rattle.meaning.specs.Card.{Card, sent_limit};
 ghost use Rattle.meaning.specs.Calls.{Does};
@@ -236,7 +238,7 @@ fn obey(
 }
 
 // What a line is answered with: a text's length, and the room from here on.
-#[derive(Drop)]
+#[derive(Clone, Copy)]
 pub struct Answered {
     pub length: usize,
     pub room: u32,

@@ -1,11 +1,13 @@
 // A line that comes octet by octet, and the octets of the input, read chunk by chunk.
+#![tactic(auto)]
+
 ghost use Rattle.std.specs.Prelude.{List, [], ◌∷◌, ◌++◌, ℕ, ◌≤◌, length};
 ghost use Rattle.bench_input.specs.Kept.{Keeps};
 
 use libc::STDIN_FILENO;
 
 // How many octets came, and whether there is more to read.
-#[derive(Drop)]
+#[derive(Clone, Copy)]
 pub struct Got {
     pub count: usize,
     pub more: bool,

@@ -1,4 +1,6 @@
 // The layers of a name as text, at a place of a lent text: the reader calls itself on the part from the name inside on.
+#![tactic(auto)]
+
 ghost use Rattle.std.specs.Prelude.{◌≡◌, ◌∷◌, ◌++◌, ◌+◌, ◌*◌, ◌≤◌, length, take};
 ghost use Rattle.meaning.specs.Wire.{root_length, opaque_in, element_refusal, name_limit, root_limit};
 ghost use Rattle.meaning_layers.specs.Layers.{before_inner, layer_of, peel, read, eight_size};

@@ -1,4 +1,6 @@
 // The text of an answer: a line of the bench program, laid to the front of a lent text part by part.
+#![tactic(auto)]
+
 ghost use Rattle.std.specs.Prelude.{◌+◌, ◌*◌, ◌≤◌, ◌≡◌, [], ◌∷◌, ◌++◌, length, take};
 ghost use Rattle.meaning.specs.Octets.{pick};
 ghost use Rattle.meaning.specs.Card.{branches_from, neighbour_count};

@@ -1,4 +1,6 @@
 // One line of the bench program: the order that its words make.
+#![tactic(auto)]
+
 ghost use Rattle.std.specs.Prelude.{◌≡◌, [], ◌∷◌, ◌≤◌, length, drop};
 ghost use Rattle.bench_words.specs.Words.{part, words, is_hex};
 ghost use Rattle.bench_words.specs.Scan.{number_in};
@@ -28,7 +30,7 @@ const OLD_SAVE_DIGITS: usize = 2 * OLD_SAVE_LIMIT;
 pub const LINE_LIMIT: usize = 131072;
 
 // What a line orders. `start..end` is where the word of HEX lies in the line. `second` says that a save is of the new form.
-#[derive(Drop)]
+#[derive(Clone, Copy)]
 pub enum Order {
     Blank,
     Bad,

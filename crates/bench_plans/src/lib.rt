@@ -1,4 +1,6 @@
 // The orders on plans: the planner or the checker is asked, and the line that tells of it is written to the front of a lent text.
+#![tactic(auto)]
+
 ghost use Rattle.std.specs.Prelude.{◌≡◌, ℕ, ◌+◌, ◌≤◌, length, take, drop};
 ghost use Rattle.memory.specs.Memory.{card_of};
 ghost use Rattle.meaning_plan.specs.PlanOctets.{entry_size, entry_in, list_in, list_limit, checked_octets, planned_octets};

@@ -1,4 +1,6 @@
 // What a call of the card is lent for an order: the octets that the order brings, and room for the octets that it writes.
+#![tactic(auto)]
+
 ghost use Rattle.std.specs.Prelude.{◌≡◌, min, length, take};
 ghost use Rattle.meaning.specs.Card.{sent_limit};
 ghost use Rattle.bench_words.specs.Words.{input_limit};

@@ -1,4 +1,6 @@
 // The orders of the bench on saves: the call of either form that each is, and the line that tells of it, at the front of a lent text.
+#![tactic(auto)]
+
 ghost use Rattle.std.specs.Prelude.{◌≡◌, ℕ, ◌≤◌, ◌*◌, length, take};
 ghost use Rattle.meaning.specs.Card.{Card};
 ghost use Rattle.meaning_save.specs.Save.{old, new, form_of, save_limit};

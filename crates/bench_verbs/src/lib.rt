@@ -1,9 +1,11 @@
 // The verb of a line of the bench program.
+#![tactic(auto)]
+
 ghost use Rattle.std.specs.Prelude.{◌≡◌};
 ghost use Rattle.bench_verbs.specs.Line.{plan_verb, layer_verb, save_verb, requested_verb, verb_of};
 
 // The word that begins an order. Where an order is of a save, the mark says that it is one of the new form.
-#[derive(Drop)]
+#[derive(Clone, Copy)]
 pub enum Verb {
     Start,
     Room,

@@ -1,4 +1,6 @@
 // What a line of the bench program is made of: words, decimal numbers, octets as HEX; and texts, numbers and octets written.
+#![tactic(auto)]
+
 ghost use Rattle.std.specs.Prelude.{◌≡◌, false, ◌+◌, ◌*◌, ◌/◌, ◌≤◌, ◌<◌, length, take, drop, get_or};
 ghost use Rattle.meaning.specs.Octets.{all};
 ghost use Rattle.bench_words.specs.Words.{is_gap, words, is_digit, is_upper, is_lower, is_hex_digit, digit, is_hex_to, is_hex, octets_of};
@@ -13,7 +15,7 @@ pub const HEX_LIMIT: usize = 2 * INPUT_LIMIT;
 // ---- words
 
 // A word of a line lies at `start..end`; where there is none the two are equal.
-#[derive(Drop)]
+#[derive(Clone, Copy)]
 pub struct Word {
     pub start: usize,
     pub end: usize,
@@ -84,7 +86,7 @@ pub fn put_text(out: &mut [u8], text: &[u8]) -> usize
 
 // ---- numbers
 
-#[derive(Drop)]
+#[derive(Clone, Copy)]
 pub enum Number {
     None,
     Is(u32),

@@ -1,4 +1,6 @@
 // Orders on names inside names: the call is made, and the line that tells of it is written to the front of a lent text.
+#![tactic(auto)]
+
 ghost use Rattle.std.specs.Prelude.{◌≡◌, ℕ, ◌≤◌, length, take};
 ghost use Rattle.meaning.specs.Wire.{name_limit};
 ghost use Rattle.meaning.specs.Card.{Card};

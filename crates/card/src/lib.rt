@@ -1,5 +1,7 @@
 // The label part: start and events; `card_lookups` has the lookups. The card lies in two arrays that the caller lends; any content of them denotes a card.
 // Each event has a core, which says what becomes of the whole output, and a call that hands back the part that holds the records.
+#![tactic(auto)]
+
 ghost use Rattle.std.specs.Prelude.{◌≡◌, List, ℕ, length};
 ghost use Rattle.meaning.specs.Events.{start, event, receive, join, leave, route, lost, not_root};
 ghost use Rattle.meaning.specs.Calls.{Does, Hands};

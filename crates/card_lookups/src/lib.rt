@@ -1,4 +1,6 @@
 // Where a label or a name leads: the branches are laid into a lent array, and the leaf mark is handed back.
+#![tactic(auto)]
+
 ghost use Rattle.std.specs.Prelude.{◌≡◌, List, ℕ, ◌<◌};
 ghost use Rattle.meaning.specs.Card.{free_labels, tree_at, feed_of, lookup_label, lookup_name, nothing};
 ghost use Rattle.memory.specs.Sizes.{Numbers, Names};
@@ -70,7 +72,7 @@ pub fn find_name(
 // ---- the calls: a core lays the branches into a lent array and hands back the leaf mark, a call hands both back by value
 
 // Sixteen branch labels, one for each neighbour and 0 for none, and the leaf mark. Nothing is no branch and no leaf.
-#[derive(Drop)]
+#[derive(Clone, Copy)]
 pub struct Feed {
     pub leaf: bool,
     pub branches: [u64; NEIGHBOUR_COUNT],

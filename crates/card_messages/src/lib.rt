@@ -1,4 +1,6 @@
 // A message from a neighbour: read, and handed to the event of its kind.
+#![tactic(auto)]
+
 ghost use Rattle.std.specs.Prelude.{◌≤◌, ◌<◌, length};
 ghost use Rattle.meaning.specs.Wire.{name_limit, least_label};
 ghost use Rattle.meaning.specs.Events.{finish, on_message};

@@ -1,4 +1,6 @@
 // What is written is read back the same, for both address lengths and every length of an opaque value that is one element.
+#![tactic(auto)]
+
 ghost use Rattle.std.specs.Prelude.{◌≡◌, ◌+◌, ◌<◌, ◌≤◌, length};
 ghost use Rattle.meaning.specs.Wire.{opaque_limit, root_limit, name_limit};
 
@@ -13,7 +15,7 @@ const SHORTEST: u8 = 3;
 const ROOM: usize = RECORD_LIMIT + 2;
 
 // What a record says beside its name.
-#[derive(Drop)]
+#[derive(Clone, Copy)]
 struct Sent {
     to: u64,
     kind: u64,

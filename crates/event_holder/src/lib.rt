@@ -1,4 +1,6 @@
 // For whom a tree holds its label, and what it takes to move it: labels, and octets of output.
+#![tactic(auto)]
+
 ghost use Rattle.std.specs.Prelude.{◌≡◌, List, ℕ, ◌+◌, ◌*◌, ◌≤◌, ◌<◌};
 ghost use Rattle.meaning.specs.Wire.{root_in, record_limit};
 ghost use Rattle.meaning.specs.Card.{with_branch, with_leaf, tree_at, route_of, route_place, this_node, nobody};

@@ -1,4 +1,6 @@
 // A leaf that leaves its tree. All refusals, 16 too, are tested before the table changes or an octet is written.
+#![tactic(auto)]
+
 ghost use Rattle.std.specs.Prelude.{◌≡◌, List, ℕ, ◌<◌, length};
 ghost use Rattle.meaning.specs.Octets.{◌when◌else◌};
 ghost use Rattle.meaning.specs.Card.{tree_at, tree_place};

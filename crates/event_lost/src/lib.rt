@@ -1,5 +1,7 @@
 // A neighbour's session is lost: its room is tested before anything is written, all that is its own goes, labels that lead nowhere
 // any more are given up, and empty trees go.
+#![tactic(auto)]
+
 ghost use Rattle.std.specs.Prelude.{◌≡◌, ◌+◌, ◌*◌, ◌≤◌, ◌<◌, length, ltb};
 ghost use Rattle.meaning.specs.Wire.{records, record_limit};
 ghost use Rattle.meaning.specs.Card.{tree_at, tree_limit, neighbour_count};

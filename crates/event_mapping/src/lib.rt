@@ -1,4 +1,6 @@
 // A Mapping. It tests all its refusals, 16 too, before it changes the table or writes an octet.
+#![tactic(auto)]
+
 ghost use Rattle.std.specs.Prelude.{◌≡◌, List, ℕ, ◌≤◌, ◌<◌, length};
 ghost use Rattle.meaning.specs.Wire.{name_limit, least_label};
 ghost use Rattle.meaning.specs.Card.{tree_at, tree_place, neighbour_count};

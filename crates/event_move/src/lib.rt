@@ -1,4 +1,6 @@
 // The rule of labels, in memory and on the wire: a tree gives up its label and is given one, and the records say so.
+#![tactic(auto)]
+
 ghost use Rattle.std.specs.Prelude.{◌≡◌, ◌+◌, ◌≤◌, ◌<◌, length};
 ghost use Rattle.meaning.specs.Wire.{records, record_size};
 ghost use Rattle.meaning.specs.Card.{tree_at, free_labels, neighbour_count, this_node, nobody};
@@ -10,7 +12,7 @@ ghost use Rattle.event_holder.specs.Move.{Wrote, move_size, relabel_size};
 use memory::NOBODY;
 
 // Where the next record goes, and its identifier.
-#[derive(Drop)]
+#[derive(Clone, Copy)]
 pub struct Written {
     pub at: usize,
     pub id: u32,

@@ -1,4 +1,6 @@
 // All that is a lost neighbour's goes: its branches, its labels, the routes through it. Nothing is sent for it.
+#![tactic(auto)]
+
 ghost use Rattle.std.specs.Prelude.{◌≡◌, true, List, [], ℕ, ◌+◌, ◌*◌, ◌≤◌, ◌<◌, get_or, set, eqb};
 ghost use Rattle.meaning.specs.Octets.{pick, cut};
 ghost use Rattle.meaning.specs.Card.{no_entry, label_count, route_limit, tree_at, with_branch, with_routes, with_trees, with_labels, neighbour_count};

@@ -1,4 +1,6 @@
 // The trees of a root, oldest first: what a route order takes, and the move of them all.
+#![tactic(auto)]
+
 ghost use Rattle.std.specs.Prelude.{◌≡◌, List, ℕ, ◌+◌, ◌≤◌, ◌<◌, ◌*◌, length, ltb, true};
 ghost use Rattle.meaning.specs.Octets.{◌when◌else◌};
 ghost use Rattle.meaning.specs.Wire.{records, record_limit};
@@ -13,7 +15,7 @@ use meaning::RECORD_LIMIT;
 use memory::NOBODY;
 
 // What a move takes: how many free labels, and how many octets its records have.
-#[derive(Drop)]
+#[derive(Clone, Copy)]
 pub struct Takes {
     pub labels: usize,
     pub octets: usize,

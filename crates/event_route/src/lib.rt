@@ -1,4 +1,6 @@
 // The route order: all its refusals are tested before the first label moves or the first octet is written.
+#![tactic(auto)]
+
 ghost use Rattle.std.specs.Prelude.{◌≡◌, List, ℕ, ◌+◌, ◌≤◌, ◌<◌, length, ◌&&◌, eqb, leb, ltb};
 ghost use Rattle.meaning.specs.Octets.{◌when◌else◌};
 ghost use Rattle.meaning.specs.Wire.{root_limit};

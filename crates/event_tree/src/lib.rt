@@ -1,4 +1,6 @@
 // What the events of one tree share: for whom it is to hold a label, what refuses it, and how it ends.
+#![tactic(auto)]
+
 ghost use Rattle.std.specs.Prelude.{◌≡◌, List, ℕ, ◌+◌, ◌*◌, ◌≤◌, ◌<◌, length, leb, ltb};
 ghost use Rattle.meaning.specs.Octets.{◌when◌else◌};
 ghost use Rattle.meaning.specs.Wire.{root_in, records, record_limit};

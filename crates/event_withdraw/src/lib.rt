@@ -1,4 +1,6 @@
 // A Withdraw, and a Release. Each tests all its refusals, 16 too, before it changes the table or writes an octet.
+#![tactic(auto)]
+
 ghost use Rattle.std.specs.Prelude.{◌≡◌, List, ℕ, ◌≤◌, ◌<◌, length};
 ghost use Rattle.meaning.specs.Wire.{name_limit, least_label};
 ghost use Rattle.meaning.specs.Card.{tree_at, tree_place, with_branch, is_empty, neighbour_count};

@@ -1,6 +1,8 @@
 // The calls for C of events and the start: include/card.h declares them. Each is the call by that name of `card`, with its contract.
 // An array that is lent passes as one pointer, a slice as a pointer and a length, so nothing of the card is copied. The number handed
 // back says how many octets of the output were written.
+#![tactic(auto)]
+
 ghost use Rattle.std.specs.Prelude.{◌≡◌, List, ℕ, length};
 ghost use Rattle.meaning.specs.Events.{start, event, receive, join, leave, route, lost};
 ghost use Rattle.meaning.specs.Calls.{Does};

@@ -1,5 +1,7 @@
 // The calls for C of names inside names: include/card.h declares them. How many layers a name has and where each lies, which are read from the
 // name alone; a name wrapped in a layer, and unwrapped. No card is lent.
+#![tactic(auto)]
+
 ghost use Rattle.std.specs.Prelude.{◌≡◌, ◌∷◌, ◌<◌, length};
 ghost use Rattle.meaning_layers.specs.Layers.{read, wrap, unwrap};
 ghost use Rattle.meaning_layers.specs.LayerCalls.{Writes, layer_in, lengths_of};

@@ -1,4 +1,6 @@
 // The calls for C of lookups: include/card.h declares them. The branches go into a lent array, and the leaf mark is handed back.
+#![tactic(auto)]
+
 ghost use Rattle.std.specs.Prelude.{◌≡◌, List, ℕ};
 ghost use Rattle.meaning.specs.Card.{free_labels, lookup_label, lookup_name};
 ghost use Rattle.memory.specs.Memory.{card_of};

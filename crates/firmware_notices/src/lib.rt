@@ -1,5 +1,7 @@
 // The calls for C of notices: include/card.h declares them. The record of one is written as an event's records are; what a record says
 // goes into five lent fields.
+#![tactic(auto)]
+
 ghost use Rattle.std.specs.Prelude.{◌≡◌, List, ℕ, length};
 ghost use Rattle.meaning.specs.Notice.{notice};
 ghost use Rattle.meaning.specs.Calls.{Does};

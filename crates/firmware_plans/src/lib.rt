@@ -1,5 +1,7 @@
 // The calls for C of plans: include/card.h declares them. Whether a list is accepted or found is handed back; the number of a refusal, and how
 // many entries there are, go to lent places. Both only read the card.
+#![tactic(auto)]
+
 ghost use Rattle.std.specs.Prelude.{◌≡◌};
 ghost use Rattle.meaning.specs.Calls.{over};
 ghost use Rattle.memory.specs.Memory.{card_of};

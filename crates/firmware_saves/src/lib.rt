@@ -1,5 +1,7 @@
 // The calls for C of saves: include/card.h declares them. The table as octets in either form, and the way back, which is lent spare memory of
 // any content; the second call of each is for the new form. And a save from one form to the other, with no card.
+#![tactic(auto)]
+
 ghost use Rattle.std.specs.Prelude.{◌≡◌, length};
 ghost use Rattle.meaning_save.specs.Save.{old, new, save, restore, newer, older};
 ghost use Rattle.meaning.specs.Calls.{Does};

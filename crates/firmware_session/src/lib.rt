@@ -1,5 +1,7 @@
 // The calls for C of the session box: include/card.h declares them. A stream lies in four numbers and a buffer, both lent; the identifiers are six
 // octets each. The number handed back says how many octets of the output were written.
+#![tactic(auto)]
+
 ghost use Rattle.std.specs.Prelude.{◌≡◌, List, ℕ, length};
 ghost use Rattle.meaning.specs.Events.{event, lost};
 ghost use Rattle.meaning.specs.Calls.{Does};

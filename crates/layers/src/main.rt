@@ -1,4 +1,6 @@
 // Reads a save in hex from standard input, and prints the layers of its trees, a line for each.
+#![tactic(auto)]
+
 ghost use Rattle.std.specs.Prelude.{◌≡◌, [], ◌∷◌, ◌++◌, ◌+◌, ◌*◌, ◌≤◌, ◌<◌, length, take};
 ghost use Rattle.meaning.specs.Wire.{element_refusal};
 ghost use Rattle.meaning.specs.Card.{lookup_name, tree_at};

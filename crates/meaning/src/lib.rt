@@ -1,5 +1,7 @@
 // The numbers of the definitions, for the lengths of arrays and the places in them: specs/Wire, Card and Save say the same, and the
 // proofs hold what is written here to them. A contract speaks of those.
+#![tactic(auto)]
+
 pub const OPAQUE_LIMIT: usize = 128;
 
 pub const ROOT_LIMIT: usize = 16;

@@ -1,5 +1,7 @@
 // The card's memory: its head, and the texts and rows in it. The memory is two lent arrays; specs/Memory.antt says which card they
 // denote, and docs/MEMORY.md draws them. A function that sees the numbers alone speaks of every content of the octets.
+#![tactic(auto)]
+
 ghost use Rattle.std.specs.Prelude.{◌≡◌, true, false, List, ◌∷◌, ℕ, ◌+◌, ◌-◌, ◌≤◌, ◌<◌, length, replicate};
 ghost use Rattle.meaning.specs.Octets.{same};
 ghost use Rattle.meaning.specs.Card.{turn, with_next, with_last, label_count, route_limit, tree_limit, most_base};

@@ -1,4 +1,6 @@
 // Trees in the card's memory: what changes in one place, a branch, the leaf mark or the label that ends.
+#![tactic(auto)]
+
 ghost use Rattle.std.specs.Prelude.{◌≡◌, List, ℕ, ◌<◌, set};
 ghost use Rattle.meaning.specs.Card.{with_trees, with_branch, with_leaf, tree_at, use_of, neighbour_count};
 ghost use Rattle.meaning.specs.Events.{set_use, set_label, ended};

@@ -1,4 +1,6 @@
 // The counts of a root's trees in the card's memory: what one tree counts, how a change of it is counted, and how all are worked out.
+#![tactic(auto)]
+
 ghost use Rattle.std.specs.Prelude.{◌≡◌, true, false, List, ℕ, ◌≤◌, ◌<◌, set};
 ghost use Rattle.meaning.specs.Octets.{count, same};
 ghost use Rattle.meaning.specs.Wire.{root_in};
@@ -11,7 +13,7 @@ use meaning::ROOT_LIMIT;
 use memory::{NAME_SPACE, NO_NEIGHBOUR};
 
 // How many trees stand, and how many of these are lone.
-#[derive(Drop)]
+#[derive(Clone, Copy)]
 pub struct Counts {
     pub standing: u64,
     pub lone: u64,

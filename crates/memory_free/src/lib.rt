@@ -1,4 +1,6 @@
 // The free labels of the block: how many there are, which is given out next, and a label that becomes free or is taken.
+#![tactic(auto)]
+
 ghost use Rattle.std.specs.Prelude.{◌≡◌, true, false, List, ℕ, ◌+◌, ◌*◌, ◌-◌, ◌≤◌, ◌<◌};
 ghost use Rattle.meaning.specs.Card.{free_labels, free, label_count};
 ghost use Rattle.meaning.specs.Events.{set_use, labels_short};

@@ -1,4 +1,6 @@
 // The labels of the block: whether one is free, and what the others are used for.
+#![tactic(auto)]
+
 ghost use Rattle.std.specs.Prelude.{◌≡◌, ℕ, ◌+◌, ◌-◌, ◌<◌, ◌≤◌, true, false, List, ◌≢◌};
 ghost use Rattle.meaning.specs.Card.{is_free, is_awaiting, mapped_to, use_of, awaiting, label_count, neighbour_count, nobody};
 ghost use Rattle.memory.specs.Sizes.{Numbers, Names};

@@ -1,4 +1,6 @@
 // Routes in the card's memory: what is asked of them, and how they come and go.
+#![tactic(auto)]
+
 ghost use Rattle.std.specs.Prelude.{◌≡◌, List, [], ◌∷◌, ◌++◌, ℕ, ◌+◌, ◌*◌, ◌-◌, ◌≤◌, ◌<◌, length, set};
 ghost use Rattle.meaning.specs.Octets.{put, cut};
 ghost use Rattle.meaning.specs.Wire.{root_limit};

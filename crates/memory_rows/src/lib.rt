@@ -1,4 +1,6 @@
 // Trees that come and go in the card's memory, and the fresh card.
+#![tactic(auto)]
+
 ghost use Rattle.std.specs.Prelude.{◌≡◌, List, [], ◌∷◌, ◌++◌, ℕ, ◌+◌, ◌*◌, ◌-◌, ◌≤◌, ◌<◌, length};
 ghost use Rattle.meaning.specs.Octets.{cut};
 ghost use Rattle.meaning.specs.Wire.{name_limit, least_label};

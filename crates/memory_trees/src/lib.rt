@@ -1,4 +1,6 @@
 // Trees in the card's memory: what is asked of them.
+#![tactic(auto)]
+
 ghost use Rattle.std.specs.Prelude.{◌≡◌, true, false, List, [], ◌∷◌, ◌⊎◌, ℕ, ◌+◌, ◌*◌, ◌-◌, ◌≤◌, ◌<◌, length, get_or, set};
 ghost use Rattle.meaning.specs.Octets.{pick, place, any, count};
 ghost use Rattle.meaning.specs.Wire.{name_limit};
@@ -66,7 +68,7 @@ pub fn branch(numbers: &[u64], i: usize, n: usize) -> u64
 }
 
 // Four numbers that stand one after the other.
-#[derive(Drop)]
+#[derive(Clone, Copy)]
 struct Four {
     a: u64,
     b: u64,

@@ -1,10 +1,12 @@
 // The reader of the records that tell a neighbour why its message was refused.
+#![tactic(auto)]
+
 ghost use Rattle.std.specs.Prelude.{◌≡◌, ◌<◌};
 ghost use Rattle.meaning.specs.Notice.{is_framed, is_told};
 ghost use Rattle.notice_reader.specs.Read.{read_of};
 
 // The refusal's number; or what the record says.
-#[derive(Drop)]
+#[derive(Clone, Copy)]
 pub enum Read {
     Refused(u32),
     Says {

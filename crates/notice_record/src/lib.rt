@@ -1,4 +1,6 @@
 // The record of a Notification: whether one is due, and its octets.
+#![tactic(auto)]
+
 ghost use Rattle.std.specs.Prelude.{◌≡◌, ◌∷◌, ◌++◌, ◌≤◌, length};
 ghost use Rattle.meaning.specs.Octets.{two, four};
 ghost use Rattle.meaning.specs.Notice.{notice_due, notice_record};

@@ -1,4 +1,6 @@
 // What a neighbour is told of a refusal: its status, and what is copied of the refused message.
+#![tactic(auto)]
+
 ghost use Rattle.std.specs.Prelude.{◌≡◌, ◌+◌, ◌<◌};
 ghost use Rattle.meaning.specs.Notice.{status_of, is_status, is_fatal, status_code, copied_id, copied_type};
 

@@ -1,5 +1,7 @@
 // The record that tells a neighbour why its message was refused.
 // The writer has a core, which says what becomes of the whole output, and a call that hands back the part that holds the record.
+#![tactic(auto)]
+
 ghost use Rattle.std.specs.Prelude.{◌≡◌, List, ℕ, ◌≤◌, length};
 ghost use Rattle.meaning.specs.Wire.{next_id};
 ghost use Rattle.meaning.specs.Notice.{notice};

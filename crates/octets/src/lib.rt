@@ -1,4 +1,6 @@
 // Slices of octets and of numbers: every loop over them lives here. A caller lends the part that it means, `&mut s[a..e]`.
+#![tactic(auto)]
+
 ghost use Rattle.std.specs.Prelude.{◌≡◌, ◌+◌, ◌-◌, ◌≤◌, ◌<◌, [], ◌∷◌, length, take, drop, get_or, replicate};
 ghost use Rattle.meaning.specs.Octets.{same, two_at, four_at};
 ghost use Rattle.octets.specs.Part.{mid, shifted};
@@ -161,7 +163,7 @@ pub fn copy(dst: &mut [u8], src: &[u8])
 }
 
 // Eight octets that are copied at once: all are read before one is written, which is one load and one store when compiled.
-#[derive(Drop)]
+#[derive(Clone, Copy)]
 struct Eight {
     a: u8,
     b: u8,
@@ -207,7 +209,7 @@ fn lay_eight(dst: &mut [u8], src: &[u8], i: usize)
 }
 
 // The same of four octets, for a text that has no eight.
-#[derive(Drop)]
+#[derive(Clone, Copy)]
 struct Four {
     a: u8,
     b: u8,

@@ -1,4 +1,6 @@
 // The checker of a plan: whether a list of roots with new neighbours may be carried out, whoever made it. It only reads.
+#![tactic(auto)]
+
 ghost use Rattle.std.specs.Prelude.{◌≡◌, ◌&&◌, ◌+◌, ◌≤◌, ◌<◌, length, drop, leb};
 ghost use Rattle.meaning.specs.Octets.{pick, count, all};
 ghost use Rattle.meaning.specs.Wire.{root_limit};
@@ -185,7 +187,7 @@ fn is_accepted(numbers: &[u64], names: &[u8], n: u64, sets: &[u8], list: &[u8]) 
 }
 
 // A refusal's number; or whether the list is accepted.
-#[derive(Drop)]
+#[derive(Clone, Copy)]
 pub enum Verdict {
     Refused(u32),
     Rejected,

@@ -1,4 +1,6 @@
 // The planner: a list of roots with new neighbours that leaves no route through a neighbour, or that there is none. It only reads the card.
+#![tactic(auto)]
+
 ghost use Rattle.std.specs.Prelude.{◌≡◌, true, ◌&&◌, List, ◌+◌, ◌*◌, ◌≤◌, ◌<◌, length, leb};
 ghost use Rattle.meaning.specs.Octets.{pick, all, place};
 ghost use Rattle.meaning.specs.Wire.{root_limit};
@@ -173,7 +175,7 @@ fn all_found(list: &[u8]) -> bool
 // ---- the call
 
 // A refusal's number; that there is none; or how many entries the list has.
-#[derive(Drop)]
+#[derive(Clone, Copy)]
 pub enum Planned {
     Refused(u32),
     None,

@@ -18,8 +18,8 @@ use Rattle.promise_net.specs.PacketProof.{whole-net}
 use Rattle.promise_bark.specs.Bark.{Item, letter, packet, Traffic, letters, talk, copies_to, noticed, taken, dropped, passed, is_live, handed, handed_of, hands, EachHand, turn, turns, NoBark}
 use Rattle.promise_bark.specs.Bark
 use Rattle.promise_bark.specs.BarkProof.{Sure, turns-sure, laid-sure, no-bark}
-use Rattle.promise_kept.specs.Contracts.{Call, Called, made, Telling, Told, Started, began, LookedUp, looked-up, NameLookedUp, name-looked-up}
-use Rattle.promise_kept.specs.Contracts
+use Rattle.promise_kept.specs.CallContracts.{Call, Called, made, Telling, Told, Started, began, LookedUp, looked-up, NameLookedUp, name-looked-up}
+use Rattle.promise_kept.specs.CallContracts
 use Rattle.promise_kept.specs.Kept.{Done, call, tell, live_by, accepted_by, step_of, past_of, called-deed, told-deed}
 
 -- ---- a net of memories

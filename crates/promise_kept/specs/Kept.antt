@@ -15,7 +15,7 @@ use Rattle.promise.specs.Promise.{Given, of_label, note_all, note_taken, branche
 use Rattle.promise.specs.SaveKept as Swap
 use Rattle.promise.specs.Deeds.{Deed, does, tells, saves, swaps, moves, restores, then_deed, then_deeds, IsClaimed, Claimed, deeds-kept}
 use Rattle.memory.specs.Memory.{card_of}
-use Rattle.promise_kept.specs.Contracts.{Call, Called, made, Telling, Told, told, Started, began, Saved, wrote, Restored, read, Moving, shifted, LookedUp, looked-up, NameLookedUp, name-looked-up, Counted, counted}
+use Rattle.promise_kept.specs.CallContracts.{Call, Called, made, Telling, Told, told, Started, began, Saved, wrote, Restored, read, Moving, shifted, LookedUp, looked-up, NameLookedUp, name-looked-up, Counted, counted}
 
 -- ---- a run of calls
 

@@ -1,5 +1,5 @@
 pub mod One
-pub mod Contracts
+pub mod CallContracts
 pub mod Kept
 pub mod LineKept
 pub mod BarkKept

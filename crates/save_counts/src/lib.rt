@@ -1,5 +1,7 @@
 // A save does not carry the counts of the roots' trees: they are worked out when its routes, trees and labels are in the memory. For whom a
 // tree is to hold its label hangs on its root too, which is sought once for both.
+#![tactic(auto)]
+
 ghost use Rattle.std.specs.Prelude.{◌≡◌, true, List, [], ℕ, ◌<◌};
 ghost use Rattle.meaning.specs.Octets.{all};
 ghost use Rattle.meaning.specs.Wire.{root_in};

@@ -1,4 +1,6 @@
 // The table in the octets of a save, of either form, into memory that is lent.
+#![tactic(auto)]
+
 ghost use Rattle.std.specs.Prelude.{◌≡◌, true, false, ◌≤◌, get_or};
 ghost use Rattle.meaning.specs.Octets.{all, four_at};
 ghost use Rattle.meaning_save.specs.Save.{Form, form_of, last_place, once_each, same_name, same_root, holds_right, table_in, is_save};

@@ -1,4 +1,6 @@
 // The fields of a save's records, read: the octets in a space, and a name in either form.
+#![tactic(auto)]
+
 ghost use Rattle.std.specs.Prelude.{◌≡◌, [], ◌∷◌, ◌++◌, ◌+◌, ◌≤◌, ◌<◌, length, take, drop, eqb};
 ghost use Rattle.meaning.specs.Octets.{pick, two};
 ghost use Rattle.meaning.specs.Wire.{name_limit, root_limit};

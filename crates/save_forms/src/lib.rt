@@ -1,5 +1,7 @@
 // The numbers in which the two forms of a save differ: the kinds of three records, and the size of the head. Throughout, `second` says that
 // the form is the new one.
+#![tactic(auto)]
+
 ghost use Rattle.std.specs.Prelude.{◌≡◌, ◌≤◌};
 ghost use Rattle.meaning_save.specs.Save.{form_of, head_kind, tree_kind, use_kind, head_size, last_place};
 

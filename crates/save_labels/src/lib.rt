@@ -1,6 +1,8 @@
 // A save's labels in use, and with them the label that each tree carries and the last label given: out of its octets, in either form, into
 // the memory that holds its trees.
 // With them the table is whole but for the counts, which are worked out.
+#![tactic(auto)]
+
 ghost use Rattle.std.specs.Prelude.{◌≡◌, true, List, map, ℕ, ◌+◌, ◌-◌, ◌<◌, length, drop, set};
 ghost use Rattle.meaning.specs.Octets.{all, four_at};
 ghost use Rattle.meaning.specs.Card.{with_trees, with_labels, with_last, tree_at, label_count, tree_limit};

@@ -1,6 +1,8 @@
 // A save is moved to the other form: octets to octets, with no card. Its table is read into spare memory, which holds anything before and
 // after, and saved from there in the other form.
 // The mover has a core, which says what becomes of the whole output, and for each direction a call that hands back the part that holds the save.
+#![tactic(auto)]
+
 ghost use Rattle.std.specs.Prelude.{◌≡◌, not, length};
 ghost use Rattle.meaning_save.specs.Save.{form_of, move, newer, older};
 ghost use Rattle.save_mover.specs.Moves.{Moves, Gives};

@@ -1,4 +1,6 @@
 // The way back from a save of either form: the table in its octets, into the card's memory.
+#![tactic(auto)]
+
 ghost use Rattle.std.specs.Prelude.{◌≡◌, true, false, List, ℕ, length};
 ghost use Rattle.meaning.specs.Octets.{all};
 ghost use Rattle.meaning_save.specs.Save.{form_of, once_each, same_name, same_root, holds_right, table_in, last_right, rows_ruled, is_save, restore};

@@ -1,4 +1,6 @@
 // The records of a save, each written to a place of its own size: docs/SAVE.md draws them.
+#![tactic(auto)]
+
 ghost use Rattle.std.specs.Prelude.{◌≡◌, false, List, ◌∷◌, ◌++◌, ℕ, ◌+◌, ◌*◌, ◌<◌, length};
 ghost use Rattle.meaning.specs.Octets.{pick, four};
 ghost use Rattle.meaning.specs.Card.{tree_at, label_count, neighbour_count, route_limit};

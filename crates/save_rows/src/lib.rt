@@ -1,4 +1,6 @@
 // A save's head, routes and trees: out of its octets, in either form, into memory that is lent.
+#![tactic(auto)]
+
 ghost use Rattle.std.specs.Prelude.{◌≡◌, List, [], ◌∷◌, ◌++◌, ℕ, ◌+◌, ◌*◌, ◌≤◌, ◌<◌, drop, set, get_or};
 ghost use Rattle.meaning.specs.Octets.{four_at};
 ghost use Rattle.meaning.specs.Card.{with_routes, with_trees, bare, tree_at, route_limit, tree_limit, neighbour_count, most_base};

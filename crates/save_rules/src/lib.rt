@@ -1,6 +1,8 @@
 // Whether the card that the memory denotes keeps the rules in force: one function for each rule, and one for what it asks of a row.
 // Some rules any memory keeps, since it is read so: the base's range, the identifier's, the numbers of routes, trees and labels, sixteen
 // branches to a tree, and a neighbour's number with each label that is mapped. The code tests nothing for them; proofs/Rules.antt says why.
+#![tactic(auto)]
+
 ghost use Rattle.std.specs.Prelude.{◌≡◌, true, false, ◌&&◌, List, ℕ, ◌+◌, ◌<◌};
 ghost use Rattle.meaning.specs.Octets.{all};
 ghost use Rattle.meaning.specs.Card.{tree_at, label_count};

@@ -1,4 +1,6 @@
 // The rules in force that speak of routes and trees: one function for each rule, and one for what it asks of a row.
+#![tactic(auto)]
+
 ghost use Rattle.std.specs.Prelude.{◌≡◌, false, not, List, ℕ, ◌+◌, ◌<◌, drop};
 ghost use Rattle.meaning.specs.Octets.{any, all};
 ghost use Rattle.meaning.specs.Card.{tree_at, is_empty, is_for, route_limit};

@@ -1,4 +1,6 @@
 // Whether every name of the card's table is short enough for a form of save: what 19 asks of a table that is to be saved.
+#![tactic(auto)]
+
 ghost use Rattle.std.specs.Prelude.{◌≡◌, ◌<◌};
 ghost use Rattle.meaning.specs.Octets.{all};
 ghost use Rattle.meaning.specs.Card.{tree_at, label_count};

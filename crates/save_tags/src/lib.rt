@@ -1,5 +1,7 @@
 // Trees sought by their names while a save is read. The last four octets of each tree's name, as a number, are read once: names that differ
 // there, as most do, are told apart without a look at their octets.
+#![tactic(auto)]
+
 ghost use Rattle.std.specs.Prelude.{◌≡◌, true, false, ◌+◌, ◌%◌, ◌≤◌, ◌<◌, length, drop, get_or};
 ghost use Rattle.meaning.specs.Octets.{place, same};
 ghost use Rattle.meaning.specs.Card.{named, tree_place, tree_limit};

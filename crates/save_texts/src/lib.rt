@@ -1,5 +1,7 @@
 // Texts in their spaces, as a save has them: how many octets, these, and zeros; and a name, which is two of them in the old form, and one
 // without zeros in the new one.
+#![tactic(auto)]
+
 ghost use Rattle.std.specs.Prelude.{◌≡◌, ◌+◌, ◌≤◌, length, take, replicate};
 ghost use Rattle.meaning.specs.Wire.{opaque_in, name_limit};
 ghost use Rattle.meaning_save.specs.Save.{old, form_of, padded, spaced, name_saved, name_most, is_short, spaced_name};

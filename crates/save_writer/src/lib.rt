@@ -1,5 +1,7 @@
 // The save of the card that the memory denotes, in either form: the octets that docs/SAVE.md draws, written record by record.
 // The writer has a core, which says what becomes of the whole output, and a call that hands back the part that holds the save.
+#![tactic(auto)]
+
 ghost use Rattle.std.specs.Prelude.{◌≡◌, List, ℕ, ◌+◌, ◌*◌, ◌≤◌, ◌<◌, length};
 ghost use Rattle.meaning_save.specs.Save.{old, new, form_of, use_saved, routes_saved, trees_saved, uses_saved, saved, save, save_limit, tree_beside, use_beside, name_most};
 ghost use Rattle.meaning_laws.specs.SaveFields.{name_size};

@@ -1,4 +1,6 @@
 // Whether octets are laid out as a save is, in either form: record by record, field by field. Nothing is written for it.
+#![tactic(auto)]
+
 ghost use Rattle.std.specs.Prelude.{◌≡◌, true, false, ◌+◌, ◌*◌, ◌≤◌, ◌<◌, length, drop};
 ghost use Rattle.meaning.specs.Octets.{four_at};
 ghost use Rattle.meaning_save.specs.Save.{old, form_of, saved_opaque, spaced_name, extent, trees_end, use_beside};

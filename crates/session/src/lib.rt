@@ -1,5 +1,7 @@
 // The sizes of a stream and of a call on it, for the lengths of arrays: specs/Stream and Session say the same, and the proofs hold what is
 // written here to them. A contract speaks of those.
+#![tactic(auto)]
+
 use meaning::RECORD_LIMIT;
 
 pub const PDU_HEAD: usize = 10;

@@ -1,5 +1,7 @@
 // Serves four neighbours over standard input: their octets, the PDUs to send them, their losses, and every order of the bench; a line for each
 // order. Neighbour N's identifier is 192.0.2.N:0, the card's own 192.0.2.254:0.
+#![tactic(auto)]
+
 ghost use Rattle.std.specs.Prelude.{◌≡◌, ℕ, ◌≤◌, List, length};
 ghost use Rattle.card.specs.Table.{card_of};
 ghost use Rattle.bench_verbs.specs.Line.{line_limit};
@@ -21,7 +23,7 @@ use session_replies::{BOX_NUMBERS, TURNS_SPACE};
 const WHOLE_ROOM: u32 = SAVE_LIMIT as u32;
 
 // How many lines are done, how much of the next is kept, and the room.
-#[derive(Drop)]
+#[derive(Clone, Copy)]
 struct State {
     number: u64,
     kept: usize,

@@ -1,5 +1,7 @@
 // The session box above the label part, of which it knows what `card` promises: a neighbour's octets in, at most one message handed on,
 // its records out. A stream lies in four numbers and a buffer that the caller lends; any content of them denotes one.
+#![tactic(auto)]
+
 ghost use Rattle.std.specs.Prelude.{◌≡◌, ◌≤◌, ◌<◌, ℕ, length, take, List};
 ghost use Rattle.meaning.specs.Calls.{Does, Hands};
 ghost use Rattle.card.specs.Table.{card_of};

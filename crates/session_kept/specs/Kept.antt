@@ -9,7 +9,7 @@ use Rattle.session.specs.Session.{label, called, Called, Cut, Driven, driven, Pi
 use Rattle.session.specs.Calls.{HandsOver}
 use Rattle.session.specs.Kept.{Kept}
 use Rattle.session.specs.Cuts.{AllEaten, pieces-agree}
-use Rattle.session_kept.specs.Contracts.{Lent, card_in, stream_in, Call, Served, served}
+use Rattle.session_kept.specs.CallContracts.{Lent, card_in, stream_in, Call, Served, served}
 
 -- ---- calls one after the other, and nothing between them
 

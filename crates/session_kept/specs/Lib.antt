@@ -1,3 +1,3 @@
-pub mod Contracts
+pub mod CallContracts
 pub mod Kept
 pub mod One

@@ -1,4 +1,6 @@
 // What the octets at the front of a stream show, where the current PDU has so many octets left.
+#![tactic(auto)]
+
 ghost use Rattle.std.specs.Prelude.{◌≡◌, ◌≤◌};
 ghost use Rattle.session.specs.Stream.{body_limit, look_head, look_message, look};
 ghost use Rattle.session_look.specs.Shown.{shown, head_in};
@@ -6,7 +8,7 @@ ghost use Rattle.session_look.specs.Shown.{shown, head_in};
 use session::{IDENTIFIER_SIZE, LEAST_LENGTH, MOST_LENGTH, PDU_HEAD};
 
 // What the octets at the front show: nothing yet, that the stream stops, a PDU's head and the octets after it, or a whole message.
-#[derive(Drop)]
+#[derive(Clone, Copy)]
 pub enum Shows {
     Wait,
     Bad,

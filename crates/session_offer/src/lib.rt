@@ -1,4 +1,6 @@
 // Octets offered to a stream: all of a call on it but the label part's.
+#![tactic(auto)]
+
 ghost use Rattle.std.specs.Prelude.{◌≡◌, ◌++◌, ◌+◌, min, ◌≤◌, length, take, drop};
 ghost use Rattle.session.specs.Session.{stream_room};
 ghost use Rattle.session.specs.Lent.{stream_numbers, left_in, stream_of};

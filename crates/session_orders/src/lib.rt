@@ -1,4 +1,6 @@
 // One line of the session box: the order of its own that its words make, or one of the bench.
+#![tactic(auto)]
+
 ghost use Rattle.std.specs.Prelude.{◌≡◌, List, [], ◌∷◌, ℕ, ◌≤◌, ◌<◌, length, drop};
 ghost use Rattle.bench_words.specs.Words.{part, words};
 ghost use Rattle.bench_verbs.specs.Line.{order_of};
@@ -12,7 +14,7 @@ use bench_words::{Number, Word};
 pub const STREAM_COUNT: u32 = 4;
 
 // What a line orders. `start..end` is where the word of HEX lies in the line.
-#[derive(Drop)]
+#[derive(Clone, Copy)]
 pub enum Ask {
     Bench,
     Octets {
@@ -29,7 +31,7 @@ pub enum Ask {
 }
 
 // A number and a word of HEX, if that is all.
-#[derive(Drop)]
+#[derive(Clone, Copy)]
 pub enum Pair {
     None,
     Is {

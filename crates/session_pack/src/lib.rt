@@ -1,4 +1,6 @@
 // The writer: one neighbour's messages, in order, in PDUs as full of whole ones as 4096 allows. It takes the label part's records.
+#![tactic(auto)]
+
 ghost use Rattle.std.specs.Prelude.{◌≡◌, ◌≤◌, length, leb};
 ghost use Rattle.meaning.specs.Calls.{over};
 ghost use Rattle.session.specs.Stream.{identifier_size};

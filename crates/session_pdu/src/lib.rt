@@ -1,4 +1,6 @@
 // PDUs that are being filled: how many octets a message adds, and a message written behind what is written already.
+#![tactic(auto)]
+
 ghost use Rattle.std.specs.Prelude.{◌≡◌, ◌++◌, ◌+◌, ◌≤◌, ◌<◌, length};
 ghost use Rattle.meaning.specs.Octets.{two};
 ghost use Rattle.octets.specs.Part.{mid};

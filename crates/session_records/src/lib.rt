@@ -1,4 +1,6 @@
 // The label part's records, one after the other: where the next one to a neighbour stands, and how long its message is.
+#![tactic(auto)]
+
 ghost use Rattle.std.specs.Prelude.{◌≡◌, ◌≤◌, ◌<◌, length};
 ghost use Rattle.session.specs.Pack.{is_record};
 ghost use Rattle.session_records.specs.Records.{size_at, Finds};

@@ -1,5 +1,7 @@
 // What the orders that the session box has of its own are answered with: each is obeyed, on the stream that it is about, and the line that
 // tells of it is written to the front of a lent text.
+#![tactic(auto)]
+
 ghost use Rattle.std.specs.Prelude.{◌≡◌, true, List, ℕ, ◌≤◌, ◌<◌, ◌*◌, ◌+◌, ◌-◌, length, set, take, drop};
 ghost use Rattle.meaning.specs.Octets.{pick};
 ghost use Rattle.meaning.specs.Card.{sent_limit};
@@ -84,7 +86,7 @@ fn is_last(answer: u32, left: usize, stream: &[u64; STREAM_NUMBERS], buffer: &[u
 }
 
 // How far the text goes, how many octets are eaten, and whether that was the last call.
-#[derive(Drop)]
+#[derive(Clone, Copy)]
 struct Reached {
     at: usize,
     from: usize,

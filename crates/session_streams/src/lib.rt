@@ -1,4 +1,6 @@
 // A neighbour's stream in lent memory: a buffer of at least 4100 octets and four numbers. Any content of them denotes a stream.
+#![tactic(auto)]
+
 ghost use Rattle.std.specs.Prelude.{◌≡◌, List, [], ◌∷◌, ℕ, ◌+◌, ◌-◌, min, ◌≤◌, ◌<◌, length, drop};
 ghost use Rattle.session.specs.Stream.{body_limit, limit, stopped, reading, empty, holds_message, is_stopped, settled};
 ghost use Rattle.session.specs.Session.{stream_room};

@@ -1,5 +1,7 @@
 // Names inside names (RFC 6512), read layer by layer down to the innermost.
 // A layer's root is `wire_name::root_of` of the name that begins there, and its eight octets are `eight_of` of it.
+#![tactic(auto)]
+
 ghost use Rattle.std.specs.Prelude.{◌≡◌, ◌||◌, ◌+◌, ◌≤◌, ◌<◌, length, eqb};
 ghost use Rattle.meaning.specs.Octets.{pick};
 ghost use Rattle.meaning.specs.Wire.{opaque_in};

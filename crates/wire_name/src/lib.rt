@@ -1,4 +1,6 @@
 // A tree's name, the octets of one P2MP element of RFC 6388: its root, and the refusals 6, 7 and 18.
+#![tactic(auto)]
+
 ghost use Rattle.std.specs.Prelude.{◌≡◌, ◌+◌, ◌≤◌, ◌<◌, length, drop};
 ghost use Rattle.meaning.specs.Wire.{address_length, root_length, root_in, first_end, is_filled, element_refusal, root_limit, name_limit};
 

@@ -1,4 +1,6 @@
 // One LDP message in: RFC 5036's TLVs, and the refusals 2 to 9 and 18.
+#![tactic(auto)]
+
 ghost use Rattle.std.specs.Prelude.{◌≡◌, false, not, drop};
 ghost use Rattle.meaning.specs.Octets.{any};
 ghost use Rattle.meaning.specs.Wire.{tlvs, is_overrun, found, must, is_kind};
@@ -9,7 +11,7 @@ use meaning::{LEAST_LABEL, MOST_LABEL};
 // ---- TLVs
 
 // A thin reader: the message and a place in it. `tlv_at`, on a plain slice and a number, does the work.
-#[derive(Drop)]
+#[derive(Clone, Copy)]
 pub struct Tlvs<'a> {
     pub message: &'a [u8],
     pub at: usize,
@@ -17,7 +19,7 @@ pub struct Tlvs<'a> {
 
 // What stands at a place: a whole TLV, with its type field and the ends of its value, the second of which is the place of
 // the next TLV; the end of the message; or a head or a value that runs past the message.
-#[derive(Drop)]
+#[derive(Clone, Copy)]
 pub enum Tlv {
     Whole { kind: u64, start: usize, end: usize },
     End,
@@ -78,7 +80,7 @@ pub fn tlv_from(message: &[u8], at: usize) -> Tlv
 // ---- a message
 
 // The refusal's number; or what the message says: its kind, where its name lies, and the label.
-#[derive(Drop)]
+#[derive(Clone, Copy)]
 pub enum Read {
     Refused(u32),
     Says {

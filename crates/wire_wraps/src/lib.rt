@@ -1,5 +1,7 @@
 // A name wrapped in a layer (RFC 6512), and unwrapped. Each has a core, which says what becomes of the whole output, and a call that
 // hands back the part that holds the name.
+#![tactic(auto)]
+
 ghost use Rattle.std.specs.Prelude.{◌≡◌, ◌&&◌, ◌||◌, [], ◌∷◌, ◌++◌, ◌+◌, ◌≤◌, ◌<◌, length, eqb};
 ghost use Rattle.meaning.specs.Octets.{pick, two};
 ghost use Rattle.meaning.specs.Calls.{over};

@@ -1,4 +1,6 @@
 // One record out: the mark, the neighbour, and an LDP message with a FEC and a Label TLV, numbered by the card's counter.
+#![tactic(auto)]
+
 ghost use Rattle.std.specs.Prelude.{◌≡◌, ◌+◌, ◌≤◌, ◌∷◌, ◌++◌, length};
 ghost use Rattle.meaning.specs.Octets.{two, four};
 ghost use Rattle.meaning.specs.Wire.{record_of, record_size, next_id};
@@ -10,7 +12,7 @@ use meaning::RECORD_BESIDE;
 
 // ---- the counter
 
-#[derive(Drop)]
+#[derive(Clone, Copy)]
 pub struct Counter {
     pub next: u32,
 }

@@ -1,0 +1,15 @@
+use native.Mathlib.Omega.{arith}
+use Rattle.bench_lines.proofs.Text.{adds_none, adds_then}
+use Rattle.bench_layers.proofs.Shown.{eight-none, eight-some}
+use borrow.Author.Rules.{rules}
+use Rattle.bench_layers.proofs.add_eight.Goals as goal
+
+pub returns-then-eight-eq0 : goal.returns-then-eight-eq0
+returns-then-eight-eq0 c = (rw (eight-none _ c.if-eight-eq0.true) (adds_none _ _), omega arith)
+
+pub returns : goal.returns
+returns c =
+    let the-if1 = c.if-eight-eq0 in
+    let the-add = c.add-at in
+    let the-add-hex = c.add_hex in
+    (rw (eight-some _ the-if1.false) (adds_then the-add.ensures the-add-hex.ensures.0), omega (arith, the-add.ensures.count, the-add-hex.ensures.1))

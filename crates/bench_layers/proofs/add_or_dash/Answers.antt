@@ -1,0 +1,14 @@
+use native.Mathlib.Omega.{arith}
+use Rattle.bench_layers.proofs.Shown.{dash-none, dash-some}
+use borrow.Author.Rules.{rules}
+use Rattle.bench_layers.proofs.add_or_dash.Goals as goal
+
+pub returns-then-octets-eq0 : goal.returns-then-octets-eq0
+returns-then-octets-eq0 c =
+    let the-if1 = c.if-octets-eq0 in
+    let the-add = c.add in (rw (dash-none _ the-if1.true) the-add.ensures, omega (arith, the-add.ensures.count))
+
+pub returns : goal.returns
+returns c =
+    let the-if1 = c.if-octets-eq0 in
+    let the-add-hex = c.add_hex in (rw (dash-some _ the-if1.false) the-add-hex.ensures.0, omega (arith, the-add-hex.ensures.1))

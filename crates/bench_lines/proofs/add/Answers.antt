@@ -1,0 +1,8 @@
+use native.Mathlib.Omega.{arith}
+use Rattle.bench_lines.proofs.Text.{adds-part}
+use borrow.Author.Rules.{rules}
+use Rattle.bench_lines.proofs.add.Goals as goal
+
+pub returns : goal.returns
+returns c =
+    adds-part c.args.text.now _ c.args.at (omega arith) c.put_text.ensures

@@ -1,0 +1,8 @@
+use Rattle.memory.specs.Memory.{card_of}
+use Rattle.bench_plans.proofs.Telling.{says-plan}
+use borrow.Author.Rules.{rules}
+use Rattle.bench_plans.proofs.on_plan.Goals as goal
+
+pub returns : goal.returns
+returns c =
+    λ number room. says-plan (card_of c.args.numbers.now c.args.names.now) _ room _ c.decode_hex-n.ensures.0 c.put_plan.ensures.0 c.put_plan.ensures.1 number

@@ -1,0 +1,14 @@
+use mathlib.Core.Path.{refl}
+use Rattle.meaning_laws.specs.Handed.{handed, handed-count}
+use borrow.Author.Rules.{rules}
+use Rattle.card.proofs.receive.Goals as goal
+
+pub slice_bounds-result-end : goal.slice_bounds-result-end
+slice_bounds-result-end c =
+    let the-receive-core = c.receive_core-n in
+    handed-count _ _ _ _ _ _ the-receive-core.ensures
+
+pub returns : goal.returns
+returns c =
+    let the-receive-core = c.receive_core-n in
+    (handed _ _ _ _ _ _ the-receive-core.ensures, refl)

@@ -1,0 +1,13 @@
+use Rattle.event_lost.proofs.Empty.{swept-goes, swept-stays}
+use borrow.Author.Rules.{rules}
+use Rattle.event_lost.proofs.sweep_one.Goals as goal
+
+pub returns-then-is_empty : goal.returns-then-is_empty
+returns-then-is_empty c =
+    let the-is-empty = c.is_empty in
+    let the-if1 = c.if-is_empty in
+    let the-remove-tree = c.remove_tree in
+    swept-goes _ _ _ (the-is-empty.ensures _) the-if1.true _ the-remove-tree.ensures
+
+pub returns : goal.returns
+returns c = swept-stays _ _ _ (c.is_empty.ensures _) c.if-is_empty.false

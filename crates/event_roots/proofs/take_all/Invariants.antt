@@ -1,0 +1,18 @@
+use Rattle.event_roots.proofs.Roots.{sum-next, sum_done}
+use Rattle.event_move.proofs.Trees.{sum-none}
+use Rattle.event_holder.specs.Move.{size_one, size_all}
+use Rattle.memory.specs.Memory.{card_of}
+use Rattle.meaning.specs.Events.{need_one, need_all, sum_from}
+use Rattle.meaning.specs.Wire.{record_limit}
+use borrow.Author.Rules.{rules}
+use mathlib.Core.Path.{◌≡◌, sym}
+use native.Mathlib.Omega.{arith}
+use Prim.Native.Nat.{◌*◌, ◌-◌, ◌≤◌}
+use Rattle.event_roots.proofs.take_all.Given as goal
+
+abbrev pub invariant-loop-i : goal.invariant-loop-i
+invariant-loop-i l = (l.i ≤ l.n) × (l.labels ≤ l.i) × (l.octets ≤ l.i * (2 * record_limit))
+    × (l.labels ≡ sum_from (need_one l.root l.u) l.i 0 (card_of l.numbers l.names)) × (l.octets ≡ sum_from (size_one l.root l.u) l.i 0 (card_of l.numbers l.names))
+
+abbrev pub decreases-loop-i : goal.decreases-loop-i
+decreases-loop-i l = l.n - l.i

@@ -1,0 +1,9 @@
+use Rattle.layers.proofs.Printed.{shows-decoded}
+use borrow.Author.Rules.{rules}
+use Rattle.layers.proofs.is_taken_hex.Goals as goal
+
+pub returns : goal.returns
+returns c =
+    let the-decode-hex = c.decode_hex-n in
+    let the-is-taken = c.is_taken in
+    shows-decoded the-decode-hex.ensures.0 the-is-taken.ensures

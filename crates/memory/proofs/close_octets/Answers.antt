@@ -1,0 +1,7 @@
+use Rattle.memory.proofs.Parts.{closed}
+use borrow.Author.Rules.{rules}
+use Rattle.memory.proofs.close_octets.Goals as goal
+
+pub returns : goal.returns
+returns c =
+    closed c.args.a c.args.e c.args.w _ _ c.requires.0 c.requires.1 c.shift_octets.ensures

@@ -1,0 +1,14 @@
+use Prim.Native.Nat.{◌+◌, ◌-◌}
+use native.Mathlib.Omega.{arith}
+use mathlib.Core.Path.{◌∙◌}
+use lib.ListN.{length, length-set}
+use Rattle.memory.proofs.Parts.{text-written}
+use borrow.Author.Rules.{rules}
+use Rattle.memory.proofs.set_text.Goals as goal
+
+pub shape_of-names : goal.shape_of-names
+shape_of-names c = c.names-1.is ∙ simp length-set
+
+pub returns : goal.returns
+returns c =
+    text-written c.args.at (c.args.at + 1 + length c.args.text.now - (c.args.at + 1)) _ _ _ c.requires.0 (omega arith) c.copy_text.ensures

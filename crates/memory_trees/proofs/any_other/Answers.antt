@@ -1,0 +1,42 @@
+use Prim.Native.Nat.{ℕ, ◌-◌, ◌≤◌}
+use native.Mathlib.Omega.{arith}
+use mathlib.Core.Path.{◌≡◌, refl, sym, ◌∙◌}
+use mathlib.Core.Logic.{⊎_elim}
+use mathlib.Core.List.{List}
+use lib.ListN.{drop, set, length-set}
+use borrow.Author.Rules.{rules}
+use Rattle.meaning.specs.Octets.{any}
+use Rattle.meaning.specs.Card.{is_branch, tree_at}
+use Rattle.memory.specs.Memory.{card_of}
+use Rattle.memory.proofs.Trees.{branches-length}
+use Rattle.memory_trees.proofs.Others.{others-none, other-hit, other-zero, other-not}
+use Rattle.memory_trees.proofs.any_other.Goals as goal
+
+pub loop-k-init : goal.loop-k-init
+loop-k-init c = (omega arith, (λ os. refl))
+
+pub returns-then-is_other : goal.returns-then-is_other
+returns-then-is_other c = λ os.
+    let bs = (tree_at c.args.i (card_of c.args.numbers.now os)).branches in
+    let n16 = branches-length c.args.numbers.now os c.args.i c.requires.1.0 in
+    let other = c.is_other.ensures.0 c.if-is_other.true in
+    sym (c.loop-k.invariant.1 os ∙ other-hit bs c.args.n c.args.but c.loop-k.k _ (omega arith) (c.branch-numbers.ensures os) c.if-branch-ne0.true other.0 other.1)
+
+pub loop-k-preserved : goal.loop-k-preserved
+loop-k-preserved c = (
+  omega arith,
+  λ os.
+      let bs = (tree_at c.args.i (card_of c.args.numbers.now os)).branches in
+      let n16 = branches-length c.args.numbers.now os c.args.i c.requires.1.0 in
+      c.loop-k.invariant.1 os
+      ∙ ⊎_elim
+      (λ w. other-not bs c.args.n c.args.but c.loop-k.k (omega arith) (w.1.ensures.1 w.2.left))
+      (λ w. other-zero bs c.args.n c.args.but c.loop-k.k _ (omega arith) (c.branch-numbers.ensures os) w.left)
+      c.if-branch-ne0.branch,
+)
+
+pub returns : goal.returns
+returns c = λ os.
+    let bs = set (tree_at c.args.i (card_of c.args.numbers.now os)).branches c.args.n 0 in
+    let n16 = length-set (tree_at c.args.i (card_of c.args.numbers.now os)).branches c.args.n 0 ∙ branches-length c.args.numbers.now os c.args.i c.requires.1.0 in
+    sym (c.loop-k.invariant.1 os ∙ others-none bs c.args.but c.loop-k.k (omega arith))

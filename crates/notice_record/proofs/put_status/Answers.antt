@@ -1,0 +1,10 @@
+-- `notice_record::put_status` meets its contract: the octets of the array are those of the definition, one by one. Assumes nothing.
+use Rattle.meaning.specs.Octets.{two, four}
+use borrow.Author.Rules.{rules}
+use Rattle.notice_record.proofs.put_status.Goals as goal
+
+pub returns : goal.returns
+unfolding two four
+returns c =
+    let the_copy = c.copy in
+    the_copy.ensures

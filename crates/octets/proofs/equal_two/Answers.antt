@@ -1,0 +1,9 @@
+use native.Mathlib.Omega.{arith}
+use Rattle.octets.proofs.Same.{same-two}
+use borrow.Author.Rules.{rules}
+use Rattle.octets.proofs.equal_two.Goals as goal
+
+pub returns : goal.returns
+returns c =
+    let a = c.args in
+    same-two a.a.now a.b.now a.i a.j (omega arith) (omega arith)

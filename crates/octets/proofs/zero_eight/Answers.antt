@@ -1,0 +1,13 @@
+use Prim.Native.Nat.{◌+◌}
+use native.Mathlib.Omega.{arith}
+use mathlib.Core.Path.{refl, ap₂, ◌∙◌}
+use mathlib.Core.Bool.{◌&&◌}
+use lib.ListN.{replicate}
+use Rattle.octets.proofs.Same.{same-join}
+use borrow.Author.Rules.{rules}
+use Rattle.octets.proofs.zero_eight.Goals as goal
+
+pub returns : goal.returns
+returns c =
+    let a = c.args in
+    ap₂ ◌&&◌ c.equal_four.ensures c.equal_four-2.ensures ∙ same-join 4 4 8 a.i 0 (a.i + 4) 4 a.s.now (replicate 8 0) refl refl refl (omega arith) (omega arith)

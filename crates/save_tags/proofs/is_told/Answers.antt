@@ -1,0 +1,13 @@
+use mathlib.Core.Path.{sym, ◌∙◌}
+use borrow.Author.Tests.{not-true, not-false}
+use Rattle.meaning.specs.Lists.{never}
+use borrow.Author.Rules.{rules}
+use Rattle.save_tags.proofs.is_told.Goals as goal
+
+pub returns-then-is_hinted : goal.returns-then-is_hinted
+returns-then-is_hinted c = ((λ _ not_so. absurd (never (sym not_so ∙ sym c.is_hinted.ensures ∙ c.if-is_hinted.true))), (λ t. absurd (never (sym t))))
+
+pub returns : goal.returns
+returns c =
+    let its = c.has_double.ensures in
+    ((λ t _. its.1 (not-true _ t)), (λ t. its.0 (not-false _ t)))

@@ -1,0 +1,27 @@
+-- `save_written::is_two_spaces` meets its contract. Assumes nothing.
+use native.Mathlib.Omega.{arith}
+use mathlib.Core.Path.{refl, sym, ◌∙◌}
+use borrow.Author.Tests.{not-true, not-false}
+use Rattle.save_written.proofs.Places.{no_address, no-root, root-and-value}
+use borrow.Author.Rules.{rules}
+use mathlib.Core.Path.{ap}
+use mathlib.Core.Bool.{not}
+use Rattle.save_written.proofs.is_two_spaces.Goals as goal
+
+pub overflow_cast-k : goal.overflow_cast-k
+overflow_cast-k c = omega (arith, c.shared_slice_known-2-1.given c.args.at)
+
+pub returns-then-k : goal.returns-then-k
+returns-then-k c =
+    let a = c.args in
+    no_address a.octets.now a.at _ (omega arith) refl c.if-k.true
+
+pub returns-then-not-is_space : goal.returns-then-not-is_space
+returns-then-not-is_space c =
+    let a = c.args in
+    no-root a.octets.now a.at _ (omega arith) refl c.if-k.false (sym c.is_space.ensures ∙ not-true _ (ap not c.if-not-is_space.true))
+
+pub returns : goal.returns
+returns c =
+    let a = c.args in
+    root-and-value a.octets.now a.at _ (omega arith) refl c.if-k.false (sym c.is_space.ensures ∙ not-false _ (ap not c.if-not-is_space.false)) _ c.is_space-2.ensures

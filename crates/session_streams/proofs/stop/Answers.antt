@@ -1,0 +1,7 @@
+-- `session_streams::stop` meets its contract. Assumes nothing.
+use Rattle.session_streams.proofs.Passing.{stopped-is}
+use borrow.Author.Rules.{rules}
+use Rattle.session_streams.proofs.stop.Goals as goal
+
+pub returns : goal.returns
+returns c = stopped-is _ c.set.ensures

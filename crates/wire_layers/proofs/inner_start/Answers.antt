@@ -1,0 +1,40 @@
+-- `wire_layers::inner_start` meets its contract: each return is one law of `Inner`. Assumes nothing.
+use native.Mathlib.Omega.{arith}
+use mathlib.Core.Path.{sym, ◌∙◌}
+use borrow.Author.Tests.{not-true, not-false}
+use Rattle.wire_layers.proofs.Inner.{not-holding, not-alone, too_short, inner-refused, inner-there}
+use borrow.Author.Rules.{rules}
+use mathlib.Core.Path.{ap}
+use mathlib.Core.Bool.{not}
+use Rattle.wire_layers.proofs.inner_start.Goals as goal
+
+pub returns-then-not-holds : goal.returns-then-not-holds
+returns-then-not-holds c = not-holding _ _ c.root_length-opaque.ensures.0 _ c.at-kind.ensures.0 (sym c.holds.ensures ∙ not-true _ (ap not c.if-not-holds.true))
+
+pub returns-then-name-opaque : goal.returns-then-name-opaque
+returns-then-name-opaque c =
+    let the-root-length = c.root_length-opaque in
+    not-alone _ _ the-root-length.ensures.0 _ c.two_at.ensures.0 c.if-name-opaque.true
+
+pub returns-then-name-start : goal.returns-then-name-start
+returns-then-name-start c =
+    let the-root-length = c.root_length-opaque in
+    let the_at = c.at-kind in
+    too_short _ _ the-root-length.ensures.0 _ _ the_at.ensures.0 c-inner.ensures.0 c.if-name-start.true
+
+pub returns-then-element_refusal-ne0 : goal.returns-then-element_refusal-ne0
+returns-then-element_refusal-ne0 c =
+    let the-root-length = c.root_length-opaque in
+    let the_at = c.at-kind in
+    let the-before-inner = c-inner in
+    inner-refused _ _ the-root-length.ensures.0 _ _ the_at.ensures.0 the-before-inner.ensures.0 _ c.element_refusal.ensures c.if-element_refusal-ne0.true
+
+pub returns : goal.returns
+returns c =
+    let the-if2 = c.if-name-opaque in
+    let the-root-length = c.root_length-opaque in
+    let the_at = c.at-kind in
+    let kind = sym c.holds.ensures ∙ not-false _ (ap not c.if-not-holds.false) in
+    let the-two-at = c.two_at in
+    let the-before-inner = c-inner in
+    inner-there _ _ the-root-length.ensures.0 _ _ the_at.ensures.0 the-before-inner.ensures.0 _ _ kind the-two-at.ensures.0 the-if2.false c.element_refusal.ensures c.if-element_refusal-ne0.false (omega arith)

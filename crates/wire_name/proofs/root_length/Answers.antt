@@ -1,0 +1,10 @@
+-- `wire_name::root_length` meets its contract: it is the two calls, one after the other.
+-- Assumes nothing.
+use native.Mathlib.Omega.{arith}
+use Rattle.meaning.specs.Wire.{root_length, family_in}
+use borrow.Author.Rules.{rules}
+use Rattle.wire_name.proofs.root_length.Goals as goal
+
+pub returns : goal.returns
+unfolding root_length family_in
+returns c = (cc, omega arith)
