@@ -42,4 +42,4 @@ returns-in-Lost c =
     rw the-order4.is c.lost_core.ensures
 
 pub returns-in_default : goal.returns-in_default
-returns-in_default c = absurd (of_others Kind.records c.args.order c.in_default.keys7 c.requires)
+returns-in_default c = absurd (of_others Kind.records c.args.order c.in_default.in_default-own.keys7 c.requires)

@@ -27,4 +27,4 @@ returns-in-Notice c = rw c.in-Notice.is refl
 
 pub returns-in_default : goal.returns-in_default
 unfolding no_hex
-returns-in_default c = no-hex c.args.order c.in_default.keys6
+returns-in_default c = no-hex c.args.order c.in_default.in_default-own.keys6

@@ -9,4 +9,4 @@ unfolding meant reply_to only
 returns-in-Room c = λ number d l. rw c.in-Room.is
 
 pub returns-in_default : goal.returns-in_default
-returns-in_default c = λ number d l. room-stays number _ d l c.args.order c.in_default.keys2
+returns-in_default c = λ number d l. room-stays number _ d l c.args.order c.in_default.in_default-own.keys2

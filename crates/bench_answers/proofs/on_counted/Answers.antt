@@ -16,25 +16,25 @@ pub returns-in-Bad : goal.returns-in-Bad
 unfolding meant reply_to only ascii
 returns-in-Bad c =
     let the-enum-told = c.in-Bad in
-    λ room l os. rw the-enum-told.is (says-only _ _ _ _ _ (omega arith) c.put_count.ensures.0)
+    λ room l os. rw the-enum-told.is (says-only _ _ _ _ _ (omega arith) c.put_count.ensures.text_after)
 
 pub returns-in-Start : goal.returns-in-Start
 unfolding meant reply_to counted ascii
 returns-in-Start c =
     let the-order = c.in-Start in
-    λ room l os. rw the-order.is (says-counted (start _) _ _ _ _ c.start.ensures.0 (c.start.ensures.1 _) (omega arith) c.put_count-in-Start.ensures.0)
+    λ room l os. rw the-order.is (says-counted (start _) _ _ _ _ c.start.ensures.0 (c.start.ensures.1 _) (omega arith) c.put_count-in-Start.ensures.text_after)
 
 pub returns-in-Room : goal.returns-in-Room
 unfolding meant reply_to only ascii
 returns-in-Room c =
     let the-order2 = c.in-Room in
-    λ room l os. rw the-order2.is (says-only _ _ _ _ _ (omega arith) c.put_count-in-Room.ensures.0)
+    λ room l os. rw the-order2.is (says-only _ _ _ _ _ (omega arith) c.put_count-in-Room.ensures.text_after)
 
 pub returns-in-Free : goal.returns-in-Free
 unfolding meant reply_to only ascii
 returns-in-Free c =
     let the-enum-told2 = c.in-Free in
-    λ room l os. rw the-enum-told2.is (says-only _ _ _ _ _ (omega arith) (c.put_count-in-Free.ensures.0 ∙ ap (count_line (ascii "free")) (c.free_labels.ensures os)))
+    λ room l os. rw the-enum-told2.is (says-only _ _ _ _ _ (omega arith) (c.put_count-in-Free.ensures.text_after ∙ ap (count_line (ascii "free")) (c.free_labels.ensures os)))
 
 pub returns-in_default : goal.returns-in_default
 returns-in_default c = λ room l os. absurd (of_others Kind.count c.args.order c.in_default.keys5 c.requires.0)

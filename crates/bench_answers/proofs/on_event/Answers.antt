@@ -31,4 +31,4 @@ returns c =
     let the-decode-hex = c.decode_hex-n in
     let all = the-output.ensures in
     let given = the_lent.ensures.1 in
-    λ number. c.tell_call.ensures number _ _ (omega arith) (word_held _ _ _ _ the-hex-in.ensures (front-is the-decode-hex.ensures.0))
+    λ number. c.tell_call.ensures number _ _ (omega arith) (word_held _ _ _ _ the-hex-in.ensures (front-is the-decode-hex.ensures.puts))

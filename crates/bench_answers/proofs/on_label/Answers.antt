@@ -9,4 +9,4 @@ pub returns : goal.returns
 unfolding reply_to ascii
 returns c =
     let a = c.args in
-    λ number room os. says-fed _ _ (card_of a.numbers.now os) room _ (c.lookup_label_core-leaf.ensures os) c.put_feed.ensures.1 c.put_feed.ensures.0
+    λ number room os. says-fed _ _ (card_of a.numbers.now os) room _ (c.lookup_label_core-leaf.ensures os) c.put_feed.ensures.upper_bound c.put_feed.ensures.text_after

@@ -12,4 +12,4 @@ pub returns : goal.returns
 unfolding reply_to ascii
 returns c =
     let a = c.args in
-    λ number room. says-fed _ _ (card_of a.numbers.now a.names.now) room _ (c.lookup_name_core-leaf.ensures ∙ ap (λ s. lookup_name s (card_of a.numbers.now a.names.now)) (front-is c.decode_hex-n.ensures.0)) c.put_feed.ensures.1 c.put_feed.ensures.0
+    λ number room. says-fed _ _ (card_of a.numbers.now a.names.now) room _ (c.lookup_name_core-leaf.ensures ∙ ap (λ s. lookup_name s (card_of a.numbers.now a.names.now)) (front-is c.decode_hex-n.ensures.puts)) c.put_feed.ensures.upper_bound c.put_feed.ensures.text_after

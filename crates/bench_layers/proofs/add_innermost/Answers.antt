@@ -18,7 +18,7 @@ add-at-requires c =
     let sizes = name-sizes c.args.name.now c.requires.0 in
     let root = root-sized c.args.name.now _ the-root-of.ensures in
     let the-add-hex = c.add_hex-at in
-    omega (arith, sizes, root, c.requires.1, the-add-hex.ensures.1, the-add-hex.auto.0)
+    omega (arith, sizes, root, c.requires.1, the-add-hex.ensures.value, the-add-hex.auto.0)
 
 pub slice_bounds-add_hex-count : goal.slice_bounds-add_hex-count
 slice_bounds-add_hex-count c =
@@ -42,7 +42,7 @@ add_hex-requires c =
     let the-add-hex = c.add_hex-at in
     let the-add = c.add-at in
     let the-root-length = c.root_length-opaque in
-    omega (arith, sizes, root, c.requires.1, the-add-hex.ensures.1, the-add-hex.auto.0, the-add.ensures.count, the-add.auto.0, the-root-length.ensures.0, rest-sized c.args.name.now (6 + the-root-length.result))
+    omega (arith, sizes, root, c.requires.1, the-add-hex.ensures.value, the-add-hex.auto.0, the-add.ensures.count, the-add.auto.0, the-root-length.ensures.0, rest-sized c.args.name.now (6 + the-root-length.result))
 
 pub returns : goal.returns
 unfolding innermost_text
@@ -53,7 +53,4 @@ returns c =
     let the-add-hex = c.add_hex-at in
     let the-add = c.add-at in
     let the-root-length = c.root_length-opaque in
-    let the-add-hex2 = c.add_hex in (
-      rw (← the-root-of.ensures, ← opaque-part c.args.name.now _ the-root-length.ensures.0) (adds_then the-add-hex.ensures.0 (adds_then the-add.ensures the-add-hex2.ensures.0)),
-      omega (arith, sizes, root, the-add-hex.ensures.1, the-add.ensures.count, the-root-length.ensures.0, the-add-hex2.ensures.1, rest-sized c.args.name.now (6 + the-root-length.result)),
-    )
+    let the-add-hex2 = c.add_hex in record { adds = rw (← the-root-of.ensures, ← opaque-part c.args.name.now _ the-root-length.ensures.0) (adds_then the-add-hex.ensures.adds (adds_then the-add.ensures the-add-hex2.ensures.adds)); upper_bound = omega (arith, sizes, root, the-add-hex.ensures.value, the-add.ensures.count, the-root-length.ensures.0, the-add-hex2.ensures.value, rest-sized c.args.name.now (6 + the-root-length.result)) }

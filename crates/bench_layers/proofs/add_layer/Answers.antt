@@ -17,7 +17,7 @@ add_eight-at-requires c =
     let root = root-sized c.args.name.now _ the-root-of.ensures in
     let eight = eight-sized c.args.name.now _ c.eight_of.ensures in
     let the-add-hex = c.add_hex-at in
-    omega (arith, root, eight, c.requires, the-add-hex.ensures.1, the-add-hex.auto.0)
+    omega (arith, root, eight, c.requires, the-add-hex.ensures.value, the-add-hex.auto.0)
 
 pub add-requires : goal.add-requires
 add-requires c =
@@ -27,7 +27,7 @@ add-requires c =
     let eight = eight-sized c.args.name.now _ the-eight-of.ensures in
     let the-add-hex = c.add_hex-at in
     let the-add-eight = c.add_eight-at in
-    omega (arith, root, eight, c.requires, the-add-hex.ensures.1, the-add-hex.auto.0, the-add-eight.ensures.1, the-add-eight.auto.0)
+    omega (arith, root, eight, c.requires, the-add-hex.ensures.value, the-add-hex.auto.0, the-add-eight.ensures.upper_bound, the-add-eight.auto.0)
 
 pub returns : goal.returns
 unfolding layer_text layer_of
@@ -38,7 +38,4 @@ returns c =
     let eight = eight-sized c.args.name.now _ the-eight-of.ensures in
     let the-add-hex = c.add_hex-at in
     let the-add-eight = c.add_eight-at in
-    let the-add = c.add in (
-      rw (← the-root-of.ensures, ← the-eight-of.ensures) (adds_then the-add-hex.ensures.0 (adds_then the-add-eight.ensures.0 the-add.ensures)),
-      omega (arith, root, eight, the-add-hex.ensures.1, the-add-eight.ensures.1, the-add.ensures.count),
-    )
+    let the-add = c.add in record { adds = rw (← the-root-of.ensures, ← the-eight-of.ensures) (adds_then the-add-hex.ensures.adds (adds_then the-add-eight.ensures.adds the-add.ensures)); upper_bound = omega (arith, root, eight, the-add-hex.ensures.value, the-add-eight.ensures.upper_bound, the-add.ensures.count) }

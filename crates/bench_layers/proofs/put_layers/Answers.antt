@@ -13,7 +13,7 @@ returns-then-refusal-ne0 c =
     let the-element-refusal = c.element_refusal-refusal in
     let the-if1 = c.if-refusal-ne0 in
     let the-put-count = c.put_count in
-    (the-put-count.ensures.0 ∙ line_refused _ _ the-element-refusal.ensures the-if1.true, omega (arith, the-put-count.ensures.1))
+    record { text_after = the-put-count.ensures.text_after ∙ line_refused _ _ the-element-refusal.ensures the-if1.true; upper_bound = omega (arith, the-put-count.ensures.upper_bound) }
 
 pub add_layers-at-requires : goal.add_layers-at-requires
 add_layers-at-requires c =
@@ -32,7 +32,7 @@ add-requires c =
     let fits = name-fits c.args.name.now ok in
     let the-add = c.add-at in
     let the-add-layers = c.add_layers-at in
-    omega (arith, fits, the-add.ensures.count, the-add.auto.0, the-add-layers.ensures.1, the-add-layers.auto.0, c.requires)
+    omega (arith, fits, the-add.ensures.count, the-add.auto.0, the-add-layers.ensures.upper_bound, the-add-layers.auto.0, c.requires)
 
 pub returns : goal.returns
 unfolding ascii
@@ -43,7 +43,4 @@ returns c =
     let fits = name-fits c.args.name.now ok in
     let the-add = c.add-at in
     let the-add-layers = c.add_layers-at in
-    let the-add2 = c.add in (
-      (adds_then the-add.ensures (adds_then the-add-layers.ensures.0 the-add2.ensures)).text ∙ line-shown c.args.name.now _ the-element-refusal.ensures the-if1.false,
-      omega (arith, fits, the-add.ensures.count, the-add-layers.ensures.1, the-add2.ensures.count),
-    )
+    let the-add2 = c.add in record { text_after = (adds_then the-add.ensures (adds_then the-add-layers.ensures.adds the-add2.ensures)).text ∙ line-shown c.args.name.now _ the-element-refusal.ensures the-if1.false; upper_bound = omega (arith, fits, the-add.ensures.count, the-add-layers.ensures.upper_bound, the-add2.ensures.count) }

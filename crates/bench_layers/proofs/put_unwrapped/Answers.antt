@@ -7,7 +7,4 @@ use Rattle.bench_layers.proofs.put_unwrapped.Goals as goal
 
 pub returns : goal.returns
 unfolding unwrapped_line ascii
-returns c = (
-  (adds_then c.add-at.ensures (adds_then c.add_hex-at.ensures.0 (adds_then c.add_outer-at.ensures.0 c.add.ensures))).text,
-  omega (arith, c.add-at.ensures.count, c.add_hex-at.ensures.1, c.add_outer-at.ensures.1, c.add.ensures.count, c.requires),
-)
+returns c = record { text_after = (adds_then c.add-at.ensures (adds_then c.add_hex-at.ensures.adds (adds_then c.add_outer-at.ensures.adds c.add.ensures))).text; upper_bound = omega (arith, c.add-at.ensures.count, c.add_hex-at.ensures.value, c.add_outer-at.ensures.upper_bound, c.add.ensures.count, c.requires) }

@@ -19,7 +19,7 @@ loop-i-preserved c =
       omega arith,
       omega arith,
       omega arith,
-      rw (sym (branches-more c.args.now c.args.between.now c.args.branches.now c.loop-i.i h)) (adds_then c.loop-i.invariant.3 c.add_branch-at.ensures.0),
+      rw (sym (branches-more c.args.now c.args.between.now c.args.branches.now c.loop-i.i h)) (adds_then c.loop-i.invariant.3 c.add_branch-at.ensures.adds),
     )
 
 pub shape_of-text : goal.shape_of-text
@@ -28,4 +28,4 @@ shape_of-text c = c.loop-i.invariant.1
 pub returns : goal.returns
 returns c =
     let e = take_all c.loop-i.i c.args.branches.now c.loop-i-test.false in
-    (rw e at c.loop-i.invariant.3, omega arith)
+    record { adds = rw e at c.loop-i.invariant.3; upper_bound = omega arith }

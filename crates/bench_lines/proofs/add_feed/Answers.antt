@@ -10,4 +10,4 @@ unfolding feed_text leaf_text branches_text ascii
 returns c =
     let the-add-if = c.add_if-at in
     let the-add-sixteen = c.add_sixteen-at in
-    (feed-adds _ the-add-if.ensures.0 the-add-sixteen.ensures.0 c.add_if.ensures.0, omega (arith, the-add-if.ensures.1, the-add-sixteen.ensures.1, c.add_if.ensures.1))
+    record { adds = feed-adds _ the-add-if.ensures.adds the-add-sixteen.ensures.adds c.add_if.ensures.adds; upper_bound = omega (arith, the-add-if.ensures.upper_bound, the-add-sixteen.ensures.upper_bound, c.add_if.ensures.upper_bound) }

@@ -5,4 +5,4 @@ use Rattle.bench_lines.proofs.add_hex.Goals as goal
 
 pub returns : goal.returns
 returns c =
-    (adds-part c.args.text.now _ c.args.at (omega arith) c.put_hex.ensures.0, omega arith)
+    record { adds = adds-part c.args.text.now _ c.args.at (omega arith) c.put_hex.ensures.puts; value = omega arith }

@@ -6,7 +6,7 @@ use Rattle.bench_lines.proofs.add_if.Goals as goal
 pub returns-then-wanted : goal.returns-then-wanted
 returns-then-wanted c =
     let the-if1 = c.if-wanted in
-    (rw the-if1.true c.add.ensures, omega (arith, c.add.ensures.count))
+    record { adds = rw the-if1.true c.add.ensures; upper_bound = omega (arith, c.add.ensures.count) }
 
 pub returns : goal.returns
-returns c = (rw c.if-wanted.false (adds_none _ _), omega arith)
+returns c = record { adds = rw c.if-wanted.false (adds_none _ _); upper_bound = omega arith }

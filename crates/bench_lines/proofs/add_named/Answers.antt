@@ -6,4 +6,4 @@ use Rattle.bench_lines.proofs.add_named.Goals as goal
 pub returns : goal.returns
 returns c =
     let the-add = c.add-at in
-    (adds_then the-add.ensures c.add_number.ensures.0, omega (arith, the-add.ensures.count))
+    record { adds = adds_then the-add.ensures c.add_number.ensures.adds; upper_bound = omega (arith, the-add.ensures.count) }

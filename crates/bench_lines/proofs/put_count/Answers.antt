@@ -9,4 +9,4 @@ unfolding count_line
 returns c =
     let the-add = c.add-at in
     let the-add-named = c.add_named-at in
-    ((adds_then the-add.ensures (adds_then the-add-named.ensures.0 c.add.ensures)).text, omega (arith, the-add.ensures.count))
+    record { text_after = (adds_then the-add.ensures (adds_then the-add-named.ensures.adds c.add.ensures)).text; upper_bound = omega (arith, the-add.ensures.count) }

@@ -11,4 +11,4 @@ returns c =
     let the-add = c.add-at in
     let the-add-named = c.add_named-at in
     let the-add-records = c.add_records-at in
-    ((adds_then the-add.ensures (adds_then the-add-named.ensures.0 (adds_then the-add-records.ensures.0 c.add.ensures))).text, omega (arith, the-add.ensures.count, the-add-records.ensures.1, c.requires))
+    record { text_after = (adds_then the-add.ensures (adds_then the-add-named.ensures.adds (adds_then the-add-records.ensures.adds c.add.ensures))).text; upper_bound = omega (arith, the-add.ensures.count, the-add-records.ensures.upper_bound, c.requires) }

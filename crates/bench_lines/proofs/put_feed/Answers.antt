@@ -9,4 +9,4 @@ unfolding feed_line
 returns c =
     let the-add = c.add-at in
     let the-add-feed = c.add_feed-at in
-    ((adds_then the-add.ensures (adds_then the-add-feed.ensures.0 c.add.ensures)).text, omega (arith, the-add.ensures.count, the-add-feed.ensures.1, c.requires))
+    record { text_after = (adds_then the-add.ensures (adds_then the-add-feed.ensures.adds c.add.ensures)).text; upper_bound = omega (arith, the-add.ensures.count, the-add-feed.ensures.upper_bound, c.requires) }

@@ -47,7 +47,7 @@ returns-in-Unwrap c =
 
 pub returns-in_default : goal.returns-in_default
 returns-in_default c =
-    tells-bad _ _ (sym (as-hex _ _ _ c.is_hex.ensures c.if-is_hex.true) ∙ octets-other c.args.verb _ c.in_default.keys6)
+    tells-bad _ _ (sym (as-hex _ _ _ c.is_hex.ensures c.if-is_hex.true) ∙ octets-other c.args.verb _ c.in_default.in_default-own.keys6)
 
 pub returns : goal.returns
 returns c = tells-bad _ _ (no-as-hex _ _ _ c.is_hex.ensures c.if-is_hex.false)

@@ -13,4 +13,4 @@ unfolding does meant
 returns-in-Save c = record { means = rw c.in-Save.is; lies = tt }
 
 pub returns-in_default : goal.returns-in_default
-returns-in_default c = none-bad _ c.args.verb c.in_default.keys3
+returns-in_default c = none-bad _ c.args.verb c.in_default.in_default-own.keys3

@@ -4,7 +4,7 @@ use borrow.Author.Rules.{rules}
 use Rattle.bench_orders.proofs.with_one.Goals as goal
 
 pub returns-in-Start : goal.returns-in-Start
-returns-in-Start c = rw (one-number-does c.args.verb _ c.in-Start.keys1) c.with_number.ensures
+returns-in-Start c = rw (one-number-does c.args.verb _ c.in-Start.in-Start-own.keys1) c.with_number.ensures
 
 pub returns-in-Restore : goal.returns-in-Restore
 unfolding does
@@ -15,4 +15,4 @@ unfolding does
 returns-in-Move c = rw c.in-Move.is c.with_move.ensures
 
 pub returns-in_default : goal.returns-in_default
-returns-in_default c = rw (one-hex-does c.args.verb _ c.in_default.keys4) c.with_hex.ensures
+returns-in_default c = rw (one-hex-does c.args.verb _ c.in_default.in_default-own.keys4) c.with_hex.ensures

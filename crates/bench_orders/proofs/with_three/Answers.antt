@@ -49,4 +49,4 @@ unfolding does
 returns-in-Vet c = rw c.in-Vet.is c.with_vet.ensures
 
 pub returns-in_default : goal.returns-in_default
-returns-in_default c = three-bad _ c.args.verb _ _ _ _ c.in_default.keys4
+returns-in_default c = three-bad _ c.args.verb _ _ _ _ c.in_default.in_default-own.keys4

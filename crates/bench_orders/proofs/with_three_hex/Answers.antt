@@ -7,22 +7,22 @@ use mathlib.Core.Bool.{not}
 use Rattle.bench_orders.proofs.with_three_hex.Goals as goal
 
 pub returns-then-not-hex_at : goal.returns-then-not-hex_at
-returns-then-not-hex_at c = tells-bad _ _ (not-first-hex _ _ _ _ c.hex_at.ensures (not-true _ (ap not c.if-not-hex_at.true)))
+returns-then-not-hex_at c = tells-bad _ _ (not-first-hex _ _ _ _ c.hex_at.ensures c.if-not-hex_at.true)
 
 pub returns-then-not-hex_at-2 : goal.returns-then-not-hex_at-2
 returns-then-not-hex_at-2 c =
-    tells-bad _ _ (not-second-hex _ _ _ _ _ c.hex_at.ensures (not-false _ (ap not c.if-not-hex_at.false)) c.hex_at-2.ensures (not-true _ (ap not c.if-not-hex_at-2.true)))
+    tells-bad _ _ (not-second-hex _ _ _ _ _ c.hex_at.ensures c.if-not-hex_at.false c.hex_at-2.ensures c.if-not-hex_at-2.true)
 
 pub returns-then-not-hex_at-3 : goal.returns-then-not-hex_at-3
 returns-then-not-hex_at-3 c =
-    tells-bad _ _ (not-third-hex _ _ _ _ _ _ c.hex_at.ensures (not-false _ (ap not c.if-not-hex_at.false)) c.hex_at-2.ensures (not-false _ (ap not c.if-not-hex_at-2.false)) c.hex_at-3.ensures (not-true _ (ap not c.if-not-hex_at-3.true)))
+    tells-bad _ _ (not-third-hex _ _ _ _ _ _ c.hex_at.ensures c.if-not-hex_at.false c.hex_at-2.ensures c.if-not-hex_at-2.false c.hex_at-3.ensures c.if-not-hex_at-3.true)
 
 pub returns : goal.returns
 unfolding meant
 returns c =
-    let first = not-false _ (ap not c.if-not-hex_at.false) in
-    let second = not-false _ (ap not c.if-not-hex_at-2.false) in
-    let third = not-false _ (ap not c.if-not-hex_at-3.false) in
+    let first = c.if-not-hex_at.false in
+    let second = c.if-not-hex_at-2.false in
+    let third = c.if-not-hex_at-3.false in
     record {
       means = three-hex _ _ _ _ _ _ c.hex_at.ensures first c.hex_at-2.ensures second c.hex_at-3.ensures third;
       lies = (

@@ -66,4 +66,4 @@ returns-in-Is-number_with_hex c =
     }
 
 pub returns-in_default : goal.returns-in_default
-returns-in_default c = two-bad _ c.args.verb _ _ c.in_default.keys4
+returns-in_default c = two-bad _ c.args.verb _ _ c.in_default.in_default-own.keys4

@@ -16,7 +16,7 @@ pub returns-then-not-hex_at : goal.returns-then-not-hex_at
 unfolding meant
 returns-then-not-hex_at c =
     record {
-      means = no-first-of-hexes _ _ _ _ c.hex_at.ensures (not-true _ (ap not c.if-not-hex_at.true)) ∙ number-of-hexes Said.vet _ _ _ _ c.number_at.ensures c.in-Is.is;
+      means = no-first-of-hexes _ _ _ _ c.hex_at.ensures c.if-not-hex_at.true ∙ number-of-hexes Said.vet _ _ _ _ c.number_at.ensures c.in-Is.is;
       lies = tt;
     }
 
@@ -24,15 +24,15 @@ pub returns-then-not-hex_at-2 : goal.returns-then-not-hex_at-2
 unfolding meant
 returns-then-not-hex_at-2 c =
     record {
-      means = no-hex _ _ _ c.hex_at-2.ensures (not-true _ (ap not c.if-not-hex_at-2.true)) ∙ first-of-hexes _ _ _ _ c.hex_at.ensures (not-false _ (ap not c.if-not-hex_at.false)) ∙ number-of-hexes Said.vet _ _ _ _ c.number_at.ensures c.in-Is.is;
+      means = no-hex _ _ _ c.hex_at-2.ensures c.if-not-hex_at-2.true ∙ first-of-hexes _ _ _ _ c.hex_at.ensures c.if-not-hex_at.false ∙ number-of-hexes Said.vet _ _ _ _ c.number_at.ensures c.in-Is.is;
       lies = tt;
     }
 
 pub returns : goal.returns
 unfolding meant
 returns c =
-    let second = not-false _ (ap not c.if-not-hex_at.false) in
-    let third = not-false _ (ap not c.if-not-hex_at-2.false) in
+    let second = c.if-not-hex_at.false in
+    let third = c.if-not-hex_at-2.false in
     record {
       means = one-hex _ _ _ c.hex_at-2.ensures third ∙ first-of-hexes _ _ _ _ c.hex_at.ensures second ∙ number-of-hexes Said.vet _ _ _ _ c.number_at.ensures c.in-Is.is;
       lies = (

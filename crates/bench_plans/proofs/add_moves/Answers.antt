@@ -19,7 +19,7 @@ pub loop-i-preserved : goal.loop-i-preserved
 loop-i-preserved c =
     let the-loop-test = c.loop-i-test in
     let o = c.args.list.now in
-    (omega arith, omega arith, omega arith, rw (sym (moves_more (list_in o) c.loop-i.i _ (entry-there o c.loop-i.i the-loop-test.true))) (adds_then c.loop-i.invariant.3 c.add_move-at.ensures.0))
+    (omega arith, omega arith, omega arith, rw (sym (moves_more (list_in o) c.loop-i.i _ (entry-there o c.loop-i.i the-loop-test.true))) (adds_then c.loop-i.invariant.3 c.add_move-at.ensures.adds))
 
 pub shape_of-text : goal.shape_of-text
 shape_of-text c = c.loop-i.invariant.1
@@ -27,4 +27,4 @@ shape_of-text c = c.loop-i.invariant.1
 pub returns : goal.returns
 returns c =
     let e = take_all c.loop-i.i (list_in c.args.list.now) (entries-end _ _ c.loop-i-test.false) in
-    (rw e at c.loop-i.invariant.3, omega arith)
+    record { adds = rw e at c.loop-i.invariant.3; upper_bound = omega arith }

@@ -5,4 +5,4 @@ use Rattle.bench_plans.proofs.on_plan.Goals as goal
 
 pub returns : goal.returns
 returns c =
-    λ number room. says-plan (card_of c.args.numbers.now c.args.names.now) _ room _ c.decode_hex-n.ensures.0 c.put_plan.ensures.0 c.put_plan.ensures.1 number
+    λ number room. says-plan (card_of c.args.numbers.now c.args.names.now) _ room _ c.decode_hex-n.ensures.puts c.put_plan.ensures.text_after c.put_plan.ensures.upper_bound number

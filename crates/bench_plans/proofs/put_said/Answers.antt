@@ -14,4 +14,4 @@ returns c =
     let y = the-add2.ensures in
     let x = the-add.ensures in
     let w = c.add.ensures in
-    ((adds_then x (adds_then y (adds_then z w))).text, omega (arith, x.count, y.count, z.count, w.count))
+    record { text_after = (adds_then x (adds_then y (adds_then z w))).text; upper_bound = omega (arith, x.count, y.count, z.count, w.count) }

@@ -10,18 +10,18 @@ unfolding ascii
 returns-in-Refused c =
     let the-check-list = c.check_list in
     let the_number = c.in-Refused in
-    (c.put_count.ensures.0 ∙ vet-refused _ _ _ the-check-list.ensures the_number.is, omega (arith, c.put_count.ensures.1))
+    record { text_after = c.put_count.ensures.text_after ∙ vet-refused _ _ _ the-check-list.ensures the_number.is; upper_bound = omega (arith, c.put_count.ensures.upper_bound) }
 
 pub returns-in-Rejected : goal.returns-in-Rejected
 unfolding ascii
 returns-in-Rejected c =
     let the-check-list = c.check_list in
     let the-enum-told = c.in-Rejected in
-    (c.put_said.ensures.0 ∙ vet-rejected _ _ the-check-list.ensures the-enum-told.is, c.put_said.ensures.1)
+    record { text_after = c.put_said.ensures.text_after ∙ vet-rejected _ _ the-check-list.ensures the-enum-told.is; upper_bound = c.put_said.ensures.upper_bound }
 
 pub returns-in-Accepted : goal.returns-in-Accepted
 unfolding ascii
 returns-in-Accepted c =
     let the-check-list = c.check_list in
     let the-enum-told2 = c.in-Accepted in
-    (c.put_count-in-Accepted.ensures.0 ∙ vet-accepted _ _ the-check-list.ensures the-enum-told2.is, omega (arith, c.put_count-in-Accepted.ensures.1))
+    record { text_after = c.put_count-in-Accepted.ensures.text_after ∙ vet-accepted _ _ the-check-list.ensures the-enum-told2.is; upper_bound = omega (arith, c.put_count-in-Accepted.ensures.upper_bound) }

@@ -20,4 +20,4 @@ returns c =
     let the-longest-save2 = c.longest_save-out in
     let the-decode-hex = c.decode_hex-n in
     let the-newer = c.newer-moved in
-    λ number d. says-newer number c.args.room _ d _ _ _ _ _ _ (omega (arith, the_lent.ensures.1, the-longest-save2.ensures)) (front-is the-decode-hex.ensures.0) the-newer.ensures.0 c.put_event.ensures.1 c.put_event.ensures.0
+    λ number d. says-newer number c.args.room _ d _ _ _ _ _ _ (omega (arith, the_lent.ensures.1, the-longest-save2.ensures)) (front-is the-decode-hex.ensures.puts) the-newer.ensures.0 c.put_event.ensures.upper_bound c.put_event.ensures.text_after

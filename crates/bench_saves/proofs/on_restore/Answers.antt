@@ -10,4 +10,4 @@ pub returns : goal.returns
 returns c =
     let the-decode-hex = c.decode_hex-n in
     let the-restore = c.restore-answer in
-    λ number room. says-restored (form_of c.args.second) number room (card_of c.args.numbers.now c.args.names.now) _ _ _ _ _ _ (front-is the-decode-hex.ensures.0) the-restore.ensures.0 the-restore.ensures.1 c.put_restored.ensures.1 c.put_restored.ensures.0
+    λ number room. says-restored (form_of c.args.second) number room (card_of c.args.numbers.now c.args.names.now) _ _ _ _ _ _ (front-is the-decode-hex.ensures.puts) the-restore.ensures.0 the-restore.ensures.1 c.put_restored.ensures.1 c.put_restored.ensures.0

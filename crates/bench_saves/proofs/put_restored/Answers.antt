@@ -9,10 +9,10 @@ pub returns-then-second : goal.returns-then-second
 unfolding ascii
 returns-then-second c =
     let the-if1 = c.if-second in
-    (restored-new _ _ _ the-if1.true c.put_count.ensures.0, omega (arith, c.put_count.ensures.1))
+    (restored-new _ _ _ the-if1.true c.put_count.ensures.text_after, omega (arith, c.put_count.ensures.upper_bound))
 
 pub returns : goal.returns
 unfolding ascii
 returns c =
     let the-if1 = c.if-second in
-    (restored-old _ _ _ the-if1.false c.put_count-2.ensures.0, omega (arith, c.put_count-2.ensures.1))
+    (restored-old _ _ _ the-if1.false c.put_count-2.ensures.text_after, omega (arith, c.put_count-2.ensures.upper_bound))

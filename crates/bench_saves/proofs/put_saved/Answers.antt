@@ -9,10 +9,10 @@ pub returns-then-second : goal.returns-then-second
 unfolding ascii
 returns-then-second c =
     let the-if1 = c.if-second in
-    (saved-new _ _ _ 0 _ [] the-if1.true c.put_event.ensures.0, c.put_event.ensures.1)
+    (saved-new _ _ _ 0 _ [] the-if1.true c.put_event.ensures.text_after, c.put_event.ensures.upper_bound)
 
 pub returns : goal.returns
 unfolding ascii
 returns c =
     let the-if1 = c.if-second in
-    (saved-old _ _ _ 0 _ [] the-if1.false c.put_event-2.ensures.0, c.put_event-2.ensures.1)
+    (saved-old _ _ _ 0 _ [] the-if1.false c.put_event-2.ensures.text_after, c.put_event-2.ensures.upper_bound)

@@ -16,14 +16,14 @@ loop-i-init c = (omega arith, omega arith, refl)
 pub returns-then-not-is_gap : goal.returns-then-not-is_gap
 returns-then-not-is_gap c =
     let the-loop = c.loop-i in
-    (the-loop.invariant, sym c.is_gap.ensures ∙ not-true _ (ap not c.if-not-is_gap.true))
+    record { lower_bound = the-loop.invariant; result_value = sym c.is_gap.ensures ∙ c.if-not-is_gap.true }
 
 pub loop-i-preserved : goal.loop-i-preserved
 loop-i-preserved c =
     let the-loop = c.loop-i in
-    (omega arith, omega arith, the-loop.invariant.2 ∙ gap_more _ _ c.loop-i-test.true (sym c.is_gap.ensures ∙ not-false _ (ap not c.if-not-is_gap.false)))
+    (omega arith, omega arith, the-loop.invariant.2 ∙ gap_more _ _ c.loop-i-test.true (sym c.is_gap.ensures ∙ c.if-not-is_gap.false))
 
 pub returns : goal.returns
 returns c =
     let e : get_or c.args.line.now c.loop-i.i 0 ≡ 0 = get_or-eq_default c.args.line.now 0 c.loop-i-test.false in
-    (c.loop-i.invariant, rw e refl)
+    record { lower_bound = c.loop-i.invariant; result_value = rw e refl }

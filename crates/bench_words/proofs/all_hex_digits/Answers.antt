@@ -17,12 +17,12 @@ loop-i-init c = (omega arith, refl)
 pub returns-then-not-is_hex_digit : goal.returns-then-not-is_hex_digit
 returns-then-not-is_hex_digit c =
     let the-loop = c.loop-i in
-    sym (the-loop.invariant.1 ∙ all-stop is_hex_digit _ _ c.loop-i-test.true (sym c.is_hex_digit.ensures ∙ not-true _ (ap not c.if-not-is_hex_digit.true)))
+    sym (the-loop.invariant.1 ∙ all-stop is_hex_digit _ _ c.loop-i-test.true (sym c.is_hex_digit.ensures ∙ c.if-not-is_hex_digit.true))
 
 pub loop-i-preserved : goal.loop-i-preserved
 loop-i-preserved c =
     let the-loop = c.loop-i in
-    (omega arith, the-loop.invariant.1 ∙ all_more is_hex_digit _ _ c.loop-i-test.true (sym c.is_hex_digit.ensures ∙ not-false _ (ap not c.if-not-is_hex_digit.false)))
+    (omega arith, the-loop.invariant.1 ∙ all_more is_hex_digit _ _ c.loop-i-test.true (sym c.is_hex_digit.ensures ∙ c.if-not-is_hex_digit.false))
 
 pub returns : goal.returns
 returns c = sym (c.loop-i.invariant.1 ∙ all_end is_hex_digit _ _ c.loop-i-test.false)

@@ -28,7 +28,4 @@ pub returns : goal.returns
 returns c =
     let a = c.args in
     let n = length a.hex.now / 2 in
-    let w : n ≤ length c.loop-i.out = omega arith in (
-      puts-front (octets_of a.hex.now) a.out.now c.loop-i.out n c.loop-i.i (sym (octets-length a.hex.now)) (omega arith) (omega arith) c.loop-i.invariant.2,
-      (w, sym (length-take-le n c.loop-i.out w)),
-    )
+    let w : n ≤ length c.loop-i.out = omega arith in record { puts = puts-front (octets_of a.hex.now) a.out.now c.loop-i.out n c.loop-i.i (sym (octets-length a.hex.now)) (omega arith) (omega arith) c.loop-i.invariant.2; upper_bound = (w, sym (length-take-le n c.loop-i.out w)) }

@@ -35,7 +35,4 @@ shape_of-out c = c.loop-i.invariant.1
 
 pub returns : goal.returns
 returns c =
-    let n = hex-length c.args.octets.now in (
-      puts-front (hex_of c.args.octets.now) c.args.out.now c.loop-i.out (length c.args.octets.now * 2) (c.loop-i.i * 2) (sym n) (omega arith) (omega arith) c.loop-i.invariant.2,
-      refl,
-    )
+    let n = hex-length c.args.octets.now in record { puts = puts-front (hex_of c.args.octets.now) c.args.out.now c.loop-i.out (length c.args.octets.now * 2) (c.loop-i.i * 2) (sym n) (omega arith) (omega arith) c.loop-i.invariant.2; value = refl }

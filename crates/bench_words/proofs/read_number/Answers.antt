@@ -17,13 +17,13 @@ loop-i-init c = (omega arith, omega arith, refl, refl)
 pub returns-then-not-is_digit : goal.returns-then-not-is_digit
 returns-then-not-is_digit c =
     let the-loop = c.loop-i in
-    sym (number-letter _ (the-loop.invariant.2 ∙ all-stop is_digit _ _ c.loop-i-test.true (sym c.is_digit.ensures ∙ not-true _ (ap not c.if-not-is_digit.true))))
+    sym (number-letter _ (the-loop.invariant.2 ∙ all-stop is_digit _ _ c.loop-i-test.true (sym c.is_digit.ensures ∙ c.if-not-is_digit.true)))
 
 pub overflow_sub-value : goal.overflow_sub-value
 overflow_sub-value c =
     let the-loop = c.loop-i in
     let w = c.args.word.now in
-    let b = between 48 (get_or w the-loop.i 0) 57 (sym c.is_digit.ensures ∙ not-false _ (ap not c.if-not-is_digit.false)) in
+    let b = between 48 (get_or w the-loop.i 0) 57 (sym c.is_digit.ensures ∙ c.if-not-is_digit.false) in
     omega arith
 
 pub returns-then-value-gt4294967295 : goal.returns-then-value-gt4294967295
@@ -44,7 +44,7 @@ loop-i-preserved c =
     let i = c.loop-i.i in
     let h = the-loop-test.true in
     let a : c.at.result ≡ get_or w i 0 = c.at.ensures.0 in
-    (omega arith, omega arith, c.loop-i.invariant.2 ∙ all_more is_digit w i h (sym c.is_digit.ensures ∙ not-false _ (ap not c.if-not-is_digit.false)), c.loop-i.invariant.3 ∙ value-more w i c.loop-i.value h ∙ rw a refl)
+    (omega arith, omega arith, c.loop-i.invariant.2 ∙ all_more is_digit w i h (sym c.is_digit.ensures ∙ c.if-not-is_digit.false), c.loop-i.invariant.3 ∙ value-more w i c.loop-i.value h ∙ rw a refl)
 
 pub returns : goal.returns
 returns c =

@@ -16,13 +16,13 @@ loop-i-init c = (omega arith, omega arith, refl)
 pub returns-then-not-is_letter : goal.returns-then-not-is_letter
 returns-then-not-is_letter c =
     let the-loop = c.loop-i in
-    let e = letter-stop c.args.line.now the-loop.i c.loop-i-test.true (sym c.is_letter.ensures ∙ not-true _ (ap not c.if-not-is_letter.true)) in
+    let e = letter-stop c.args.line.now the-loop.i c.loop-i-test.true (sym c.is_letter.ensures ∙ c.if-not-is_letter.true) in
     (omega arith, omega arith)
 
 pub loop-i-preserved : goal.loop-i-preserved
 loop-i-preserved c =
     let the-loop = c.loop-i in
-    let e = letter-more c.args.line.now the-loop.i c.loop-i-test.true (sym c.is_letter.ensures ∙ not-false _ (ap not c.if-not-is_letter.false)) in
+    let e = letter-more c.args.line.now the-loop.i c.loop-i-test.true (sym c.is_letter.ensures ∙ c.if-not-is_letter.false) in
     (omega arith, omega arith, omega arith)
 
 pub returns : goal.returns

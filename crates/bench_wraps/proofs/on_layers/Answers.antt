@@ -8,4 +8,4 @@ pub returns : goal.returns
 unfolding reply_to
 returns c =
     let the-decode-hex = c.decode_hex-n in
-    λ number room d. says-layers the-decode-hex.ensures.0 _ d room _ c.put_layers.ensures.1 c.put_layers.ensures.0
+    λ number room d. says-layers the-decode-hex.ensures.puts _ d room _ c.put_layers.ensures.upper_bound c.put_layers.ensures.text_after

@@ -7,4 +7,4 @@ use Rattle.bench_wraps.proofs.on_unwrap.Goals as goal
 pub returns : goal.returns
 unfolding reply_to
 returns c =
-    λ number d. says-unwrap _ c.output-out.ensures c.lent.ensures.1 c.decode_hex-n.ensures.0 _ d _ c.tell_unwrapped.ensures.1 c.tell_unwrapped.ensures.0
+    λ number d. says-unwrap _ c.output-out.ensures c.lent.ensures.1 c.decode_hex-n.ensures.puts _ d _ c.tell_unwrapped.ensures.1 c.tell_unwrapped.ensures.0

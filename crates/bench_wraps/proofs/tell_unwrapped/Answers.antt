@@ -10,7 +10,7 @@ use Rattle.bench_wraps.proofs.tell_unwrapped.Goals as goal
 pub returns-then-answer-ne0 : goal.returns-then-answer-ne0
 unfolding ascii
 returns-then-answer-ne0 c =
-    (c.put_count.ensures.0 ∙ not-unwrapped (length c.args.out.now) c.args.name.now c.unwrap-inner.ensures.0.0 c.if-answer-ne0.true, omega (arith, c.put_count.ensures.1))
+    (c.put_count.ensures.text_after ∙ not-unwrapped (length c.args.out.now) c.args.name.now c.unwrap-inner.ensures.0.0 c.if-answer-ne0.true, omega (arith, c.put_count.ensures.upper_bound))
 
 pub put_unwrapped-requires : goal.put_unwrapped-requires
 put_unwrapped-requires c =
@@ -25,4 +25,4 @@ put_unwrapped-requires c =
 
 pub returns : goal.returns
 returns c =
-    (c.put_unwrapped.ensures.0 ∙ unwrapped (length c.args.out.now) c.args.name.now c.unwrap-inner.ensures.0.0 c.if-answer-ne0.false _ _ c.root_of.ensures c.eight_of.ensures, c.put_unwrapped.ensures.1)
+    (c.put_unwrapped.ensures.text_after ∙ unwrapped (length c.args.out.now) c.args.name.now c.unwrap-inner.ensures.0.0 c.if-answer-ne0.false _ _ c.root_of.ensures c.eight_of.ensures, c.put_unwrapped.ensures.upper_bound)

@@ -13,5 +13,5 @@ returns c =
     λ os.
     let t = tree_at c.args.i (card_of c.args.numbers.now os) in
     c.holder_then.ensures os
-    ∙ ap (λ (b : Bool). holder c.args.u (with_leaf b (with_branch 16 0 t))) (c.is_IsLeaf.ensures os)
+    ∙ ap (λ (b : Bool). holder c.args.u (with_leaf b (with_branch 16 0 t))) (c.is_leaf.ensures os)
     ∙ ap (holder c.args.u) (with_none t t.leaf 0 (branches-length _ os _ c.requires.1.0) ∙ with-own t)

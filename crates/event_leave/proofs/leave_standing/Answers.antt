@@ -17,25 +17,25 @@ pub returns-then-not-is_leaf : goal.returns-then-not-is_leaf
 returns-then-not-is_leaf c =
     let the-leaf-holder = c.leaf_holder-u in
     let the-its-root = c.its_root-k in
-    let the-is-leaf = c.is_IsLeaf in
+    let the-is-leaf = c.is_leaf in
     let the-if1 = c.if-not-is_leaf in
     let card = (card_of c.args.numbers.now c.args.names.now) in
     let within : c.args.i < length card.trees = rw trees-length c.requires.3.0 in
     let S = left-standing card c.args.i c.requires.2 within _ (the-leaf-holder.ensures.0 _ the-its-root.ensures.0) in
-    leave-leafless card _ c.args.i _ c.requires.2 S (sym (the-is-leaf.ensures _) ∙ not-true _ the-if1.true) _ _ (c.leafless_refusal.ensures _)
+    leave-leafless card _ c.args.i _ c.requires.2 S (sym (the-is-leaf.ensures _) ∙ the-if1.true) _ _ (c.leafless_refusal.ensures _)
 
 pub returns-then-refusal-ne0 : goal.returns-then-refusal-ne0
 returns-then-refusal-ne0 c =
     let the-any-branch = c.any_branch-empty in
     let the-leaf-holder = c.leaf_holder-u in
     let the-its-root = c.its_root-k in
-    let the-is-leaf = c.is_IsLeaf in
+    let the-is-leaf = c.is_leaf in
     let the-if1 = c.if-not-is_leaf in
     let card = (card_of c.args.numbers.now c.args.names.now) in
     let within : c.args.i < length card.trees = rw trees-length c.requires.3.0 in
     let none = leaf-gone (tree_at c.args.i card) _ (branches-length _ _ _ c.requires.3.0) (the-any-branch.ensures _) in
     let S = left-standing card c.args.i c.requires.2 within _ (the-leaf-holder.ensures.0 _ the-its-root.ensures.0) in
-    rw (leave-leaf card _ c.args.i c.requires.2 within (sym (the-is-leaf.ensures _) ∙ not-false _ the-if1.false))
+    rw (leave-leaf card _ c.args.i c.requires.2 within (sym (the-is-leaf.ensures _) ∙ the-if1.false))
     (standing-refused card [] _ _ _ S _ 0 _ (no-records _) c.standing_refusal-refusal.ensures c.if-refusal-ne0.true)
 
 pub settle-requires : goal.settle-requires
@@ -58,7 +58,7 @@ returns c =
     let the-any-branch = c.any_branch-empty in
     let the-leaf-holder = c.leaf_holder-u in
     let the-its-root = c.its_root-k in
-    let the-is-leaf = c.is_IsLeaf in
+    let the-is-leaf = c.is_leaf in
     let the-if1 = c.if-not-is_leaf in
     let the-standing-refusal = c.standing_refusal-refusal in
     let the-if2 = c.if-refusal-ne0 in
@@ -69,6 +69,6 @@ returns c =
     let within : c.args.i < length card.trees = rw trees-length c.requires.3.0 in
     let none = leaf-gone (tree_at c.args.i card) _ (branches-length _ _ _ c.requires.3.0) (the-any-branch.ensures _) in
     let S = left-standing card c.args.i c.requires.2 within _ (the-leaf-holder.ensures.0 _ the-its-root.ensures.0) in
-    rw (leave-leaf card _ c.args.i c.requires.2 within (sym (the-is-leaf.ensures _) ∙ not-false _ the-if1.false))
+    rw (leave-leaf card _ c.args.i c.requires.2 within (sym (the-is-leaf.ensures _) ∙ the-if1.false))
     (standing-taken card [] _ _ _ S c.args.out.now 0 _ (no-records _) the-standing-refusal.ensures the-if2.false _ _ _
     (standing-ends card [] _ _ _ S c.args.out.now _ _ _ _ _ _ (the-next-id.ensures _) (the-change-leaf.ensures _ the-its-root.ensures.0) none the-settle.ensures))

@@ -20,7 +20,7 @@ returns-then-holder_then-eq-NOBODY c =
     let the-if2 = c.if-u-n in
     let u = the-held-for.ensures.0 c.args.names.now in
     let some = the-if1.false in (
-      loss-ends _ _ _ _ u _ (c.is_IsLeaf.ensures c.args.names.now) _ (c.holder_then.ensures c.args.names.now) the-if2.false some c.if-holder_then-eq-NOBODY.true (label-held _ _ _ c.requires.3.0 (λ z. some (u ∙ z))) _ (c.tree_name.ensures.0 c.args.numbers.now c.requires.3.0),
+      loss-ends _ _ _ _ u _ (c.is_leaf-leaf.ensures c.args.names.now) _ (c.holder_then.ensures c.args.names.now) the-if2.false some c.if-holder_then-eq-NOBODY.true (label-held _ _ _ c.requires.3.0 (λ z. some (u ∙ z))) _ (c.tree_name.ensures.0 c.args.numbers.now c.requires.3.0),
       omega arith,
     )
 
@@ -29,4 +29,4 @@ returns c =
     let the-held-for = c.held_for-u in
     let the-if1 = c.if-u-eq-NOBODY in
     let u = the-held-for.ensures.0 c.args.names.now in
-    (loss-stays _ _ _ _ u _ (c.is_IsLeaf.ensures c.args.names.now) _ (c.holder_then.ensures c.args.names.now) c.if-u-n.false the-if1.false c.if-holder_then-eq-NOBODY.false, omega arith)
+    (loss-stays _ _ _ _ u _ (c.is_leaf-leaf.ensures c.args.names.now) _ (c.holder_then.ensures c.args.names.now) c.if-u-n.false the-if1.false c.if-holder_then-eq-NOBODY.false, omega arith)

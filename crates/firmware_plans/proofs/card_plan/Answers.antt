@@ -7,12 +7,12 @@ use Rattle.firmware_plans.proofs.card_plan.Goals as goal
 
 pub returns-in-Refused : goal.returns-in-Refused
 unfolding is_listed plan_answer entries_of
-returns-in-Refused c = let made = c.plan-planned.ensures.0 in rw (← made.0, c.in-Refused.is) (refl, made.1, refl, refl)
+returns-in-Refused c = let made = c.plan-planned.ensures.fact in rw (← made.0, c.in-Refused.is) (refl, made.1, refl, refl)
 
 pub returns-in-None : goal.returns-in-None
 unfolding is_listed plan_answer entries_of
-returns-in-None c = let made = c.plan-planned.ensures.0 in rw (← made.0, c.in-None.is) (refl, made.1, refl, refl)
+returns-in-None c = let made = c.plan-planned.ensures.fact in rw (← made.0, c.in-None.is) (refl, made.1, refl, refl)
 
 pub returns-in-Listed : goal.returns-in-Listed
 unfolding is_listed plan_answer entries_of
-returns-in-Listed c = let made = c.plan-planned.ensures.0 in rw (← made.0, c.in-Listed.is) (refl, made.1, refl, refl)
+returns-in-Listed c = let made = c.plan-planned.ensures.fact in rw (← made.0, c.in-Listed.is) (refl, made.1, refl, refl)

@@ -9,10 +9,10 @@ pub returns-then-label-eq0 : goal.returns-then-label-eq0
 unfolding label_words ascii
 returns-then-label-eq0 c =
     let the-if1 = c.if-label-eq0 in
-    (rw (eq-eqb _ _ the-if1.true) c.add.ensures, omega (arith, c.add.ensures.count))
+    record { adds = rw (eq-eqb _ _ the-if1.true) c.add.ensures; upper_bound = omega (arith, c.add.ensures.count) }
 
 pub returns : goal.returns
 unfolding label_words ascii
 returns c =
     let the-if1 = c.if-label-eq0 in
-    (rw (ne_eqb _ _ the-if1.false) c.add_named.ensures.0, omega (arith, c.add_named.ensures.1))
+    record { adds = rw (ne_eqb _ _ the-if1.false) c.add_named.ensures.adds; upper_bound = omega (arith, c.add_named.ensures.upper_bound) }

@@ -12,7 +12,4 @@ pub returns : goal.returns
 returns c =
     let found = c.find_name-leaf in
     let feed = c.add_feed-at in
-    let end = c.add in (
-      adds_same (ap (λ (f : Feed). feed_words f ++ (10 ∷ [])) found.ensures) (adds_then feed.ensures.0 end.ensures),
-      omega (arith, feed.ensures.1, end.ensures.count),
-    )
+    let end = c.add in record { adds = adds_same (ap (λ (f : Feed). feed_words f ++ (10 ∷ [])) found.ensures) (adds_then feed.ensures.adds end.ensures); upper_bound = omega (arith, feed.ensures.upper_bound, end.ensures.count) }

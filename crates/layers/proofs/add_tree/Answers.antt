@@ -15,14 +15,14 @@ pub add_label-at-requires : goal.add_label-at-requires
 add_label-at-requires c =
     let name = c.tree_name-name in
     let layers = c.add_layers-at in
-    omega (arith, name.ensures.1, layers.ensures.1, layers.auto.0, c.requires.3)
+    omega (arith, name.ensures.1, layers.ensures.upper_bound, layers.auto.0, c.requires.3)
 
 pub add_leads-requires : goal.add_leads-requires
 add_leads-requires c =
     let name = c.tree_name-name in
     let layers = c.add_layers-at in
     let label = c.add_label-at in
-    (c.requires.0, c.requires.1, omega (arith, name.ensures.1, layers.ensures.1, layers.auto.0, label.ensures.1, label.auto.0, c.requires.3))
+    (c.requires.0, c.requires.1, omega (arith, name.ensures.1, layers.ensures.upper_bound, layers.auto.0, label.ensures.upper_bound, label.auto.0, c.requires.3))
 
 pub returns : goal.returns
 returns c =
@@ -30,7 +30,4 @@ returns c =
     let layers = c.add_layers-at in
     let own = c.tree_label in
     let label = c.add_label-at in
-    let leads = c.add_leads in (
-      adds_same (line_of _ _ _ _ (name.ensures.0 c.args.numbers.now c.requires.4.0) (own.ensures c.args.names.now)) (adds_then layers.ensures.0 (adds_then label.ensures.0 leads.ensures.0)),
-      omega (arith, name.ensures.1, layers.ensures.1, label.ensures.1, leads.ensures.1),
-    )
+    let leads = c.add_leads in record { fact = adds_same (line_of _ _ _ _ (name.ensures.0 c.args.numbers.now c.requires.4.0) (own.ensures c.args.names.now)) (adds_then layers.ensures.adds (adds_then label.ensures.adds leads.ensures.adds)); upper_bound = omega (arith, name.ensures.1, layers.ensures.upper_bound, label.ensures.upper_bound, leads.ensures.upper_bound) }

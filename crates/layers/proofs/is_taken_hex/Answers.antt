@@ -6,4 +6,4 @@ pub returns : goal.returns
 returns c =
     let the-decode-hex = c.decode_hex-n in
     let the-is-taken = c.is_taken in
-    shows-decoded the-decode-hex.ensures.0 the-is-taken.ensures
+    shows-decoded the-decode-hex.ensures.puts the-is-taken.ensures

@@ -6,4 +6,4 @@ use Rattle.layers.proofs.put_refused.Goals as goal
 
 pub returns : goal.returns
 unfolding no_save ascii
-returns c = (c.put_count.ensures.0, omega (arith, c.put_count.ensures.1))
+returns c = record { text_after = c.put_count.ensures.text_after; upper_bound = omega (arith, c.put_count.ensures.upper_bound) }

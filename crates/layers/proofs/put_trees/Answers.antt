@@ -35,8 +35,8 @@ loop-i-preserved c =
     let more = trees-more (card_of c.args.numbers.now c.args.names.now) c.loop-i.i (omega (arith, few, count.0, test)) in (
       omega (arith, test),
       omega (arith, line.auto.0, c.loop-i.invariant.1),
-      omega (arith, line.ensures.1, c.loop-i.invariant.2),
-      rw (sym more) (adds_then c.loop-i.invariant.3 line.ensures.0),
+      omega (arith, line.ensures.upper_bound, c.loop-i.invariant.2),
+      rw (sym more) (adds_then c.loop-i.invariant.3 line.ensures.fact),
     )
 
 pub shape_of-text : goal.shape_of-text
@@ -47,4 +47,4 @@ returns c =
     let count = c.tree_count-n.ensures in
     let few = trees-length c.args.numbers.now c.args.names.now in
     let all = table-whole (card_of c.args.numbers.now c.args.names.now) c.loop-i.i (omega (arith, few, count.0, c.loop-i-test.false)) in
-    (c.loop-i.invariant.3.text ∙ all, omega (arith, c.loop-i.invariant.2, c.loop-i.invariant.0, count.1))
+    record { text_after = c.loop-i.invariant.3.text ∙ all; upper_bound = omega (arith, c.loop-i.invariant.2, c.loop-i.invariant.0, count.1) }

@@ -11,7 +11,7 @@ use Rattle.memory.proofs.Columns.{one_more, space-within}
 use Rattle.memory.proofs.next_like.Given as goal
 
 abbrev pub invariant-loop-j : goal.invariant-loop-j
-invariant-loop-j l = (l.i ≤ l.j) × (l.j ≤ l.n) × (l.a ≡ l.from + l.j * (l.k + 1)) × ((l : ℕ) → l.i ≤ l → l < l.j → same (in_column l.k l.from l.names l) l.s ≡ false)
+invariant-loop-j l = (l.i ≤ l.j) × (l.j ≤ l.n) × (l.a ≡ l.from + l.j * (l.k + 1)) × ((p : ℕ) → l.i ≤ p → p < l.j → same (in_column l.k l.from l.names p) l.s ≡ false)
 
 abbrev pub decreases-loop-j : goal.decreases-loop-j
 decreases-loop-j l = l.n - l.j

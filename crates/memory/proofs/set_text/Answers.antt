@@ -6,9 +6,6 @@ use Rattle.memory.proofs.Parts.{text-written}
 use borrow.Author.Rules.{rules}
 use Rattle.memory.proofs.set_text.Goals as goal
 
-pub shape_of-names : goal.shape_of-names
-shape_of-names c = c.names-1.is ∙ simp length-set
-
 pub returns : goal.returns
 returns c =
     text-written c.args.at (c.args.at + 1 + length c.args.text.now - (c.args.at + 1)) _ _ _ c.requires.0 (omega arith) c.copy_text.ensures

@@ -23,7 +23,7 @@ returns c =
     let old = tree_at c.args.i card in
     let new = with_branch c.args.n c.args.label old in
     let long = branches-length c.args.numbers.now os c.args.i c.requires.2.0 in
-    let leaf = c.is_IsLeaf.ensures os in
+    let leaf = c.is_leaf-leaf.ensures os in
     let was = c.counts_of.ensures.0 old leaf (c.branch_count-branches.ensures.0 os) in
     let is = c.counts_of-2.ensures.0 new leaf (count-then old.branches c.args.n c.args.label _ _ _ (omega arith) (c.branch_count-branches.ensures.0 os) (c.count_of.ensures.0 os) c.one.ensures.0) in
     c.recount.ensures os old new (place_kept card _ _ _ new (c.set_branch.ensures os) refl k) was.0 was.1 is.0 is.1

@@ -13,7 +13,7 @@ returns c =
     let card = card_of c.args.numbers.now os in
     let old = tree_at c.args.i card in
     let new = with_leaf c.args.leaf old in
-    let was = c.counts_of-before.ensures.0 old (c.is_IsLeaf.ensures os) (c.branch_count-branches.ensures.0 os) in
+    let was = c.counts_of-before.ensures.0 old (c.is_leaf.ensures os) (c.branch_count-branches.ensures.0 os) in
     let is = c.counts_of.ensures.0 new refl (c.branch_count-branches.ensures.0 os) in
     c.recount.ensures os old new (place_kept card _ _ _ new (c.set_leaf.ensures os) refl k) was.0 was.1 is.0 is.1
     ∙ ap (recounted old new) (c.set_leaf.ensures os)

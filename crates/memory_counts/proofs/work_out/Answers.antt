@@ -4,11 +4,11 @@ use Rattle.memory.specs.Memory.{card_of}
 use Rattle.meaning.specs.Events.{total, in_root, one_standing, one_lone}
 use borrow.Author.Rules.{rules}
 use lib.ListN.{drop, length}
-use mathlib.Core.Logic.{⊎_elim}
 use mathlib.Core.Path.{◌≡◌, sym, ap, ◌∙◌}
 use native.Mathlib.Omega.{arith}
 use Prim.Native.Nat.{ℕ, ◌+◌, ◌-◌, ◌≤◌, ◌<◌}
 use Rattle.memory_counts.proofs.work_out.Goals as goal
+use Rattle.memory_counts.proofs.work_out.Goals.{then-is_of_root, else-is_of_root}
 
 pub loop-i-init : goal.loop-i-init
 loop-i-init c = (omega arith, omega arith, omega arith, omega arith, omega arith)
@@ -21,16 +21,10 @@ loop-i-preserved c =
     let within : c.loop-i.i < length card.trees = rw trees-length (omega arith) in
     let ours = c.is_of_root.ensures c.args.numbers.now (omega arith) in (
       omega arith,
-      ⊎_elim (λ w. omega (arith, w.4, w.1.ensures.1)) (λ w. omega (arith, w.1)) c.if-is_of_root.branch,
-      ⊎_elim (λ w. omega (arith, w.5, w.1.ensures.2)) (λ w. omega (arith, w.2)) c.if-is_of_root.branch,
-      ⊎_elim
-          (λ w. ap (λ (k : ℕ). k + total (in_root c.args.root.now one_standing) (drop (c.loop-i.i + 1) card.trees)) w.4 ∙ total-more c.args.root.now one_standing card c.loop-i.i c.loop-i.standing _ c.loop-i.invariant.3 _ within (sym w.0.taken ∙ ours) (w.1.ensures.0 _).0)
-          (λ w. ap (λ (k : ℕ). k + total (in_root c.args.root.now one_standing) (drop (c.loop-i.i + 1) card.trees)) w.1 ∙ total-past c.args.root.now one_standing card c.loop-i.i c.loop-i.standing _ c.loop-i.invariant.3 within (sym w.0.left ∙ ours))
-          c.if-is_of_root.branch,
-      ⊎_elim
-          (λ w. ap (λ (k : ℕ). k + total (in_root c.args.root.now one_lone) (drop (c.loop-i.i + 1) card.trees)) w.5 ∙ total-more c.args.root.now one_lone card c.loop-i.i c.loop-i.lone _ c.loop-i.invariant.4 _ within (sym w.0.taken ∙ ours) (w.1.ensures.0 _).1)
-          (λ w. ap (λ (k : ℕ). k + total (in_root c.args.root.now one_lone) (drop (c.loop-i.i + 1) card.trees)) w.2 ∙ total-past c.args.root.now one_lone card c.loop-i.i c.loop-i.lone _ c.loop-i.invariant.4 within (sym w.0.left ∙ ours))
-          c.if-is_of_root.branch,
+      elim c.if-is_of_root.branch [ then-is_of_root w ↦ omega (arith, w.standing-is, w.counts_at-t.ensures.1) | else-is_of_root w ↦ omega (arith, w.standing-is) ],
+      elim c.if-is_of_root.branch [ then-is_of_root w ↦ omega (arith, w.lone-is, w.counts_at-t.ensures.2) | else-is_of_root w ↦ omega (arith, w.lone-is) ],
+      elim c.if-is_of_root.branch [ then-is_of_root w ↦ ap (λ (k : ℕ). k + total (in_root c.args.root.now one_standing) (drop (c.loop-i.i + 1) card.trees)) w.standing-is ∙ total-more c.args.root.now one_standing card c.loop-i.i c.loop-i.standing _ c.loop-i.invariant.3 _ within (sym w.if-is_of_root.true ∙ ours) (w.counts_at-t.ensures.0 _).0 | else-is_of_root w ↦ ap (λ (k : ℕ). k + total (in_root c.args.root.now one_standing) (drop (c.loop-i.i + 1) card.trees)) w.standing-is ∙ total-past c.args.root.now one_standing card c.loop-i.i c.loop-i.standing _ c.loop-i.invariant.3 within (sym w.if-is_of_root.false ∙ ours) ],
+      elim c.if-is_of_root.branch [ then-is_of_root w ↦ ap (λ (k : ℕ). k + total (in_root c.args.root.now one_lone) (drop (c.loop-i.i + 1) card.trees)) w.lone-is ∙ total-more c.args.root.now one_lone card c.loop-i.i c.loop-i.lone _ c.loop-i.invariant.4 _ within (sym w.if-is_of_root.true ∙ ours) (w.counts_at-t.ensures.0 _).1 | else-is_of_root w ↦ ap (λ (k : ℕ). k + total (in_root c.args.root.now one_lone) (drop (c.loop-i.i + 1) card.trees)) w.lone-is ∙ total-past c.args.root.now one_lone card c.loop-i.i c.loop-i.lone _ c.loop-i.invariant.4 within (sym w.if-is_of_root.false ∙ ours) ],
     )
 
 pub returns : goal.returns

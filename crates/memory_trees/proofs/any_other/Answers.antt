@@ -1,7 +1,6 @@
 use Prim.Native.Nat.{ℕ, ◌-◌, ◌≤◌}
 use native.Mathlib.Omega.{arith}
 use mathlib.Core.Path.{◌≡◌, refl, sym, ◌∙◌}
-use mathlib.Core.Logic.{⊎_elim}
 use mathlib.Core.List.{List}
 use lib.ListN.{drop, set, length-set}
 use borrow.Author.Rules.{rules}
@@ -11,6 +10,7 @@ use Rattle.memory.specs.Memory.{card_of}
 use Rattle.memory.proofs.Trees.{branches-length}
 use Rattle.memory_trees.proofs.Others.{others-none, other-hit, other-zero, other-not}
 use Rattle.memory_trees.proofs.any_other.Goals as goal
+use Rattle.memory_trees.proofs.any_other.Goals.{then-branch-ne0+else-is_other, else-branch-ne0}
 
 pub loop-k-init : goal.loop-k-init
 loop-k-init c = (omega arith, (λ os. refl))
@@ -29,10 +29,10 @@ loop-k-preserved c = (
       let bs = (tree_at c.args.i (card_of c.args.numbers.now os)).branches in
       let n16 = branches-length c.args.numbers.now os c.args.i c.requires.1.0 in
       c.loop-k.invariant.1 os
-      ∙ ⊎_elim
-      (λ w. other-not bs c.args.n c.args.but c.loop-k.k (omega arith) (w.1.ensures.1 w.2.left))
-      (λ w. other-zero bs c.args.n c.args.but c.loop-k.k _ (omega arith) (c.branch-numbers.ensures os) w.left)
-      c.if-branch-ne0.branch,
+      ∙ elim c.if-branch-ne0.branch [
+        then-branch-ne0+else-is_other w ↦ other-not bs c.args.n c.args.but c.loop-k.k (omega arith) (w.is_other.ensures.1 w.if-is_other.false)
+        | else-branch-ne0 w ↦ other-zero bs c.args.n c.args.but c.loop-k.k _ (omega arith) (c.branch-numbers.ensures os) w.if-branch-ne0.false
+      ],
 )
 
 pub returns : goal.returns

@@ -24,11 +24,11 @@ pub equal_eight-requires : goal.equal_eight-requires
 equal_eight-requires c = (omega arith, omega arith)
 
 pub returns-then-not-equal_eight : goal.returns-then-not-equal_eight
-returns-then-not-equal_eight c = sym (same-part 8 (c.loop-n.n - 8) _ _ (sym c.equal_eight.ensures ∙ not-true _ (ap not c.if-not-equal_eight.true)))
+returns-then-not-equal_eight c = sym (same-part 8 (c.loop-n.n - 8) _ _ (sym c.equal_eight.ensures ∙ c.if-not-equal_eight.true))
 
 pub loop-n-preserved : goal.loop-n-preserved
 loop-n-preserved c =
-    (omega arith, c.loop-n.invariant.1, same-before 8 (c.loop-n.n - 8) c.loop-n.n _ _ (omega arith) (sym c.equal_eight.ensures ∙ not-false _ (ap not c.if-not-equal_eight.false)) c.loop-n.invariant.2)
+    (omega arith, c.loop-n.invariant.1, same-before 8 (c.loop-n.n - 8) c.loop-n.n _ _ (omega arith) (sym c.equal_eight.ensures ∙ c.if-not-equal_eight.false) c.loop-n.invariant.2)
 
 pub equal_eight-requires-2 : goal.equal_eight-requires-2
 equal_eight-requires-2 c = (omega arith, omega arith)

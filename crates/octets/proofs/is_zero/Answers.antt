@@ -27,14 +27,14 @@ pub returns-then-not-zero_eight : goal.returns-then-not-zero_eight
 returns-then-not-zero_eight c =
     let s = c.args.s.now in
     let i = c.loop-n.n - 8 in
-    sym (same-part 8 i s (zeros_for s) (sym (zeros-there 8 i s _ (omega arith) c.zero_eight.ensures) ∙ not-true _ (ap not c.if-not-zero_eight.true)))
+    sym (same-part 8 i s (zeros_for s) (sym (zeros-there 8 i s _ (omega arith) c.zero_eight.ensures) ∙ c.if-not-zero_eight.true))
 
 pub loop-n-preserved : goal.loop-n-preserved
 loop-n-preserved c =
     let s = c.args.s.now in
     let l = c.loop-n in
     let i = l.n - 8 in
-    (omega arith, same-before 8 i l.n s (zeros_for s) (omega arith) (sym (zeros-there 8 i s _ (omega arith) c.zero_eight.ensures) ∙ not-false _ (ap not c.if-not-zero_eight.false)) l.invariant.1)
+    (omega arith, same-before 8 i l.n s (zeros_for s) (omega arith) (sym (zeros-there 8 i s _ (omega arith) c.zero_eight.ensures) ∙ c.if-not-zero_eight.false) l.invariant.1)
 
 pub zero_eight-requires-2 : goal.zero_eight-requires-2
 zero_eight-requires-2 c = omega arith

@@ -17,11 +17,11 @@ is_free-requires c = (c.requires, omega (arith, c.loop-p.invariant.0))
 
 pub returns-then-not-is_free : goal.returns-then-not-is_free
 returns-then-not-is_free c =
-    λ os. used-highest _ os c.loop-p.p c.loop-p-test.true c.loop-p.invariant.0 (sym c.is_free.ensures.0 ∙ not-true _ (ap not c.if-not-is_free.true)) c.loop-p.invariant.1
+    λ os. used-highest _ os c.loop-p.p c.loop-p-test.true c.loop-p.invariant.0 (sym c.is_free.ensures.0 ∙ c.if-not-is_free.true) c.loop-p.invariant.1
 
 pub loop-p-preserved : goal.loop-p-preserved
 loop-p-preserved c =
-    (omega (arith, c.loop-p.invariant.0), none_more _ c.loop-p.p c.loop-p-test.true c.loop-p.invariant.1 (sym c.is_free.ensures.0 ∙ not-false _ (ap not c.if-not-is_free.false)))
+    (omega (arith, c.loop-p.invariant.0), none_more _ c.loop-p.p c.loop-p-test.true c.loop-p.invariant.1 (sym c.is_free.ensures.0 ∙ c.if-not-is_free.false))
 
 pub returns : goal.returns
 returns c = λ os. used-none _ os (λ q lo hi. c.loop-p.invariant.1 q (omega arith) hi)

@@ -8,11 +8,11 @@ use mathlib.Core.Bool.{not}
 use Rattle.save_reader.proofs.is_ruled.Goals as goal
 
 pub returns-then-not-keeps_rules : goal.returns-then-not-keeps_rules
-returns-then-not-keeps_rules c = not-ruled _ _ (sym c.keeps_rules.ensures ∙ not-true _ (ap not c.if-not-keeps_rules.true))
+returns-then-not-keeps_rules c = not-ruled _ _ (sym c.keeps_rules.ensures ∙ c.if-not-keeps_rules.true)
 
 pub returns-then-second : goal.returns-then-second
 returns-then-second c =
-    ruled-new _ _ c.if-second.true (sym c.keeps_rules.ensures ∙ not-false _ (ap not c.if-not-keeps_rules.false)) _ (c.is_last_right.ensures c.args.names.now)
+    ruled-new _ _ c.if-second.true (sym c.keeps_rules.ensures ∙ c.if-not-keeps_rules.false) _ (c.is_last_right.ensures c.args.names.now)
 
 pub returns : goal.returns
-returns c = ruled-old _ _ c.if-second.false (sym c.keeps_rules.ensures ∙ not-false _ (ap not c.if-not-keeps_rules.false))
+returns c = ruled-old _ _ c.if-second.false (sym c.keeps_rules.ensures ∙ c.if-not-keeps_rules.false)

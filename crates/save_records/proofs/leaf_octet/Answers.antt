@@ -6,7 +6,7 @@ use borrow.Author.Rules.{rules}
 use Rattle.save_records.proofs.leaf_octet.Goals as goal
 
 pub returns-then-is_leaf : goal.returns-then-is_leaf
-returns-then-is_leaf c = λ os. sym (ap (λ (b : Bool). pick b 1 0) (sym (c.is_IsLeaf.ensures os) ∙ c.if-is_leaf.true))
+returns-then-is_leaf c = λ os. sym (ap (λ (b : Bool). pick b 1 0) (sym (c.is_leaf.ensures os) ∙ c.if-is_leaf.true))
 
 pub returns-else-is_leaf : goal.returns-else-is_leaf
-returns-else-is_leaf c = λ os. sym (ap (λ (b : Bool). pick b 1 0) (sym (c.is_IsLeaf.ensures os) ∙ c.if-is_leaf.false))
+returns-else-is_leaf c = λ os. sym (ap (λ (b : Bool). pick b 1 0) (sym (c.is_leaf.ensures os) ∙ c.if-is_leaf.false))

@@ -25,12 +25,12 @@ is_told-requires c =
     (c.requires.0, c.requires.1, search rules, the-tree-tags.ensures, search rules, (omega (arith, n.0, h), omega (arith, n, h)))
 
 pub returns-then-not-is_told : goal.returns-then-not-is_told
-returns-then-not-is_told c = sym (c.is_told.ensures.1 (not-true _ (ap not c.if-not-is_told.true)))
+returns-then-not-is_told c = sym (c.is_told.ensures.1 c.if-not-is_told.true)
 
 pub loop-i-preserved : goal.loop-i-preserved
 loop-i-preserved c =
     let the-loop = c.loop-i in
-    (omega arith, told_more _ _ _ _ _ the-loop.invariant.1 (c.is_told.ensures.0 (not-false _ (ap not c.if-not-is_told.false))))
+    (omega arith, told_more _ _ _ _ _ the-loop.invariant.1 (c.is_told.ensures.0 c.if-not-is_told.false))
 
 pub returns : goal.returns
 returns c =

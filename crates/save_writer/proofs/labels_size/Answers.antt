@@ -17,7 +17,7 @@ pub returns-then-not-second : goal.returns-then-not-second
 returns-then-not-second c =
     let a = c.args in
     let k = c.spaced_labels_size.ensures in
-    (labels-old _ _ _ _ (not-true _ (ap not c.if-not-second.true)) (k.0 a.names.now), omega (arith, k.1))
+    (labels-old _ _ _ _ c.if-not-second.true (k.0 a.names.now), omega (arith, k.1))
 
 pub loop-p-init : goal.loop-p-init
 loop-p-init c = (omega arith, sum-none _, omega arith)

@@ -11,13 +11,13 @@ use Rattle.save_writer.proofs.save_core.Goals as goal
 
 pub returns-then-not-fits_save : goal.returns-then-not-fits_save
 returns-then-not-fits_save c =
-    does-long _ (card_of c.args.numbers.now c.args.names.now) c.args.out.now (sym c.fits_save.ensures ∙ not-true _ (ap not c.if-not-fits_save.true))
+    does-long _ (card_of c.args.numbers.now c.args.names.now) c.args.out.now (sym c.fits_save.ensures ∙ c.if-not-fits_save.true)
 
 pub returns-then-out-saved_size : goal.returns-then-out-saved_size
 returns-then-out-saved_size c =
     let the-fits-save = c.fits_save in
     let the-if1 = c.if-not-fits_save in
-    does-short _ (card_of c.args.numbers.now c.args.names.now) c.args.out.now _ c.saved_size.ensures.0 (sym the-fits-save.ensures ∙ not-false _ the-if1.false) c.if-out-saved_size.true
+    does-short _ (card_of c.args.numbers.now c.args.names.now) c.args.out.now _ c.saved_size.ensures.0 (sym the-fits-save.ensures ∙ the-if1.false) c.if-out-saved_size.true
 
 pub write_save-requires : goal.write_save-requires
 write_save-requires c =
@@ -30,4 +30,4 @@ returns c =
     let the-fits-save = c.fits_save in
     let the-if1 = c.if-not-fits_save in
     let the-if2 = c.if-out-saved_size in
-    does-save _ (card_of c.args.numbers.now c.args.names.now) c.args.out.now _ the-saved-size.ensures.0 (sym the-fits-save.ensures ∙ not-false _ the-if1.false) the-if2.false _ _ c.write_save.ensures
+    does-save _ (card_of c.args.numbers.now c.args.names.now) c.args.out.now _ the-saved-size.ensures.0 (sym the-fits-save.ensures ∙ the-if1.false) the-if2.false _ _ c.write_save.ensures

@@ -16,7 +16,7 @@ use Rattle.save_writer.proofs.trees_size.Goals as goal
 pub returns-then-not-second : goal.returns-then-not-second
 returns-then-not-second c =
     let n = c.tree_count-n.ensures in
-    (spaced-trees _ _ _ _ (not-true _ (ap not c.if-not-second.true)) n.0, omega (arith, n.1))
+    (spaced-trees _ _ _ _ c.if-not-second.true n.0, omega (arith, n.1))
 
 pub loop-i-init : goal.loop-i-init
 loop-i-init c = (omega arith, sum-none _, omega arith)

@@ -19,14 +19,14 @@ pub returns-then-not-is_tree : goal.returns-then-not-is_tree
 returns-then-not-is_tree c =
     let l = c.loop-left in
     let the-test = c.loop-left-test in
-    ((λ _. l.invariant.0 ∙ trees-stop _ l.at l.left the-test.true _ (sym c.is_tree.ensures ∙ not-true _ (ap not c.if-not-is_tree.true))), (λ z. absurd (omega arith)), omega arith)
+    ((λ _. l.invariant.0 ∙ trees-stop _ l.at l.left the-test.true _ (sym c.is_tree.ensures ∙ c.if-not-is_tree.true)), (λ z. absurd (omega arith)), omega arith)
 
 pub loop-left-preserved : goal.loop-left-preserved
 loop-left-preserved c =
     let l = c.loop-left in
     let the-test = c.loop-left-test in
     let e = c.extent_at-e.ensures in (
-      l.invariant.0 ∙ trees-next _ l.at l.left the-test.true _ _ e.0 (sym c.is_tree.ensures ∙ not-false _ (ap not c.if-not-is_tree.false)),
+      l.invariant.0 ∙ trees-next _ l.at l.left the-test.true _ _ e.0 (sym c.is_tree.ensures ∙ c.if-not-is_tree.false),
       l.invariant.1 ∙ trees-further _ l.at l.left the-test.true _ _ e.0,
       omega arith,
       omega arith,

@@ -16,9 +16,9 @@ returns-then-octets-at c =
 pub returns-then-not-is_marked : goal.returns-then-not-is_marked
 returns-then-not-is_marked c =
     let known = c.shared_slice_known-1 in
-    route-unmarked c.args.octets.now c.args.at (λ i. omega (arith, known.given i)) c.if-octets-at.false (sym c.is_marked.ensures ∙ not-true _ (ap not c.if-not-is_marked.true))
+    route-unmarked c.args.octets.now c.args.at (λ i. omega (arith, known.given i)) c.if-octets-at.false (sym c.is_marked.ensures ∙ c.if-not-is_marked.true)
 
 pub returns : goal.returns
 returns c =
     let known = c.shared_slice_known-1 in
-    route-there c.args.octets.now c.args.at (λ i. omega (arith, known.given i)) c.if-octets-at.false (sym c.is_marked.ensures ∙ not-false _ (ap not c.if-not-is_marked.false)) _ c.is_space.ensures
+    route-there c.args.octets.now c.args.at (λ i. omega (arith, known.given i)) c.if-octets-at.false (sym c.is_marked.ensures ∙ c.if-not-is_marked.false) _ c.is_space.ensures

@@ -17,7 +17,7 @@ returns-then-not-is_marked c =
     let known = c.shared_slice_known-1 in
     let a = c.args in
     tree-unmarked a.octets.now a.at _ a.e c.requires.1 (λ i. omega (arith, known.given i)) c.if-octets-at.false
-    (marked-so a.octets.now a.at _ _ _ _ c.tree_kind.ensures c.is_marked.ensures (not-true _ (ap not c.if-not-is_marked.true)))
+    (marked-so a.octets.now a.at _ _ _ _ c.tree_kind.ensures c.is_marked.ensures c.if-not-is_marked.true)
 
 pub returns-then-octets-at-gt1 : goal.returns-then-octets-at-gt1
 returns-then-octets-at-gt1 c =
@@ -26,7 +26,7 @@ returns-then-octets-at-gt1 c =
     let the-kind = c.tree_kind in
     let a = c.args in
     tree-no-leaf a.octets.now a.at _ a.e c.requires.1 (λ i. omega (arith, known.given i)) the-if1.false
-    (marked-so a.octets.now a.at _ _ _ _ the-kind.ensures c.is_marked.ensures (not-false _ (ap not c.if-not-is_marked.false))) c.if-octets-at-gt1.true
+    (marked-so a.octets.now a.at _ _ _ _ the-kind.ensures c.is_marked.ensures c.if-not-is_marked.false) c.if-octets-at-gt1.true
 
 pub returns : goal.returns
 returns c =
@@ -36,4 +36,4 @@ returns c =
     let the-mark = c.is_marked in
     let a = c.args in
     tree-stands a.octets.now a.at _ a.e c.requires.1 (λ i. omega (arith, known.given i)) the-if1.false
-    (marked-so a.octets.now a.at _ _ _ _ the-kind.ensures the-mark.ensures (not-false _ (ap not c.if-not-is_marked.false))) c.if-octets-at-gt1.false _ c.is_name.ensures
+    (marked-so a.octets.now a.at _ _ _ _ the-kind.ensures the-mark.ensures c.if-not-is_marked.false) c.if-octets-at-gt1.false _ c.is_name.ensures

@@ -19,9 +19,9 @@ returns-then-k c =
 pub returns-then-not-is_space : goal.returns-then-not-is_space
 returns-then-not-is_space c =
     let a = c.args in
-    no-root a.octets.now a.at _ (omega arith) refl c.if-k.false (sym c.is_space.ensures ∙ not-true _ (ap not c.if-not-is_space.true))
+    no-root a.octets.now a.at _ (omega arith) refl c.if-k.false (sym c.is_space.ensures ∙ c.if-not-is_space.true)
 
 pub returns : goal.returns
 returns c =
     let a = c.args in
-    root-and-value a.octets.now a.at _ (omega arith) refl c.if-k.false (sym c.is_space.ensures ∙ not-false _ (ap not c.if-not-is_space.false)) _ c.is_space-2.ensures
+    root-and-value a.octets.now a.at _ (omega arith) refl c.if-k.false (sym c.is_space.ensures ∙ c.if-not-is_space.false) _ c.is_space-2.ensures

@@ -19,7 +19,7 @@ returns-then-not-is_marked c =
     let known = c.shared_slice_known-1 in
     let a = c.args in
     use-unmarked a.octets.now a.at _ a.base a.least a.e c.requires.1 (λ i. omega (arith, known.given i)) c.if-octets-at.false
-    (marked-so a.octets.now a.at _ _ _ _ c.use_kind.ensures c.is_marked.ensures (not-true _ (ap not c.if-not-is_marked.true)))
+    (marked-so a.octets.now a.at _ _ _ _ c.use_kind.ensures c.is_marked.ensures c.if-not-is_marked.true)
 
 pub returns-then-not-is_label : goal.returns-then-not-is_label
 returns-then-not-is_label c =
@@ -28,7 +28,7 @@ returns-then-not-is_label c =
     let the-kind = c.use_kind in
     let a = c.args in
     use-no-label a.octets.now a.at _ a.base a.least a.e c.requires.1 (λ i. omega (arith, known.given i)) the-if1.false
-    (marked-so a.octets.now a.at _ _ _ _ the-kind.ensures c.is_marked.ensures (not-false _ (ap not c.if-not-is_marked.false))) (sym c.is_label.ensures ∙ not-true _ (ap not c.if-not-is_label.true))
+    (marked-so a.octets.now a.at _ _ _ _ the-kind.ensures c.is_marked.ensures c.if-not-is_marked.false) (sym c.is_label.ensures ∙ c.if-not-is_label.true)
 
 pub returns : goal.returns
 returns c =
@@ -38,4 +38,4 @@ returns c =
     let the-mark = c.is_marked in
     let a = c.args in
     use-stands a.octets.now a.at _ a.base a.least a.e c.requires.1 (λ i. omega (arith, known.given i)) the-if1.false
-    (marked-so a.octets.now a.at _ _ _ _ the-kind.ensures the-mark.ensures (not-false _ (ap not c.if-not-is_marked.false))) (sym c.is_label.ensures ∙ not-false _ (ap not c.if-not-is_label.false)) _ c.is_name.ensures
+    (marked-so a.octets.now a.at _ _ _ _ the-kind.ensures the-mark.ensures c.if-not-is_marked.false) (sym c.is_label.ensures ∙ c.if-not-is_label.false) _ c.is_name.ensures

@@ -18,12 +18,12 @@ loop-left-init c = (refl, omega arith)
 pub returns-then-not-is_route : goal.returns-then-not-is_route
 returns-then-not-is_route c =
     let l = c.loop-left in
-    sym (l.invariant.0 ∙ routes-stop _ l.at l.left c.loop-left-test.true (sym c.is_route.ensures ∙ not-true _ (ap not c.if-not-is_route.true)))
+    sym (l.invariant.0 ∙ routes-stop _ l.at l.left c.loop-left-test.true (sym c.is_route.ensures ∙ c.if-not-is_route.true))
 
 pub loop-left-preserved : goal.loop-left-preserved
 loop-left-preserved c =
     let l = c.loop-left in
-    (l.invariant.0 ∙ routes-next _ l.at l.left c.loop-left-test.true (sym c.is_route.ensures ∙ not-false _ (ap not c.if-not-is_route.false)), omega arith)
+    (l.invariant.0 ∙ routes-next _ l.at l.left c.loop-left-test.true (sym c.is_route.ensures ∙ c.if-not-is_route.false), omega arith)
 
 pub returns : goal.returns
 returns c =

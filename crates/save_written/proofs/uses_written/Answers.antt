@@ -26,7 +26,7 @@ pub returns-then-not-is_use : goal.returns-then-not-is_use
 returns-then-not-is_use c =
     let l = c.loop-left in
     let the-test = c.loop-left-test in
-    sym (l.invariant.0 ∙ uses-stop _ l.at l.left the-test.true _ _ _ (sym c.is_use.ensures ∙ not-true _ (ap not c.if-not-is_use.true)))
+    sym (l.invariant.0 ∙ uses-stop _ l.at l.left the-test.true _ _ _ (sym c.is_use.ensures ∙ c.if-not-is_use.true))
 
 pub loop-left-preserved : goal.loop-left-preserved
 loop-left-preserved c =
@@ -34,7 +34,7 @@ loop-left-preserved c =
     let the-test = c.loop-left-test in
     let o = c.args.octets.now in
     let label = c.four_at-l.ensures.0 ∙ sym (four-drop o l.at 3) in
-    (l.invariant.0 ∙ uses-next o l.at l.left the-test.true _ _ _ _ _ label c.extent_at-e.ensures.0 (sym c.is_use.ensures ∙ not-false _ (ap not c.if-not-is_use.false)), omega (arith, c.extent_at-e.ensures.1))
+    (l.invariant.0 ∙ uses-next o l.at l.left the-test.true _ _ _ _ _ label c.extent_at-e.ensures.0 (sym c.is_use.ensures ∙ c.if-not-is_use.false), omega (arith, c.extent_at-e.ensures.1))
 
 pub returns : goal.returns
 returns c =

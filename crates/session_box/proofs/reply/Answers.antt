@@ -8,10 +8,7 @@ use Rattle.session_box.proofs.reply.Goals as goal
 pub returns-then-line-kept : goal.returns-then-line-kept
 unfolding ascii
 returns-then-line-kept c =
-    let the-if1 = c.if-line-kept in (
-      omega arith,
-      λ o p e. says-bad _ _ _ _ o (too_long c.args.line.now c.args.kept o the-if1.true p e) (omega arith) c.put_count.ensures.0,
-    )
+    let the-if1 = c.if-line-kept in record { length_le_turns_space = omega arith; by_index = λ o p e. says-bad _ _ _ _ o (too_long c.args.line.now c.args.kept o the-if1.true p e) (omega arith) c.put_count.ensures.text_after }
 
 pub slice_bounds-whole-end : goal.slice_bounds-whole-end
 slice_bounds-whole-end c = sym (length-take-le c.args.kept c.args.line.now c.if-line-kept.false)
@@ -22,10 +19,7 @@ returns-then-is_own c =
     let the-if2 = c.if-is_own in
     let the-if1 = c.if-line-kept in
     let the-read-ask = c.read_ask-ask in
-    let said = c.answer.ensures (sym the-is-own.ensures ∙ the-if2.true) c.args.number in (
-      said.short,
-      λ o p e. rw (sym (keeps_line c.args.line.now c.args.kept o the-if1.false p)) (says-own _ _ _ _ _ _ the-read-ask.ensures said),
-    )
+    let said = c.answer.ensures (sym the-is-own.ensures ∙ the-if2.true) c.args.number in record { length_le_turns_space = said.short; by_index = λ o p e. rw (sym (keeps_line c.args.line.now c.args.kept o the-if1.false p)) (says-own _ _ _ _ _ _ the-read-ask.ensures said) }
 
 pub returns : goal.returns
 returns c =
@@ -33,8 +27,5 @@ returns c =
     let the-read-ask = c.read_ask-ask in
     let the-is-own = c.is_own in
     let the-if2 = c.if-is_own in
-    let said = c.answer-2.ensures in (
-      omega (arith, said.says.short),
-      λ o p e. rw (sym (keeps_line c.args.line.now c.args.kept o the-if1.false p))
-          (says-bench _ _ _ _ _ _ the-read-ask.ensures (sym the-is-own.ensures ∙ the-if2.false) said),
-    )
+    let said = c.answer-2.ensures in record { length_le_turns_space = omega (arith, said.says.short); by_index = λ o p e. rw (sym (keeps_line c.args.line.now c.args.kept o the-if1.false p))
+          (says-bench _ _ _ _ _ _ the-read-ask.ensures (sym the-is-own.ensures ∙ the-if2.false) said) }

@@ -18,4 +18,4 @@ returns c =
     let the-if1 = c.if-c-ne10 in
     let the-wrapping-add-u64 = c.wrapping_add_u64-number in
     let the-reply = c.reply-done in
-    λ s h. rw (after-end box_left s _ the-if1.false) (ended-stands s h the-wrapping-add-u64.ensures (the-reply.ensures.1 s.octets h.keeps h.long))
+    λ s h. rw (after-end box_left s _ the-if1.false) (ended-stands s h the-wrapping-add-u64.ensures (the-reply.ensures.by_index s.octets h.keeps h.long))

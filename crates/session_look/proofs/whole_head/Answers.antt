@@ -9,4 +9,4 @@ pub returns-in-Head : goal.returns-in-Head
 returns-in-Head c = head-is _ _ _ _ (ap shown (sym c.in-Head.is) ∙ c.look-shows.ensures)
 
 pub returns : goal.returns
-returns c = head-none-is _ _ _ _ c.in_default.keys2 c.look-shows.ensures
+returns c = head-none-is _ _ _ _ c.in_default.in_default-own.keys2 c.look-shows.ensures

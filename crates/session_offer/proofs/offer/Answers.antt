@@ -23,7 +23,7 @@ returns-in-Bad c =
       the-stop.ensures.0,
       took.ensures.1,
       offer-bad c.args.expected.now c.args.stream.now c.args.buffer.now c.args.offered.now took.new.stream took.new.buffer
-          took.result the-left.result the-place.result the-count.result goes took.ensures.2 the-left.ensures.0 the-place.ensures.0 the-count.ensures.0 the-look.result the-look.ensures the-stop.new.stream the_match.keys1 (the-stop.ensures.1 took.new.buffer),
+          took.result the-left.result the-place.result the-count.result goes took.ensures.2 the-left.ensures.0 the-place.ensures.0 the-count.ensures.0 the-look.result the-look.ensures the-stop.new.stream the_match.in-Bad-own.keys1 (the-stop.ensures.1 took.new.buffer),
     )
 
 pub returns-in-Message : goal.returns-in-Message
@@ -56,5 +56,5 @@ returns c =
       took.ensures.0,
       took.ensures.1,
       offer-wait c.args.expected.now c.args.stream.now c.args.buffer.now c.args.offered.now took.new.stream took.new.buffer
-          took.result the-left.result the-place.result the-count.result goes took.ensures.2 the-left.ensures.0 the-place.ensures.0 the-count.ensures.0 the-look.result the-look.ensures c.in_default.keys2 c.in_default-shows.keys2,
+          took.result the-left.result the-place.result the-count.result goes took.ensures.2 the-left.ensures.0 the-place.ensures.0 the-count.ensures.0 the-look.result the-look.ensures c.in_default.in_default-own.keys2 c.in_default-shows.in_default-own.keys2,
     )

@@ -17,26 +17,26 @@ loop-i-init c = (omega arith, c.requires, refl)
 pub returns-then-not-is_record : goal.returns-then-not-is_record
 returns-then-not-is_record c =
     let the-loop = c.loop-i in
-    finds-none _ _ _ _ the-loop.invariant.0 the-loop.invariant.1 the-loop.invariant.2 (sym c.is_record.ensures ∙ not-true _ (ap not c.if-not-is_record.true))
+    finds-none _ _ _ _ the-loop.invariant.0 the-loop.invariant.1 the-loop.invariant.2 (sym c.is_record.ensures ∙ c.if-not-is_record.true)
 
 pub returns-then-two_at-to : goal.returns-then-two_at-to
 returns-then-two_at-to c =
     let the-loop = c.loop-i in
     let the-loop-test = c.loop-i-test in
-    finds-there _ _ _ _ the-loop.invariant.0 the-loop.invariant.1 the-loop.invariant.2 the-loop-test.true (sym c.is_record.ensures ∙ not-false _ (ap not c.if-not-is_record.false)) (sym c.two_at.ensures.0 ∙ c.if-two_at-to.true)
+    finds-there _ _ _ _ the-loop.invariant.0 the-loop.invariant.1 the-loop.invariant.2 the-loop-test.true (sym c.is_record.ensures ∙ c.if-not-is_record.false) (sym c.two_at.ensures.0 ∙ c.if-two_at-to.true)
 
 pub overflow_add-i-in-loop-i : goal.overflow_add-i-in-loop-i
 overflow_add-i-in-loop-i c =
     let the-loop = c.loop-i in
     let the-is-record = c.is_record in
-    let more = finds-on c.args.to c.args.from c.args.records.now the-loop.i the-loop.invariant.0 the-loop.invariant.1 the-loop.invariant.2 _ c.message_size.ensures.0 (sym the-is-record.ensures ∙ not-false _ (ap not c.if-not-is_record.false)) (λ e. c.if-two_at-to.false (c.two_at.ensures.0 ∙ e)) in
+    let more = finds-on c.args.to c.args.from c.args.records.now the-loop.i the-loop.invariant.0 the-loop.invariant.1 the-loop.invariant.2 _ c.message_size.ensures.0 (sym the-is-record.ensures ∙ c.if-not-is_record.false) (λ e. c.if-two_at-to.false (c.two_at.ensures.0 ∙ e)) in
     omega (arith, c.message_size.ensures.1)
 
 pub overflow_add-i-in-loop-i-2 : goal.overflow_add-i-in-loop-i-2
 overflow_add-i-in-loop-i-2 c =
     let the-loop = c.loop-i in
     let the-is-record = c.is_record in
-    let more = finds-on c.args.to c.args.from c.args.records.now the-loop.i the-loop.invariant.0 the-loop.invariant.1 the-loop.invariant.2 _ c.message_size.ensures.0 (sym the-is-record.ensures ∙ not-false _ (ap not c.if-not-is_record.false)) (λ e. c.if-two_at-to.false (c.two_at.ensures.0 ∙ e)) in
+    let more = finds-on c.args.to c.args.from c.args.records.now the-loop.i the-loop.invariant.0 the-loop.invariant.1 the-loop.invariant.2 _ c.message_size.ensures.0 (sym the-is-record.ensures ∙ c.if-not-is_record.false) (λ e. c.if-two_at-to.false (c.two_at.ensures.0 ∙ e)) in
     omega (arith, more.0)
 
 pub loop-i-smaller : goal.loop-i-smaller
@@ -44,14 +44,14 @@ loop-i-smaller c =
     let the-loop = c.loop-i in
     let the-is-record = c.is_record in
     let the-loop-test = c.loop-i-test in
-    let more = finds-on c.args.to c.args.from c.args.records.now the-loop.i the-loop.invariant.0 the-loop.invariant.1 the-loop.invariant.2 _ c.message_size.ensures.0 (sym the-is-record.ensures ∙ not-false _ (ap not c.if-not-is_record.false)) (λ e. c.if-two_at-to.false (c.two_at.ensures.0 ∙ e)) in
+    let more = finds-on c.args.to c.args.from c.args.records.now the-loop.i the-loop.invariant.0 the-loop.invariant.1 the-loop.invariant.2 _ c.message_size.ensures.0 (sym the-is-record.ensures ∙ c.if-not-is_record.false) (λ e. c.if-two_at-to.false (c.two_at.ensures.0 ∙ e)) in
     omega (arith, more.0, the-loop-test.true)
 
 pub loop-i-preserved : goal.loop-i-preserved
 loop-i-preserved c =
     let the-loop = c.loop-i in
     let the-is-record = c.is_record in
-    let more = finds-on c.args.to c.args.from c.args.records.now the-loop.i the-loop.invariant.0 the-loop.invariant.1 the-loop.invariant.2 _ c.message_size.ensures.0 (sym the-is-record.ensures ∙ not-false _ (ap not c.if-not-is_record.false)) (λ e. c.if-two_at-to.false (c.two_at.ensures.0 ∙ e)) in
+    let more = finds-on c.args.to c.args.from c.args.records.now the-loop.i the-loop.invariant.0 the-loop.invariant.1 the-loop.invariant.2 _ c.message_size.ensures.0 (sym the-is-record.ensures ∙ c.if-not-is_record.false) (λ e. c.if-two_at-to.false (c.two_at.ensures.0 ∙ e)) in
     (omega (arith, the-loop.invariant.0), more.0, more.1)
 
 pub returns : goal.returns

@@ -10,4 +10,4 @@ unfolding call_text ascii
 returns c =
     let the-add-named = c.add_named-at in
     let the-add-named2 = c.add_named-at-2 in
-    (adds_then the-add-named.ensures.0 (adds_then the-add-named2.ensures.0 c.add_records.ensures.0), omega arith)
+    record { adds = adds_then the-add-named.ensures.adds (adds_then the-add-named2.ensures.adds c.add_records.ensures.adds); upper_bound = omega arith }

@@ -24,7 +24,7 @@ pub on_four-requires : goal.on_four-requires
 on_four-requires c =
     let the-ask = c.in-Octets in
     let lie = lies _ _ _ c.requires.0 the-ask.is in
-    (c.stream_of.ensures.1 c.args.line.now lie, search rules, part-short _ _ _ _ lie, c.requires.1)
+    (c.stream_of.ensures.by_index_2 c.args.line.now lie, search rules, part-short _ _ _ _ lie, c.requires.1)
 
 pub slice_bounds-on_pack-count : goal.slice_bounds-on_pack-count
 slice_bounds-on_pack-count c =
@@ -54,12 +54,12 @@ pub returns-in-Octets : goal.returns-in-Octets
 returns-in-Octets c =
     let the-ask = c.in-Octets in
     let the-stream-of = c.stream_of in
-    λ _. own-octets _ _ _ _ _ _ _ _ the-ask.is (the-stream-of.ensures.0 _) c.on_four.ensures
+    λ _. own-octets _ _ _ _ _ _ _ _ the-ask.is (the-stream-of.ensures.by_index _) c.on_four.ensures
 
 pub returns-in-Pack : goal.returns-in-Pack
 returns-in-Pack c =
     let the-ask2 = c.in-Pack in
-    λ _. own-pack _ _ _ _ _ _ _ _ the-ask2.is c.on_pack.ensures.0 c.on_pack.ensures.1
+    λ _. own-pack _ _ _ _ _ _ _ _ the-ask2.is c.on_pack.ensures.upper_bound c.on_pack.ensures.text_after
 
 pub returns-in-Lost : goal.returns-in-Lost
 returns-in-Lost c =

@@ -7,4 +7,4 @@ pub returns-in-Bench : goal.returns-in-Bench
 returns-in-Bench c = own-none _ c.in-Bench.is
 
 pub returns-in_default : goal.returns-in_default
-returns-in_default c = own-told _ c.in_default.keys2
+returns-in_default c = own-told _ c.in_default.in_default-own.keys2

@@ -7,4 +7,4 @@ pub returns : goal.returns
 returns c =
     let the-decode-hex = c.decode_hex-k in
     let the-take-turns = c.take_turns in
-    λ number bs l e. says-decoded _ _ _ _ the-decode-hex.ensures.0 (the-take-turns.ensures number bs l e)
+    λ number bs l e. says-decoded _ _ _ _ the-decode-hex.ensures.puts (the-take-turns.ensures number bs l e)

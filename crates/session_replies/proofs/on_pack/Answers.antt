@@ -12,7 +12,7 @@ put_event-requires c =
     let the-decode-hex = c.decode_hex-n in
     let the-identifier = c.identifier-own in
     let made = c.pack-written.ensures in
-    (omega arith, pack-short c.args.neighbour c.args.room the-pdus.ensures the_lent.ensures.1 the-decode-hex.ensures.0 the-identifier.ensures made.0 made.1, c.requires.1)
+    (omega arith, pack-short c.args.neighbour c.args.room the-pdus.ensures the_lent.ensures.1 the-decode-hex.ensures.puts the-identifier.ensures made.0 made.1, c.requires.1)
 
 pub returns : goal.returns
 unfolding ascii
@@ -24,4 +24,4 @@ returns c =
     let the-identifier = c.identifier-own in
     let made = the-pack.ensures in
     let told = c.put_event.ensures in
-    (told.1, pack-told c.args.neighbour c.args.room the-pdus.ensures the_lent.ensures.1 the-decode-hex.ensures.0 the-identifier.ensures made.0 made.1 _ told.0)
+    record { upper_bound = told.1; text_after = pack-told c.args.neighbour c.args.room the-pdus.ensures the_lent.ensures.1 the-decode-hex.ensures.puts the-identifier.ensures made.0 made.1 _ told.0 }

@@ -55,4 +55,4 @@ returns c =
     let card = card_of c.args.numbers.now c.args.names.now in
     let stream = stream_of c.args.stream.now c.args.buffer.now in
     let h = turn-hands c.args.neighbour c.args.room card stream o c.args.from the-identifier.ensures the_lent.ensures.1 the-output.ensures c.requires.0 the-serve.ensures.0 in
-    turn-did _ stream o c.args.from c.args.at (called-leaves _ _ _ _ _) h c.requires.1 the-add-call.ensures.0 the-add-call.ensures.1 c.is_last.ensures
+    turn-did _ stream o c.args.from c.args.at (called-leaves _ _ _ _ _) h c.requires.1 the-add-call.ensures.adds the-add-call.ensures.upper_bound c.is_last.ensures

@@ -5,4 +5,4 @@ use Rattle.session_streams.proofs.left_of.Goals as goal
 
 pub returns : goal.returns
 unfolding left_in
-returns c = c.up_to_lem.ensures
+returns c = c.up_to.ensures

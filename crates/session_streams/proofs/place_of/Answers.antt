@@ -7,4 +7,4 @@ pub returns : goal.returns
 returns c =
     let pre = c.requires in
     let most = c.limit.ensures in
-    place_is _ _ _ _ pre.1 most.0 most.2 c.up_to_lem.ensures.0
+    place_is _ _ _ _ pre.1 most.0 most.2 c.up_to.ensures.0

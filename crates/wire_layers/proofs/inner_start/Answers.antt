@@ -9,7 +9,7 @@ use mathlib.Core.Bool.{not}
 use Rattle.wire_layers.proofs.inner_start.Goals as goal
 
 pub returns-then-not-holds : goal.returns-then-not-holds
-returns-then-not-holds c = not-holding _ _ c.root_length-opaque.ensures.0 _ c.at-kind.ensures.0 (sym c.holds.ensures ∙ not-true _ (ap not c.if-not-holds.true))
+returns-then-not-holds c = not-holding _ _ c.root_length-opaque.ensures.0 _ c.at-kind.ensures.0 (sym c.holds.ensures ∙ c.if-not-holds.true)
 
 pub returns-then-name-opaque : goal.returns-then-name-opaque
 returns-then-name-opaque c =
@@ -34,7 +34,7 @@ returns c =
     let the-if2 = c.if-name-opaque in
     let the-root-length = c.root_length-opaque in
     let the_at = c.at-kind in
-    let kind = sym c.holds.ensures ∙ not-false _ (ap not c.if-not-holds.false) in
+    let kind = sym c.holds.ensures ∙ c.if-not-holds.false in
     let the-two-at = c.two_at in
     let the-before-inner = c-inner in
     inner-there _ _ the-root-length.ensures.0 _ _ the_at.ensures.0 the-before-inner.ensures.0 _ _ kind the-two-at.ensures.0 the-if2.false c.element_refusal.ensures c.if-element_refusal-ne0.false (omega arith)

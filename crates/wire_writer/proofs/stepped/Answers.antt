@@ -5,4 +5,4 @@ use Rattle.wire_writer.proofs.stepped.Goals as goal
 
 pub returns : goal.returns
 unfolding next_id
-returns c = ap (λ (n : ℕ). record { next = n }) c.wrapping_add_u32.ensures
+returns c = ap (λ (n : ℕ). record { next = n }) c.wrapping_add_u32.ensures.value
