@@ -1,3 +1,1 @@
-pub mod Lies
 pub mod Record
-pub mod Rest

@@ -3,6 +3,7 @@ use Rattle.bench_replies.specs.Kinds.{Kind}
 use Rattle.bench_replies.proofs.Arms.{of_others}
 use Rattle.bench_answers.specs.Held.{call_of}
 use borrow.Author.Rules.{rules}
+use borrow.Enum.Refused.{opened}
 use Rattle.bench_answers.proofs.call.Goals as goal
 
 pub returns-in-Take : goal.returns-in-Take
@@ -42,4 +43,4 @@ returns-in-Lost c =
     rw the-order4.is c.lost_core.ensures
 
 pub returns-in_default : goal.returns-in_default
-returns-in_default c = absurd (of_others Kind.records c.args.order c.in_default.in_default-own.keys7 c.requires)
+returns-in_default c = absurd (of_others Kind.records c.args.order (opened c.in_default.in_default-own.keys7) c.requires)

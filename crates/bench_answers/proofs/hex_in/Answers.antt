@@ -3,6 +3,7 @@ use mathlib.Core.Path.{refl}
 use Rattle.bench_answers.specs.Held.{no_hex, hex_in}
 use Rattle.bench_answers.proofs.Held.{no-hex}
 use borrow.Author.Rules.{rules}
+use borrow.Enum.Refused.{opened}
 use Rattle.bench_answers.proofs.hex_in.Goals as goal
 
 pub returns-in-Take : goal.returns-in-Take
@@ -27,4 +28,4 @@ returns-in-Notice c = rw c.in-Notice.is refl
 
 pub returns-in_default : goal.returns-in_default
 unfolding no_hex
-returns-in_default c = no-hex c.args.order c.in_default.in_default-own.keys6
+returns-in_default c = no-hex c.args.order (opened c.in_default.in_default-own.keys6)

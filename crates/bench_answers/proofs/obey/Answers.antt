@@ -9,11 +9,12 @@ use mathlib.Core.List.{[]}
 use mathlib.Core.Path.{refl}
 use native.Mathlib.Omega.{arith}
 use borrow.Author.Rules.{rules}
+use borrow.Enum.Refused.{opened}
 use Rattle.bench_answers.proofs.obey.Goals as goal
 
 pub on_counted-requires : goal.on_counted-requires
 on_counted-requires c =
-    (of-kind Kind.count c.args.order c.in-Bad.keys2, c.requires.1)
+    (of-kind Kind.count c.args.order c.in-Bad.in-Bad-own.keys2, c.requires.1)
 
 pub slice_bounds-on_tree-count : goal.slice_bounds-on_tree-count
 slice_bounds-on_tree-count c =
@@ -34,19 +35,19 @@ on_tree-requires c =
 
 pub on_saved-requires : goal.on_saved-requires
 on_saved-requires c =
-    (c.requires.0, of-kind Kind.saves c.args.order c.in-Save.keys5, c.requires.1)
+    (c.requires.0, of-kind Kind.saves c.args.order c.in-Save.in-Save-own.keys5, c.requires.1)
 
 pub on_layered-requires : goal.on_layered-requires
 on_layered-requires c =
-    (c.requires.0, of-kind Kind.layers c.args.order c.in-Layers.keys6, c.requires.1)
+    (c.requires.0, of-kind Kind.layers c.args.order c.in-Layers.in-Layers-own.keys6, c.requires.1)
 
 pub on_planned-requires : goal.on_planned-requires
 on_planned-requires c =
-    (c.requires.0, of-kind Kind.plans c.args.order c.in-Plan.keys7, c.requires.1)
+    (c.requires.0, of-kind Kind.plans c.args.order c.in-Plan.in-Plan-own.keys7, c.requires.1)
 
 pub on_event-requires : goal.on_event-requires
 on_event-requires c =
-    (c.requires.0, of-kind Kind.records c.args.order c.in_default.keys8, c.requires.1)
+    (c.requires.0, of-kind Kind.records c.args.order c.in_default.in_default-own.keys8, c.requires.1)
 
 pub returns-in-Blank : goal.returns-in-Blank
 unfolding meant reply_to only

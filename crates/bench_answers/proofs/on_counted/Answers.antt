@@ -10,6 +10,7 @@ use Rattle.bench_replies.proofs.Reply.{says-only, says-counted}
 use mathlib.Core.Path.{ap, ◌∙◌}
 use native.Mathlib.Omega.{arith}
 use borrow.Author.Rules.{rules}
+use borrow.Enum.Refused.{opened}
 use Rattle.bench_answers.proofs.on_counted.Goals as goal
 
 pub returns-in-Bad : goal.returns-in-Bad
@@ -37,4 +38,4 @@ returns-in-Free c =
     λ room l os. rw the-enum-told2.is (says-only _ _ _ _ _ (omega arith) (c.put_count-in-Free.ensures.text_after ∙ ap (count_line (ascii "free")) (c.free_labels.ensures os)))
 
 pub returns-in_default : goal.returns-in_default
-returns-in_default c = λ room l os. absurd (of_others Kind.count c.args.order c.in_default.keys5 c.requires.0)
+returns-in_default c = λ room l os. absurd (of_others Kind.count c.args.order (opened c.in_default.in_default-own.keys5) c.requires.0)

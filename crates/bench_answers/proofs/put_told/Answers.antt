@@ -4,6 +4,7 @@ use Rattle.bench_replies.specs.Kinds.{Kind}
 use Rattle.bench_replies.proofs.Arms.{of_others}
 use Rattle.bench_answers.specs.Held.{word_of}
 use borrow.Author.Rules.{rules}
+use borrow.Enum.Refused.{opened}
 use Rattle.bench_answers.proofs.put_told.Goals as goal
 
 pub returns-in-Take : goal.returns-in-Take
@@ -43,4 +44,4 @@ returns-in-Lost c =
     rw the-enum-told6.is (c.put_event-in-Lost.ensures.text_after, c.put_event-in-Lost.ensures.upper_bound)
 
 pub returns-in_default : goal.returns-in_default
-returns-in_default c = absurd (of_others Kind.records c.args.order c.in_default.keys7 c.requires.0)
+returns-in_default c = absurd (of_others Kind.records c.args.order (opened c.in_default.in_default-own.keys7) c.requires.0)

@@ -18,7 +18,7 @@ add-at-requires c =
     let sizes = name-sizes c.args.name.now c.requires.0 in
     let root = root-sized c.args.name.now _ the-root-of.ensures in
     let the-add-hex = c.add_hex-at in
-    omega (arith, sizes, root, c.requires.1, the-add-hex.ensures.value, the-add-hex.auto.0)
+    omega (arith, sizes, root, c.requires.1, the-add-hex.ensures.value, the-add-hex.auto.text)
 
 pub slice_bounds-add_hex-count : goal.slice_bounds-add_hex-count
 slice_bounds-add_hex-count c =
@@ -42,7 +42,7 @@ add_hex-requires c =
     let the-add-hex = c.add_hex-at in
     let the-add = c.add-at in
     let the-root-length = c.root_length-opaque in
-    omega (arith, sizes, root, c.requires.1, the-add-hex.ensures.value, the-add-hex.auto.0, the-add.ensures.count, the-add.auto.0, the-root-length.ensures.0, rest-sized c.args.name.now (6 + the-root-length.result))
+    omega (arith, sizes, root, c.requires.1, the-add-hex.ensures.value, the-add-hex.auto.text, the-add.ensures.count, the-add.auto.text, the-root-length.ensures.0, rest-sized c.args.name.now (6 + the-root-length.result))
 
 pub returns : goal.returns
 unfolding innermost_text

@@ -17,7 +17,7 @@ add_eight-at-requires c =
     let root = root-sized c.args.name.now _ the-root-of.ensures in
     let eight = eight-sized c.args.name.now _ c.eight_of.ensures in
     let the-add-hex = c.add_hex-at in
-    omega (arith, root, eight, c.requires, the-add-hex.ensures.value, the-add-hex.auto.0)
+    omega (arith, root, eight, c.requires, the-add-hex.ensures.value, the-add-hex.auto.text)
 
 pub add-requires : goal.add-requires
 add-requires c =
@@ -27,7 +27,7 @@ add-requires c =
     let eight = eight-sized c.args.name.now _ the-eight-of.ensures in
     let the-add-hex = c.add_hex-at in
     let the-add-eight = c.add_eight-at in
-    omega (arith, root, eight, c.requires, the-add-hex.ensures.value, the-add-hex.auto.0, the-add-eight.ensures.upper_bound, the-add-eight.auto.0)
+    omega (arith, root, eight, c.requires, the-add-hex.ensures.value, the-add-hex.auto.text, the-add-eight.ensures.upper_bound, the-add-eight.auto.text)
 
 pub returns : goal.returns
 unfolding layer_text layer_of

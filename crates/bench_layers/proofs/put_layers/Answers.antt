@@ -22,7 +22,7 @@ add_layers-at-requires c =
     let ok = sym the-element-refusal.ensures ∙ the-if1.false in
     let fits = name-fits c.args.name.now ok in
     let the-add = c.add-at in
-    (ok, omega (arith, fits, the-add.ensures.count, the-add.auto.0, c.requires))
+    (ok, omega (arith, fits, the-add.ensures.count, the-add.auto.text, c.requires))
 
 pub add-requires : goal.add-requires
 add-requires c =
@@ -32,7 +32,7 @@ add-requires c =
     let fits = name-fits c.args.name.now ok in
     let the-add = c.add-at in
     let the-add-layers = c.add_layers-at in
-    omega (arith, fits, the-add.ensures.count, the-add.auto.0, the-add-layers.ensures.upper_bound, the-add-layers.auto.0, c.requires)
+    omega (arith, fits, the-add.ensures.count, the-add.auto.text, the-add-layers.ensures.upper_bound, the-add-layers.auto.text, c.requires)
 
 pub returns : goal.returns
 unfolding ascii

@@ -19,7 +19,7 @@ loop-i-preserved c =
       omega arith,
       omega arith,
       omega arith,
-      rw (sym (branches-more c.args.now c.args.between.now c.args.branches.now c.loop-i.i h)) (adds_then c.loop-i.invariant.3 c.add_branch-at.ensures.adds),
+      rw (sym (branches-more c.args.before.now c.args.between.now c.args.branches.now c.loop-i.i h)) (adds_then c.loop-i.invariant.3 c.add_branch-at.ensures.adds),
     )
 
 pub shape_of-text : goal.shape_of-text

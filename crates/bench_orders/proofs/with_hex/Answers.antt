@@ -3,6 +3,7 @@ use Rattle.bench_orders.specs.Tells.{meant}
 use Rattle.bench_orders.specs.Scan.{with_octets}
 use Rattle.bench_orders.proofs.Verbs.{tells-bad, as-hex, no-as-hex, octets-other, lies}
 use borrow.Author.Rules.{rules}
+use borrow.Enum.Refused.{opened}
 use Rattle.bench_orders.proofs.with_hex.Goals as goal
 
 pub returns-in-Join : goal.returns-in-Join
@@ -47,7 +48,7 @@ returns-in-Unwrap c =
 
 pub returns-in_default : goal.returns-in_default
 returns-in_default c =
-    tells-bad _ _ (sym (as-hex _ _ _ c.is_hex.ensures c.if-is_hex.true) ∙ octets-other c.args.verb _ c.in_default.in_default-own.keys6)
+    tells-bad _ _ (sym (as-hex _ _ _ c.is_hex.ensures c.if-is_hex.true) ∙ octets-other c.args.verb _ (opened c.in_default.in_default-own.keys6))
 
 pub returns : goal.returns
 returns c = tells-bad _ _ (no-as-hex _ _ _ c.is_hex.ensures c.if-is_hex.false)

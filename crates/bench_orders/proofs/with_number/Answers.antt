@@ -3,6 +3,7 @@ use Rattle.bench_orders.specs.Tells.{meant}
 use Rattle.bench_orders.specs.Scan.{numbered}
 use Rattle.bench_orders.proofs.Verbs.{tells-bad, as-number, no-as-number, numbered-other}
 use borrow.Author.Rules.{rules}
+use borrow.Enum.Refused.{opened}
 use Rattle.bench_orders.proofs.with_number.Goals as goal
 
 pub returns-in_default : goal.returns-in_default
@@ -35,4 +36,4 @@ returns-in-Lost c =
 pub returns-in_default-verb : goal.returns-in_default-verb
 returns-in_default-verb c =
     let the-read-number = c.read_number in
-    tells-bad _ _ (sym (as-number _ _ _ _ the-read-number.ensures c.in-Is.is) ∙ numbered-other c.args.verb _ c.in_default-verb.keys5)
+    tells-bad _ _ (sym (as-number _ _ _ _ the-read-number.ensures c.in-Is.is) ∙ numbered-other c.args.verb _ (opened c.in_default-verb.in_default-verb-own.keys5))

@@ -1,6 +1,7 @@
 use Rattle.bench_orders.proofs.Verbs.{one-number-does, one-hex-does}
 use Rattle.bench_verbs.specs.Line.{does}
 use borrow.Author.Rules.{rules}
+use borrow.Enum.Refused.{opened}
 use Rattle.bench_orders.proofs.with_one.Goals as goal
 
 pub returns-in-Start : goal.returns-in-Start
@@ -15,4 +16,4 @@ unfolding does
 returns-in-Move c = rw c.in-Move.is c.with_move.ensures
 
 pub returns-in_default : goal.returns-in_default
-returns-in_default c = rw (one-hex-does c.args.verb _ c.in_default.in_default-own.keys4) c.with_hex.ensures
+returns-in_default c = rw (one-hex-does c.args.verb _ (opened c.in_default.in_default-own.keys4)) c.with_hex.ensures

@@ -3,6 +3,7 @@ use Rattle.bench_verbs.specs.Line.{Said, does}
 use Rattle.bench_orders.specs.Tells.{meant}
 use Rattle.bench_orders.proofs.Verbs.{first-of-numbers, no-first-of-numbers, first-number, no-first-number, one-hex, no-hex, lies, three-bad}
 use borrow.Author.Rules.{rules}
+use borrow.Enum.Refused.{opened}
 use Rattle.bench_orders.proofs.with_three.Goals as goal
 
 pub returns-in_default-number_at : goal.returns-in_default-number_at
@@ -28,7 +29,7 @@ returns-then-is_hex c =
     let the_number = c.in-Is-number_at in
     record {
       means = rw c.in-Notice.is (one-hex _ _ _ c.is_hex.ensures c.if-is_hex.true ∙ first-number _ _ _ _ _ c.number_at-in-Notice.ensures the_number.is ∙ first-of-numbers Said.notice _ _ _ _ c.number_at.ensures c.in-Is.is);
-      lies = lies _ _ _ _ c.requires.1.0 c.requires.1.1 c.is_hex.ensures c.if-is_hex.true;
+      lies = lies _ _ _ _ c.requires.start_le_end_2.0 c.requires.start_le_end_2.1 c.is_hex.ensures c.if-is_hex.true;
     }
 
 pub returns-else-is_hex : goal.returns-else-is_hex
@@ -49,4 +50,4 @@ unfolding does
 returns-in-Vet c = rw c.in-Vet.is c.with_vet.ensures
 
 pub returns-in_default : goal.returns-in_default
-returns-in_default c = three-bad _ c.args.verb _ _ _ _ c.in_default.in_default-own.keys4
+returns-in_default c = three-bad _ c.args.verb _ _ _ _ (opened c.in_default.in_default-own.keys4)

@@ -26,8 +26,8 @@ returns c =
     record {
       means = three-hex _ _ _ _ _ _ c.hex_at.ensures first c.hex_at-2.ensures second c.hex_at-3.ensures third;
       lies = (
-        lies _ _ _ _ c.requires.0.0 c.requires.0.1 c.hex_at.ensures first,
-        lies _ _ _ _ c.requires.0.2 c.requires.0.3 c.hex_at-2.ensures second,
-        lies _ _ _ _ c.requires.1.0 c.requires.1.1 c.hex_at-3.ensures third,
+        lies _ _ _ _ c.requires.start_le_end.0 c.requires.start_le_end.1 c.hex_at.ensures first,
+        lies _ _ _ _ c.requires.start_le_end.2 c.requires.start_le_end.3 c.hex_at-2.ensures second,
+        lies _ _ _ _ c.requires.start_le_end_2.0 c.requires.start_le_end_2.1 c.hex_at-3.ensures third,
       );
     }

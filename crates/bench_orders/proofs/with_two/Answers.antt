@@ -4,6 +4,7 @@ use Rattle.bench_verbs.specs.Line.{Said, does}
 use Rattle.bench_orders.specs.Tells.{meant}
 use Rattle.bench_orders.proofs.Verbs.{one_number, no_number, first-hex, no-first-hex, hex-behind, number-hex, no-number-hex, lies, two-bad}
 use borrow.Author.Rules.{rules}
+use borrow.Enum.Refused.{opened}
 use Rattle.bench_orders.proofs.with_two.Goals as goal
 
 pub returns-in_default-number_with_hex : goal.returns-in_default-number_with_hex
@@ -66,4 +67,4 @@ returns-in-Is-number_with_hex c =
     }
 
 pub returns-in_default : goal.returns-in_default
-returns-in_default c = two-bad _ c.args.verb _ _ c.in_default.in_default-own.keys4
+returns-in_default c = two-bad _ c.args.verb _ _ (opened c.in_default.in_default-own.keys4)

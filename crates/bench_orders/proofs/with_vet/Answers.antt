@@ -36,7 +36,7 @@ returns c =
     record {
       means = one-hex _ _ _ c.hex_at-2.ensures third ∙ first-of-hexes _ _ _ _ c.hex_at.ensures second ∙ number-of-hexes Said.vet _ _ _ _ c.number_at.ensures c.in-Is.is;
       lies = (
-        lies _ _ _ _ c.requires.0.2 c.requires.0.3 c.hex_at.ensures second,
-        lies _ _ _ _ c.requires.1.0 c.requires.1.1 c.hex_at-2.ensures third,
+        lies _ _ _ _ c.requires.start_le_end.2 c.requires.start_le_end.3 c.hex_at.ensures second,
+        lies _ _ _ _ c.requires.start_le_end_2.0 c.requires.start_le_end_2.1 c.hex_at-2.ensures third,
       );
     }

@@ -5,6 +5,7 @@ use Rattle.bench_replies.proofs.Arms.{of_others}
 use Rattle.bench_replies.proofs.Reply.{lies}
 use Rattle.bench_words.proofs.Words.{part-short}
 use borrow.Author.Rules.{rules}
+use borrow.Enum.Refused.{opened}
 use Rattle.bench_plans.proofs.on_planned.Goals as goal
 
 pub slice_bounds-on_plan-count : goal.slice_bounds-on_plan-count
@@ -66,4 +67,4 @@ returns-in-Vet c =
     λ number room. rw the-order2.is (c.on_vet.ensures number room)
 
 pub returns-in_default : goal.returns-in_default
-returns-in_default c = λ number room. absurd (of_others Kind.plans c.args.order c.in_default.keys3 c.requires.1)
+returns-in_default c = λ number room. absurd (of_others Kind.plans c.args.order (opened c.in_default.in_default-own.keys3) c.requires.1)

@@ -13,4 +13,4 @@ returns c =
     let y = the-add-moves.ensures in
     let x = the-add.ensures in
     let w = c.add.ensures in
-    record { text_after = (adds_then x (adds_then y.0 w)).text; upper_bound = omega (arith, x.count, y.1, w.count) }
+    record { text_after = (adds_then x (adds_then y.adds w)).text; upper_bound = omega (arith, x.count, y.upper_bound, w.count) }

@@ -5,6 +5,7 @@ use Rattle.bench_replies.proofs.Arms.{of_others}
 use Rattle.bench_replies.proofs.Reply.{lies}
 use Rattle.bench_saves.proofs.Saves.{lies-most}
 use borrow.Author.Rules.{rules}
+use borrow.Enum.Refused.{opened}
 use Rattle.bench_saves.proofs.on_saved.Goals as goal
 
 pub slice_bounds-on_restore-count : goal.slice_bounds-on_restore-count
@@ -59,4 +60,4 @@ returns-in-Move c =
     λ number. rw the-order3.is (c.on_move.ensures number _)
 
 pub returns-in_default : goal.returns-in_default
-returns-in_default c = λ number. absurd (of_others Kind.saves c.args.order c.in_default.keys4 c.requires.1)
+returns-in_default c = λ number. absurd (of_others Kind.saves c.args.order (opened c.in_default.in_default-own.keys4) c.requires.1)

@@ -6,4 +6,4 @@ pub returns : goal.returns
 returns c =
     let g = c.after_gaps-start.ensures in
     let w = c.word_end.ensures in
-    next_word _ _ _ _ g.0.0 g.0.1 g.0.2 g.1 w.0 w.1
+    next_word _ _ _ _ g.lower_bound.0 g.lower_bound.1 g.lower_bound.2 g.result_value w.0 w.1

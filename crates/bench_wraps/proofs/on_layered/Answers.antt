@@ -5,6 +5,7 @@ use Rattle.bench_replies.proofs.Arms.{of_others}
 use Rattle.bench_replies.proofs.Reply.{lies}
 use Rattle.bench_words.proofs.Words.{part-short}
 use borrow.Author.Rules.{rules}
+use borrow.Enum.Refused.{opened}
 use Rattle.bench_wraps.proofs.on_layered.Goals as goal
 
 pub slice_bounds-on_layers-count : goal.slice_bounds-on_layers-count
@@ -62,4 +63,4 @@ returns-in-Unwrap c =
     λ number d. rw the-order3.is (c.on_unwrap.ensures number d)
 
 pub returns-in_default : goal.returns-in_default
-returns-in_default c = λ number d. absurd (of_others Kind.layers c.args.order c.in_default.keys4 c.requires.1)
+returns-in_default c = λ number d. absurd (of_others Kind.layers c.args.order (opened c.in_default.in_default-own.keys4) c.requires.1)

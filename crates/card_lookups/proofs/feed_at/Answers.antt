@@ -17,7 +17,7 @@ returns c = λ os.
     let n16 = branches-length c.args.numbers.now os c.args.i c.requires.1.0 in
     feed-is _ _ _ _
     (elim c.if-u-lt-NEIGHBOURS.branch [
-      then-u-lt-NEIGHBOURS w ↦ w.branches-is ∙ ap (λ (bs : List ℕ). set bs c.args.u 0) all
+      | then-u-lt-NEIGHBOURS w ↦ w.branches-is ∙ ap (λ (bs : List ℕ). set bs c.args.u 0) all
       | else-u-lt-NEIGHBOURS w ↦ w.branches-is ∙ all ∙ sym (set_out (tree_at c.args.i (card_of c.args.numbers.now os)).branches c.args.u 0 (rw n16 w.if-u-lt-NEIGHBOURS.false))
     ])
     (c.is_leaf.ensures os)

@@ -15,14 +15,14 @@ pub add_label-at-requires : goal.add_label-at-requires
 add_label-at-requires c =
     let name = c.tree_name-name in
     let layers = c.add_layers-at in
-    omega (arith, name.ensures.1, layers.ensures.upper_bound, layers.auto.0, c.requires.3)
+    omega (arith, name.ensures.1, layers.ensures.upper_bound, layers.auto.text, c.requires.3)
 
 pub add_leads-requires : goal.add_leads-requires
 add_leads-requires c =
     let name = c.tree_name-name in
     let layers = c.add_layers-at in
     let label = c.add_label-at in
-    (c.requires.0, c.requires.1, omega (arith, name.ensures.1, layers.ensures.upper_bound, layers.auto.0, label.ensures.upper_bound, label.auto.0, c.requires.3))
+    (c.requires.0, c.requires.1, omega (arith, name.ensures.1, layers.ensures.upper_bound, layers.auto.text, label.ensures.upper_bound, label.auto.text, c.requires.3))
 
 pub returns : goal.returns
 returns c =

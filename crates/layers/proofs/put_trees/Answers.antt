@@ -34,7 +34,7 @@ loop-i-preserved c =
     let few = trees-length c.args.numbers.now c.args.names.now in
     let more = trees-more (card_of c.args.numbers.now c.args.names.now) c.loop-i.i (omega (arith, few, count.0, test)) in (
       omega (arith, test),
-      omega (arith, line.auto.0, c.loop-i.invariant.1),
+      omega (arith, line.auto.text, c.loop-i.invariant.1),
       omega (arith, line.ensures.upper_bound, c.loop-i.invariant.2),
       rw (sym more) (adds_then c.loop-i.invariant.3 line.ensures.fact),
     )

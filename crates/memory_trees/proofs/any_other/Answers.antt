@@ -30,7 +30,7 @@ loop-k-preserved c = (
       let n16 = branches-length c.args.numbers.now os c.args.i c.requires.1.0 in
       c.loop-k.invariant.1 os
       ∙ elim c.if-branch-ne0.branch [
-        then-branch-ne0+else-is_other w ↦ other-not bs c.args.n c.args.but c.loop-k.k (omega arith) (w.is_other.ensures.1 w.if-is_other.false)
+        | then-branch-ne0+else-is_other w ↦ other-not bs c.args.n c.args.but c.loop-k.k (omega arith) (w.is_other.ensures.1 w.if-is_other.false)
         | else-branch-ne0 w ↦ other-zero bs c.args.n c.args.but c.loop-k.k _ (omega arith) (c.branch-numbers.ensures os) w.if-branch-ne0.false
       ],
 )

@@ -9,8 +9,8 @@ returns-in_default c = not_known _ (λ e. omega arith) (λ e. omega arith) (λ e
 
 pub returns-in_default-2 : goal.returns-in_default-2
 returns-in_default-2 c =
-    let the_match = c.in_default-1 in
-    not_known _ (λ e. omega arith) (λ e. omega arith) (λ e. omega arith) (λ e. omega arith) (λ e. omega arith) (λ e. the_match.rest.1 (inl e)) (λ e. the_match.rest.1 (inr (inl e))) (λ e. the_match.rest.1 (inr (inr e)))
+    let rest = c.in_default.in_default-own.rest in
+    not_known _ (λ e. omega arith) (λ e. omega arith) (λ e. omega arith) (λ e. omega arith) (λ e. omega arith) (λ e. rest.1 (inl e)) (λ e. rest.1 (inr (inl e))) (λ e. rest.1 (inr (inr e)))
 
 pub returns-in-4 : goal.returns-in-4
 returns-in-4 c = known-high _ c.in-4.is

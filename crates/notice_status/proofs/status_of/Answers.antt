@@ -45,12 +45,12 @@ pub returns-in_default : goal.returns-in_default
 returns-in_default c = status-none _ (λ e. omega arith) (λ e. omega arith) (λ e. omega arith) (λ e. omega arith) (λ e. omega arith) (λ e. omega arith) (λ e. omega arith) (λ e. omega arith) (λ e. omega arith) (λ e. omega arith) (λ e. omega arith)
 
 pub returns-in_default-2 : goal.returns-in_default-2
-returns-in_default-2 c = let other = c.in_default-1.rest in status-ten _ c.if-number-lt8.false c.if-number-lt11.true other.0.1 other.1
+returns-in_default-2 c =
+    let other = c.in_default.in_default-own.rest in
+    status-ten _ c.in_default.if-number-lt8-own.false c.in_default.if-number-lt11-own.true other.0.1 other.1
 
 pub returns-in_default-3 : goal.returns-in_default-3
-returns-in_default-3 c =
-    let the_match = c.in_default-1 in
-    let other = the_match.rest in status-high _ c.if-number-lt13.false other.0.0.1
+returns-in_default-3 c = status-high _ c.in_default.if-number-lt13-own.false c.in_default.in_default-own.rest.0.0.1
 
 pub returns-in-6 : goal.returns-in-6
 unfolding status_of ◌when◌else◌
@@ -58,4 +58,6 @@ returns-in-6 c =
     status-at c.args.number 18 _ (omega arith) refl (omega arith)
 
 pub returns-in-6-2 : goal.returns-in-6-2
-returns-in-6-2 c = let other = c.in_default-1.rest in status-few _ c.if-number-lt2.false c.if-number-lt8.true other.0.0.0.0.0.0.1 other.0.0.0.0.0.1 other.0.0.0.0.1 other.0.0.0.1
+returns-in-6-2 c =
+    let other = c.in-6.in_default-own.rest in
+    status-few _ c.in-6.if-number-lt2-own.false c.in-6.if-number-lt8-own.true other.0.0.0.0.0.0.1 other.0.0.0.0.0.1 other.0.0.0.0.1 other.0.0.0.1

@@ -27,5 +27,8 @@ returns c =
     let the-read-ask = c.read_ask-ask in
     let the-is-own = c.is_own in
     let the-if2 = c.if-is_own in
-    let said = c.answer-2.ensures in record { length_le_turns_space = omega (arith, said.says.short); by_index = λ o p e. rw (sym (keeps_line c.args.line.now c.args.kept o the-if1.false p))
-          (says-bench _ _ _ _ _ _ the-read-ask.ensures (sym the-is-own.ensures ∙ the-if2.false) said) }
+    let said = c.answer-2.ensures in record {
+      length_le_turns_space = omega (arith, said.says.short);
+      by_index = λ o p e. rw (sym (keeps_line c.args.line.now c.args.kept o the-if1.false p))
+          (says-bench _ _ _ _ _ _ the-read-ask.ensures (sym the-is-own.ensures ∙ the-if2.false) said);
+    }

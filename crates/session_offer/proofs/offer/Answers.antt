@@ -1,7 +1,10 @@
 -- `session_offer::offer` meets its contract: a stopped stream, one that stops, a message, and none. Assumes nothing.
-use mathlib.Core.Path.{refl, sym, ◌∙◌}
+use mathlib.Core.Path.{refl, sym, ap, ◌∙◌}
 use Rattle.session_offer.proofs.Offering.{offer-stopped, offer-bad, offer-message, offer-wait}
 use borrow.Author.Rules.{rules}
+use borrow.Enum.Refused.{opened}
+use denote.Enum.Declared.{tag_of}
+use Rattle.session_look.specs.contracts.Shows.{the_type}
 use Rattle.session_offer.proofs.offer.Goals as goal
 
 pub returns-then-is_stopped : goal.returns-then-is_stopped
@@ -23,7 +26,7 @@ returns-in-Bad c =
       the-stop.ensures.0,
       took.ensures.1,
       offer-bad c.args.expected.now c.args.stream.now c.args.buffer.now c.args.offered.now took.new.stream took.new.buffer
-          took.result the-left.result the-place.result the-count.result goes took.ensures.2 the-left.ensures.0 the-place.ensures.0 the-count.ensures.0 the-look.result the-look.ensures the-stop.new.stream the_match.in-Bad-own.keys1 (the-stop.ensures.1 took.new.buffer),
+          took.result the-left.result the-place.result the-count.result goes took.ensures.2 the-left.ensures.0 the-place.ensures.0 the-count.ensures.0 the-look.result the-look.ensures the-stop.new.stream (ap (tag_of the_type) the_match.is) (the-stop.ensures.1 took.new.buffer),
     )
 
 pub returns-in-Message : goal.returns-in-Message
@@ -56,5 +59,5 @@ returns c =
       took.ensures.0,
       took.ensures.1,
       offer-wait c.args.expected.now c.args.stream.now c.args.buffer.now c.args.offered.now took.new.stream took.new.buffer
-          took.result the-left.result the-place.result the-count.result goes took.ensures.2 the-left.ensures.0 the-place.ensures.0 the-count.ensures.0 the-look.result the-look.ensures c.in_default.in_default-own.keys2 c.in_default-shows.in_default-own.keys2,
+          took.result the-left.result the-place.result the-count.result goes took.ensures.2 the-left.ensures.0 the-place.ensures.0 the-count.ensures.0 the-look.result the-look.ensures (opened c.in_default.in_default-own.keys2) (opened c.in_default-shows.in_default-shows-own.keys2),
     )

@@ -46,6 +46,6 @@ returns c =
       more.ensures.3 ∙ the-fill.ensures.3,
       took-head ns buffer offered the-left.result the-place.result the-count.result the-limit.result the-fill.result the-fill.new.buffer
           the-left.ensures.0 the-place.ensures.0 the-count.ensures.0 the-left.ensures.1 the-limit.ensures.0 the-place.ensures.1 the-count.ensures.1 c.requires.1
-          the-fill.ensures.0 the-fill.ensures.4 c.args.expected.now the-set.new.stream _ more.new.0 the-head.result more.result
+          the-fill.ensures.0 the-fill.ensures.4 c.args.expected.now the-set.new.stream _ more.new.buffer the-head.result more.result
           the-head.ensures.0 the-if1.false (offered-rest the-fill.result offered) more.ensures.0 (omega arith) more.ensures.4 the-set.ensures,
     )

@@ -1,6 +1,7 @@
 use native.Mathlib.Omega.{arith}
 use Rattle.session_orders.proofs.Asked.{near-stream, far-stream, lost-stream, no_stream}
 use borrow.Author.Rules.{rules}
+use borrow.Enum.Refused.{opened}
 use Rattle.session_orders.proofs.stream_of.Goals as goal
 
 pub returns-then-neighbour-lt-STREAM_COUNT : goal.returns-then-neighbour-lt-STREAM_COUNT
@@ -13,4 +14,4 @@ pub returns-in-Lost : goal.returns-in-Lost
 returns-in-Lost c = record { by_index = λ l. (lost-stream l _ _ c.in-Lost.is).0; by_index_2 = λ l h. (lost-stream l _ _ c.in-Lost.is).1 h }
 
 pub returns-in_default : goal.returns-in_default
-returns-in_default c = record { by_index = λ l. no_stream l _ c.in_default.keys3; by_index_2 = λ l h. omega arith }
+returns-in_default c = record { by_index = λ l. no_stream l _ c.in_default.in_default-own.keys3; by_index_2 = λ l h. omega arith }

@@ -21,4 +21,4 @@ returns c =
     let the-if1 = c.if-neighbour-gt15 in
     let the-has-room = c.has_room in
     let the-if2 = c.if-not-has_room in
-    packs-all _ _ _ _ _ the-if1.false (sym the-has-room.ensures ∙ the-if2.false) _ _ c.put_all_lem.ensures.0 c.put_all_lem.ensures.1
+    packs-all _ _ _ _ _ the-if1.false (sym the-has-room.ensures ∙ the-if2.false) _ _ c.put_all.ensures.0 c.put_all.ensures.1

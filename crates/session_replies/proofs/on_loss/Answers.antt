@@ -21,6 +21,6 @@ returns c =
     says-loss c.args.neighbour c.args.room (card_of c.args.numbers.now c.args.names.now) streams stream c.put_numbers.new.streams bs
     h
     (rw put.1 (four-numbers streams stream c.args.neighbour h c.requires.1 put.0 bs))
-    told.0
-    (rw (sym the-numbers-of.ensures) (told.1 (buffer_of bs c.args.neighbour)))
+    told.by_index
+    (rw (sym the-numbers-of.ensures) (told.by_index_2 (buffer_of bs c.args.neighbour)))
     number

@@ -24,4 +24,4 @@ returns c =
     let the-identifier = c.identifier-own in
     let made = the-pack.ensures in
     let told = c.put_event.ensures in
-    record { upper_bound = told.1; text_after = pack-told c.args.neighbour c.args.room the-pdus.ensures the_lent.ensures.1 the-decode-hex.ensures.puts the-identifier.ensures made.0 made.1 _ told.0 }
+    record { upper_bound = told.upper_bound; text_after = pack-told c.args.neighbour c.args.room the-pdus.ensures the_lent.ensures.1 the-decode-hex.ensures.puts the-identifier.ensures made.0 made.1 _ told.text_after }

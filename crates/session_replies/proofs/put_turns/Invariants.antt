@@ -13,8 +13,8 @@ use Rattle.session_replies.proofs.put_turns.Given as goal
 
 abbrev pub invariant-loop-left : goal.invariant-loop-left
 invariant-loop-left l =
-    (length l.text ≡ length l.initial.buffer) × (length l.at ≡ length l.initial.text)
-    × Goes l.neighbour l.room l.octets (turns l.neighbour l.room (card_of l.initial.numbers l.initial.names) (stream_of l.initial.stream l.initial.buffer) l.octets) left l.left l.from l.at (card_of l.names l.stream) (stream_of l.buffer l.text)
+    (length l.buffer ≡ length l.initial.buffer) × (length l.text ≡ length l.initial.text)
+    × Goes l.neighbour l.room l.octets (turns l.neighbour l.room (card_of l.initial.numbers l.initial.names) (stream_of l.initial.stream l.initial.buffer) l.octets) l.left l.from l.at l.text (card_of l.numbers l.names) (stream_of l.stream l.buffer)
 
 abbrev pub decreases-loop-left : goal.decreases-loop-left
-decreases-loop-left l = left
+decreases-loop-left l = l.left

@@ -27,4 +27,4 @@ returns c =
     let told = c.put_event.ensures in
     let call = the-lose.ensures in
     let all = the-records.ensures in
-    let given = the_lent.ensures.1 in record { by_index = λ number. says-told (λ m. event m (card_of c.args.numbers.now c.args.names.now) (lost c.args.neighbour)) _ _ _ _ (omega arith) call.0 told.1 told.0; by_index_2 = λ buffer. loss-left (λ m. event m (card_of c.args.numbers.now c.args.names.now) (lost c.args.neighbour)) _ _ (omega arith) call.0 (call.1 buffer) }
+    let given = the_lent.ensures.1 in record { by_index = λ number. says-told (λ m. event m (card_of c.args.numbers.now c.args.names.now) (lost c.args.neighbour)) _ _ _ _ (omega arith) call.0 told.upper_bound told.text_after; by_index_2 = λ buffer. loss-left (λ m. event m (card_of c.args.numbers.now c.args.names.now) (lost c.args.neighbour)) _ _ (omega arith) call.0 (call.1 buffer) }

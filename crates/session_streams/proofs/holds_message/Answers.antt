@@ -2,6 +2,7 @@
 use mathlib.Core.Path.{sym, ◌∙◌}
 use Rattle.session_streams.proofs.Settling.{holds-stopped, short-held, holds-one, holds-none}
 use borrow.Author.Rules.{rules}
+use borrow.Enum.Refused.{opened}
 use Rattle.session_streams.proofs.holds_message.Goals as goal
 
 pub returns-then-is_stopped : goal.returns-then-is_stopped
@@ -28,4 +29,4 @@ returns c =
     let the-is-stopped = c.is_stopped in
     let the-left-of = c.left_of-left in
     let held = short-held _ _ _ _ _ _ the-place-of.ensures.0 the-count-of.ensures.0 the-least.ensures.0 c.least-end.ensures.0 in
-    holds-none _ _ _ the-least.result c.least-end.result (sym the-if1.false ∙ the-is-stopped.ensures _) the-left-of.ensures.0 held _ c.look_message-shows.ensures c.in_default.keys2
+    holds-none _ _ _ the-least.result c.least-end.result (sym the-if1.false ∙ the-is-stopped.ensures _) the-left-of.ensures.0 held _ c.look_message-shows.ensures (opened c.in_default.in_default-own.keys2)

@@ -20,13 +20,13 @@ pub returns-then-name-start : goal.returns-then-name-start
 returns-then-name-start c =
     let the-root-length = c.root_length-opaque in
     let the_at = c.at-kind in
-    too_short _ _ the-root-length.ensures.0 _ _ the_at.ensures.0 c-inner.ensures.0 c.if-name-start.true
+    too_short _ _ the-root-length.ensures.0 _ _ the_at.ensures.0 c.before_inner.ensures.0 c.if-name-start.true
 
 pub returns-then-element_refusal-ne0 : goal.returns-then-element_refusal-ne0
 returns-then-element_refusal-ne0 c =
     let the-root-length = c.root_length-opaque in
     let the_at = c.at-kind in
-    let the-before-inner = c-inner in
+    let the-before-inner = c.before_inner in
     inner-refused _ _ the-root-length.ensures.0 _ _ the_at.ensures.0 the-before-inner.ensures.0 _ c.element_refusal.ensures c.if-element_refusal-ne0.true
 
 pub returns : goal.returns
@@ -36,5 +36,5 @@ returns c =
     let the_at = c.at-kind in
     let kind = sym c.holds.ensures ∙ c.if-not-holds.false in
     let the-two-at = c.two_at in
-    let the-before-inner = c-inner in
+    let the-before-inner = c.before_inner in
     inner-there _ _ the-root-length.ensures.0 _ _ the_at.ensures.0 the-before-inner.ensures.0 _ _ kind the-two-at.ensures.0 the-if2.false c.element_refusal.ensures c.if-element_refusal-ne0.false (omega arith)
