@@ -1,17 +1,8 @@
 # shellcheck shell=bash
 # Sourced by ./check and tools/proved.sh. What 'apart' starts has a process group of its own and puts its temporary files into the
-# folder $scratch; both are gone when the script ends, however it ends.
-scratch=
-
-# A folder in memory, where the machine has one with 8 GB to spare and programs may run there: for each proof rt lays out all that
-# a crate rests on, up to ten thousand files, and in memory the system takes half the time for them. A TMPDIR that is set comes first.
-in_memory() {
-  [ -z "${TMPDIR:-}" ] && [ "$(stat -f -c %T /dev/shm 2> /dev/null)" = tmpfs ] || return 1
-  [ "$(df -k --output=avail /dev/shm | tail -n 1)" -ge 8000000 ] || return 1
-  scratch=$(mktemp -d -p /dev/shm) && cp "$(type -P true)" "$scratch/true" && "$scratch/true" && rm "$scratch/true"
-}
-
-in_memory || { rm -rf "$scratch"; scratch=$(mktemp -d); }
+# folder $scratch; both are gone when the script ends, however it ends. They lie on the disk: rt starts as many checks side by side as
+# the memory that is free holds, and a folder in memory would take from that.
+scratch=$(mktemp -d)
 # rt runs programs as nobody, from a folder in there
 chmod 711 "$scratch"
 group=

@@ -2,18 +2,15 @@
 # Sourced by ./bench, ./box and ./layers, from the repository's folder.
 
 # Proves and builds a program where it is not there or older than a file that it is made of, and leaves in `run` how it is started.
+# `rt run` builds the program and then runs it: here on no input, where it ends at once. A program that ./check built serves as well.
 proved() { # WHO CRATE
-  local program=target/bin/$2 kit tools
-  if [ ! -x "$program" ] || [ -n "$(find crates -newer "$program" \( -name '*.rt' -o -name '*.antt' \) -print -quit)" ]; then
-    echo "$1: proving and building, a few minutes the first time" >&2
+  local program=crates/$2/out/$2
+  if [ ! -x "$program" ] || [ -n "$(find crates crates.txt -name out -prune -o -newer "$program" \( -name '*.rt' -o -name '*.antt' -o -name crates.txt \) -print -quit)" ]; then
+    echo "$1: proving and building, some minutes the first time" >&2
     . tools/apart.sh
-    apart tools/progress --quiet --rooms "$2" "$1" rt check "$2"
+    apart tools/progress --quiet --in "crates/$2" --rooms "$2" "$1" rt run
     leave
     touch "$program"
   fi
-  # Programs are for x86-64 and run on the kit's own C library; elsewhere the kit has an emulator.
-  kit=${RATTLE_HOME:-$(dirname "$(dirname "$(realpath "$(command -v rt)")")")}
-  tools=$kit/on/$(uname -m)/toolchain
-  run=("$tools/lib/ld-linux-x86-64.so.2" --library-path "$tools/lib" "$program")
-  [ ! -x "$tools/bin/qemu-x86_64" ] || run=("$tools/bin/qemu-x86_64" "${run[@]}")
+  run=("$program")
 }

@@ -35,11 +35,11 @@ class Pictures(unittest.TestCase):
             self.assertEqual((picture.ROOT / "docs" / name).read_text(encoding="utf-8"), svg, f"tools/picture writes {name}")
 
     def test_every_turn_has_a_sentence_and_a_row(self):
-        for name, turns in (("morningRows", 7), ("moveRows", 15), ("slipRows", 15)):
+        for name, turns in (("morning_rows", 7), ("move_rows", 15), ("slip_rows", 15)):
             self.assertEqual(turns, len(rows(name)))
 
     def test_an_arrow_for_each_item(self):
-        for name, lists in (("move.svg", ("morningRows", "moveRows")), ("bark.svg", ("morningRows", "slipRows"))):
+        for name, lists in (("move.svg", ("morning_rows", "move_rows")), ("bark.svg", ("morning_rows", "slip_rows"))):
             ways = picture.journeys(rows(*lists))
             arrows = [p for p in xml.etree.ElementTree.fromstring(DRAWN[name]).iter(SVG + "path") if p.get("marker-end")]
             self.assertEqual(len(ways), len(arrows))
@@ -78,7 +78,7 @@ class WrongRows(unittest.TestCase):
 
     def test_a_list_that_is_not_there(self):
         with self.assertRaises(picture.Wrong):
-            picture.sentences_and_rows(SOURCE, "eveningRows")
+            picture.sentences_and_rows(SOURCE, "evening_rows")
 
 
 if __name__ == "__main__":

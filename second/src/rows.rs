@@ -87,7 +87,7 @@ fn row(rng: &mut Rng, card: &mut Card, world: &World, event: &Order, room: usize
     if room == WHOLE_BUFFER {
         facts
     } else {
-        format!("inRoom {room} ({facts})")
+        format!("in_room {room} ({facts})")
     }
 }
 
@@ -144,9 +144,9 @@ mod tests {
         assert!(rows[0].starts_with("    leaves (then (route ("));
         assert!(rows
             .iter()
-            .all(|row| row.contains("(then (") || row.contains("(inRoom ")));
+            .all(|row| row.contains("(then (") || row.contains("(in_room ")));
         assert!(rows.iter().all(|row| row.ends_with(")) ∷")));
-        assert!(rows.iter().any(|row| row.contains("inRoom 0 (then (")));
+        assert!(rows.iter().any(|row| row.contains("in_room 0 (then (")));
         assert!(rows.iter().any(|row| row.contains("(then (lost ")));
     }
 
