@@ -291,20 +291,20 @@ module _ (U : ℕ → Use) (gs : List Given) (B : Books U gs) where
   pub books-mark : (a : List ℕ) (m h k : ℕ) → U m ≡ mapped h a → Books (upd U m (awaiting h a)) (mark h (record { kind = k; name = a; label = m }) gs)
   unfolding Books givens mark is_about
   books-mark a m h k us l =
-      only-mark h _ l gs
+      only-mark h (record { kind = k; name = a; label = m }) l gs
       ∙ by-test (eqb m l)
       (λ e. rw e (subst (λ (x : ℕ). mark h (record { kind = k; name = a; label = m }) (only x gs) ≡ record { to = h; tree = a; label = x; withdrawn = true } ∷ []) (eqb-true m l e)
       (rw (B m, us) (rw (eq-eqb m m refl, eq-eqb h h refl, same_refl a) refl))))
-      (λ e. rw e (mark-other h _ l gs e ∙ B l))
+      (λ e. rw e (mark-other h (record { kind = k; name = a; label = m }) l gs e ∙ B l))
 
   pub books-remove : (a : List ℕ) (m h k : ℕ) → U m ≡ awaiting h a → Books (upd U m free) (remove h (record { kind = k; name = a; label = m }) gs)
   unfolding Books givens remove is_about
   books-remove a m h k us l =
-      only-remove h _ l gs
+      only-remove h (record { kind = k; name = a; label = m }) l gs
       ∙ by-test (eqb m l)
       (λ e. rw e (subst (λ (x : ℕ). remove h (record { kind = k; name = a; label = m }) (only x gs) ≡ []) (eqb-true m l e)
       (rw (B m, us) (rw (eq-eqb m m refl, eq-eqb h h refl, same_refl a) refl))))
-      (λ e. rw e (remove-other h _ l gs e ∙ B l))
+      (λ e. rw e (remove-other h (record { kind = k; name = a; label = m }) l gs e ∙ B l))
 
   pub books-removed : (a : List ℕ) (m h k : ℕ) → U m ≡ awaiting h a → suc (length (remove h (record { kind = k; name = a; label = m }) gs)) ≡ length gs
   unfolding Books givens count is_about

@@ -1,4 +1,4 @@
--- NO BARK OF THE CODE: a net of memories, whose boxes are calls of `start`, `receive`, `join`, `leave`, `route`, `lost`, `notice` and of both lookups. Of the calls it takes their contracts (`Contracts`) and nothing more.
+-- NO BARK OF THE CODE: a net of memories, whose boxes are calls of `start`, `receive`, `join`, `leave`, `route`, `lost`, `notice` and of both lookups. Of the calls it takes their contracts (`CallContracts`) and nothing more.
 -- Assumes nothing beside what `Bark` asks of the world.
 use Rattle.std.specs.Prelude.{ℕ, ◌≡◌, Bool, ◌||◌, eqb}
 use Rattle.std.proofs.Math.Path.{refl, sym, ap}
@@ -147,7 +147,7 @@ module _ (far : Wires) (w : Plant) (i : ℕ) where
   told-arrives : (t : Telling) (ns : List ℕ) → Told (w.at i).numbers t ns → (f : Far) → arrived i t.part f ≡ noticed here i t.room t.neighbour t.number t.octets f
   unfolding arrived noticed past_at past_of
   told-arrives t ns m nobody = refl
-  told-arrives t ns m (box j q) = ap (λ (o : List ℕ). pick (eqb j i) (addressed q (parcels o)) []) (Contracts.told m (w.at i).names).hands
+  told-arrives t ns m (box j q) = ap (λ (o : List ℕ). pick (eqb j i) (addressed q (parcels o)) []) (CallContracts.told m (w.at i).names).hands
 
   told-past : (t : Telling) (ns : List ℕ) → Told (w.at i).numbers t ns → past_at (telling (w.at i) t ns) ≡ then_deed here (Deeds.tells t.room t.neighbour t.number t.octets)
   unfolding past_at

@@ -1,5 +1,5 @@
 -- DEMAND 3 OF THE CODE: what is promised of a history, said of what the calls of `card`, `firmware_*`, `notice_writer`, `save_writer`, `save_reader` and `save_mover` are handed and give back.
--- Of the calls it takes their contracts (`Contracts`) and nothing more.
+-- Of the calls it takes their contracts (`CallContracts`) and nothing more.
 use Rattle.std.specs.Prelude.{ℕ, ◌+◌, ◌≤◌, ◌≡◌, Bool, true, length, eqb}
 use Rattle.std.proofs.Common.{arith, ◌∙◌, subst}
 use Rattle.std.proofs.Math.Path.{refl, sym, ap}

@@ -1,4 +1,4 @@
--- REQUEST 14 OF THE CODE: two memories on one line, and calls of `receive`, `join`, `leave`, `route`, `lost` and `notice` on either. Of the calls it takes their contracts (`Contracts`) and nothing more.
+-- REQUEST 14 OF THE CODE: two memories on one line, and calls of `receive`, `join`, `leave`, `route`, `lost` and `notice` on either. Of the calls it takes their contracts (`CallContracts`) and nothing more.
 -- Assumes nothing.
 use Rattle.std.specs.Prelude.{ℕ, ◌<◌, ◌≡◌, Bool, ◌||◌, eqb}
 use Rattle.std.proofs.Math.Path.{refl, ap}

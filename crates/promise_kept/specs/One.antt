@@ -1,5 +1,5 @@
 -- ONE OUTCOME FOR EACH PUBLIC CALL: by the function's own contract, two results from the same entry agree in answer, output and card.
--- a are the arguments of both; r and s, r' and s' are the result of each and its parameters right after it, in the order of the source (`Contracts` lists them).
+-- a are the arguments of both; r and s, r' and s' are the result of each and its parameters right after it, in the order of the source (`CallContracts` lists them).
 -- Where a call hands back a part of the buffer, the part is the output; where it is a core or a call for C, the whole buffer and the count.
 -- Assumes nothing but that an array of sixteen has sixteen places, which a contract cannot say of its type.
 use Rattle.std.specs.Prelude.{ℕ, zero, suc, ◌+◌, ◌<◌, ◌≡◌, refl, Bool, List, [], ◌∷◌, get_or, length, eqb, ltb}

@@ -47,6 +47,16 @@ life-eq back on ok (leaving a o) = leaving a (λ x e. o x (back x e))
 life-eq back on ok (going a n) = going a (λ x e. n x (back x e))
 life-eq back on ok (stranded a o n) = stranded a (λ x e. o x (back x e)) (λ z x e. n (ok z) x (back x e))
 
+-- (one label that is noted is no other, and not none)
+pub list-apart : {g : Given} → [] ≡ g ∷ [] → ⊥
+list-apart e = cc
+
+pub same-tree : (q l : ℕ) (x a : List ℕ) (w v : Bool) → given q x l w ∷ [] ≡ given q a l v ∷ [] → x ≡ a
+same-tree q l x a w v e = let g : given q x l w ≡ given q a l v = cc in ap (λ (y : Given). y.tree) g
+
+pub same-mark : (q l : ℕ) (x a : List ℕ) (w v : Bool) → given q x l w ∷ [] ≡ given q a l v ∷ [] → w ≡ v
+same-mark q l x a w v e = let g : given q x l w ≡ given q a l v = cc in ap (λ (y : Given). y.withdrawn) g
+
 -- ---- the giver
 
 -- it sends Mapping of a label that is not live
@@ -55,8 +65,17 @@ life_map a (idle n) = asked a n
 
 -- it sends Withdraw of one that is mapped
 pub life-end : {l q : ℕ} {b : List ℕ → ℕ} {r : Bool} {ups downs : List Message} (a : List ℕ) → Life l q b r (given q a l false ∷ []) ups downs → Life l q b r (given q a l true ∷ []) (ups ++ (about withdraw a l ∷ [])) downs
-life-end a (asked x n) = hasty _ n
-life-end a (standing x o k) = leaving _ o
+life-end a h = end-of a refl h
+  where
+    -- of whatever list is equal to the one that is noted
+    end-of : {l q : ℕ} {b : List ℕ → ℕ} {r : Bool} {gs : List Given} {ups downs : List Message} (a : List ℕ) → gs ≡ given q a l false ∷ [] → Life l q b r gs ups downs → Life l q b r (given q a l true ∷ []) (ups ++ (about withdraw a l ∷ [])) downs
+    end-of a e (idle n) = absurd (list-apart e)
+    end-of {l} {q} {b} {r} a e (asked x n) = subst (λ (t : List ℕ). Life l q b r (given q t l true ∷ []) (about mapping x l ∷ about withdraw t l ∷ []) []) (same-tree q l x a false false e) (hasty x n)
+    end-of {l} {q} {b} {r} a e (standing x o k) = subst (λ (t : List ℕ). Life l q b r (given q t l true ∷ []) (about withdraw t l ∷ []) []) (same-tree q l x a false false e) (leaving x o)
+    end-of {l} {q} a e (hasty x n) = no_way (same-mark q l x a true false e)
+    end-of {l} {q} a e (leaving x o) = no_way (same-mark q l x a true false e)
+    end-of {l} {q} a e (going x n) = no_way (same-mark q l x a true false e)
+    end-of {l} {q} a e (stranded x o n) = no_way (same-mark q l x a true false e)
 
 -- (a label that is mapped is noted so, once)
 one-standing : (l q k : ℕ) (a x : List ℕ) (w : Bool) → count (is_standing q (about k a l)) (given q x l w ∷ []) ≡ 1 → given q x l w ∷ [] ≡ given q a l false ∷ []

@@ -1,11 +1,11 @@
 -- TWO BOXES ON ONE LINE: what `Line` says of them is so, at every moment.
 -- Assumes nothing.
 use Rattle.std.specs.Prelude.{ℕ, ◌<◌, ◌≡◌, refl, Bool, true, false, eqb, ltb}
-use Rattle.std.proofs.Common.{sym, ap₂, ◌∙◌, eq-eqb, ltb-false, arith}
+use Rattle.std.proofs.Common.{sym, ap₂, subst, ◌∙◌, eq-eqb, ltb-false, arith}
 use Rattle.std.proofs.Math.Path.{ap}
 use mathlib.Core.List.{List, [], ◌∷◌, ◌++◌}
 use Rattle.meaning.specs.Octets.{count}
-use Rattle.meaning.specs.Lists.{by-test, append-nil, same_refl}
+use Rattle.meaning.specs.Lists.{by-test, append-nil, same_refl, no_way}
 use Rattle.meaning.specs.Wire.{mapping, Message, records_in}
 use Rattle.meaning.specs.Card.{Tree, Use, free, mapped, awaiting, is_branch, use_of, neighbour_count}
 use Rattle.meaning.specs.Events.{branch}
@@ -16,7 +16,7 @@ use Rattle.promise_line.specs.Notices.{notice-aside}
 use Rattle.promise.specs.LiveLaws.{givens, Books}
 use Rattle.promise.specs.PromiseProof.{listed, Upheld, then-upheld, started}
 use Rattle.promise_line.specs.Line.{parcels, addressed, Box, ready, Act, hears, does, tells, is_from, hearing, sent_by, refuses, after, heard, answered, acts, says, gets, World, Turn, above, below, turn, turns, laid, flipped, lists, lives, Quiet, EachIsLive, AreTheMapped, OnOneLine, TwoBoxes}
-use Rattle.promise_line.specs.Life.{about, given, Life, idle, asked, standing, hasty, leaving, going, stranded, life-eq}
+use Rattle.promise_line.specs.Life.{about, given, Life, idle, asked, standing, hasty, leaving, going, stranded, life-eq, list-apart, same-tree, same-mark}
 use Rattle.promise_line.specs.Sends.{is_up, is_down, kin, kin_to, kin-append, kin-sent, mine, mine-only, mine-mapped}
 use Rattle.promise_line.specs.Steps.{from, give-else, give-hears, use-else, use-hears}
 
@@ -173,7 +173,13 @@ life-mapped {l} {q} x z (standing a o k) e = ap (λ (t : List ℕ). given q t l 
 life-mapped {l} {q} x z (stranded a o n) e = absurd (n z x e)
 
 life-listed : {l q : ℕ} {b : List ℕ → ℕ} {r : Bool} (x : List ℕ) → r ≡ false → Life l q b r (given q x l false ∷ []) [] [] → b x ≡ l
-life-listed x z (standing a o k) = k z
+life-listed x z h = listed-of x z refl h
+  where
+    -- of whatever list is equal to the one that is noted
+    listed-of : {l q : ℕ} {b : List ℕ → ℕ} {r : Bool} {gs : List Given} (x : List ℕ) → r ≡ false → gs ≡ given q x l false ∷ [] → Life l q b r gs [] [] → b x ≡ l
+    listed-of x z e (idle n) = absurd (list-apart e)
+    listed-of {l} {q} {b} x z e (standing a o k) = subst (λ (t : List ℕ). b t ≡ l) (same-tree q l a x false false e) (k z)
+    listed-of {l} {q} x z e (stranded a o n) = no_way (same-mark q l a x true false e)
 
 -- ---- what is noted, and what is live, and how a label is used
 
