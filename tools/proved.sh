@@ -12,5 +12,6 @@ proved() { # WHO CRATE
     leave
     touch "$program"
   fi
+  # shellcheck disable=SC2034
   run=("$program")
 }
