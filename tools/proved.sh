@@ -6,11 +6,12 @@
 proved() { # WHO CRATE
   local program=crates/$2/out/$2
   if [ ! -x "$program" ] || [ -n "$(find crates crates.txt -name out -prune -o -newer "$program" \( -name '*.rt' -o -name '*.antt' -o -name crates.txt \) -print -quit)" ]; then
-    echo "$1: proving and building, some minutes the first time" >&2
+    echo "$1: proving and building, which takes long the first time" >&2
     . tools/apart.sh
     apart tools/progress --quiet --in "crates/$2" --rooms "$2" "$1" rt run
     leave
     touch "$program"
   fi
+  # shellcheck disable=SC2034
   run=("$program")
 }

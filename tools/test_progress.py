@@ -50,6 +50,7 @@ echo 'rt: two ran, and wrote what its file stdout has'
 echo "7 passed, ${FAILED:-0} failed"
 exit ${STATUS:-0}
 """
+ASKED = {"PAUSE", "STUCK", "FIRST", "VERDICT", "BAD", "FAILED", "STATUS"}  # what a test asks of it
 PATIENCE = 20
 PAUSE = "0.4"  # long enough for a look
 
@@ -75,7 +76,8 @@ class Case(unittest.TestCase):
         (self.place / "crates/two/src").mkdir(parents=True)
         (self.place / "crates/two/src/main.rt").write_text("")
         path = f"{self.place / 'bin'}:{os.environ['PATH']}"
-        self.environment = os.environ | {"PATH": path, "TMPDIR": str(self.place / "scratches"), "COLUMNS": "100"}
+        ours = {name: word for name, word in os.environ.items() if name not in ASKED}
+        self.environment = ours | {"PATH": path, "TMPDIR": str(self.place / "scratches"), "COLUMNS": "100"}
 
     def progress(self, *words, **more):
         return subprocess.run([made.ROOT / "tools/progress", *words], cwd=self.place, env=self.environment | more,
