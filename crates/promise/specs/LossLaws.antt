@@ -1,6 +1,6 @@
 -- The loss of a neighbour: its trees give up their labels where they lead nowhere any more, and those left empty go; the table stays sound, and keeps its rules.
 -- Assumes nothing.
-use Rattle.std.specs.Prelude.{ℕ, zero, suc, ◌+◌, ◌-◌, ◌≤◌, ◌<◌, ◌≡◌, false, get_or, set, eqb, ltb}
+use Rattle.std.specs.Prelude.{ℕ, zero, suc, ◌+◌, ◌≤◌, ◌<◌, ◌≡◌, false, get_or, set, eqb, ltb}
 use Rattle.std.proofs.Common.{zero-le, suc-le-suc, le_of_suc-le-suc, not-suc-le-zero, le_refl, arith, ap₂, ◌∙◌, eqb-true, ne_eqb, ltb-false}
 use Rattle.std.proofs.Math.Nat.{le_trans}
 use Rattle.std.proofs.Math.Path.{refl, sym, ap, subst}

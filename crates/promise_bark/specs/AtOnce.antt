@@ -1,6 +1,6 @@
 -- NO BARK AT ONE MOMENT: a packet that takes no time.
 -- Assumes nothing.
-use Rattle.std.specs.Prelude.{ℕ, zero, suc, ◌+◌, Bool, eqb}
+use Rattle.std.specs.Prelude.{ℕ, zero, suc, Bool, eqb}
 use Rattle.std.proofs.Common.{arith, ◌∙◌, eqb-true}
 use Rattle.std.proofs.Math.Path.{◌≡◌, refl, sym, ap}
 use Rattle.std.proofs.Math.Bool.{true, false}
