@@ -19,8 +19,7 @@ import made
 stack = made.tool("tools/stack")
 
 HEADER = (made.ROOT / "include/card.h").read_text(encoding="utf-8")
-PARTS = re.findall(r"^firmware_(\w+):", (made.ROOT / "crates.txt").read_text(encoding="utf-8"), re.M)
-FIRMWARE = "".join((made.ROOT / f"crates/firmware_{part}/src/lib.rt").read_text(encoding="utf-8") for part in PARTS)
+PARTS = re.findall(r"^firmware_(\w+)_c staticlib:", (made.ROOT / "crates.txt").read_text(encoding="utf-8"), re.M)
 ARCHIVES = [stack.FOLDER / f"libfirmware_{part}.a" for part in PARTS]
 COMPILER = "cc" if platform.machine() == "x86_64" else "x86_64-linux-gnu-gcc"
 STACK_LIMIT = 8192
@@ -72,10 +71,21 @@ def in_c(kind):
     return WIDTHS[kind]
 
 
+def functions(crate, head):
+    """The functions of a crate's source that begin so: name, parameters, result, and clauses."""
+    source = (made.ROOT / "crates" / crate / "src/lib.rt").read_text(encoding="utf-8")
+    found = re.findall(rf"^{re.escape(head)}(\w+)\(([^)]*)\) -> (\w+)\n((?: +[^\n]*\n)*)\{{$", source, re.M)
+    return [tuple(" ".join(part.split()).rstrip(",") for part in parts) for parts in found]
+
+
+def exports(part):
+    return functions(f"firmware_{part}_c", '#[unsafe(no_mangle)]\npub extern "C" fn ')
+
+
 def exported():
     """The exported calls for C, each as C declares it, without the parameters' names."""
     calls = {}
-    for name, inside, result in re.findall(r'pub extern "C" fn (\w+)\(([^)]*)\) -> (\w+)', FIRMWARE):
+    for name, inside, result, _ in (call for part in PARTS for call in exports(part)):
         kinds = [p.split(":", 1)[1].strip() for p in re.split(r",(?![^\[]*\])", inside) if p.strip()]
         calls[name] = f"{WIDTHS[result]} {name}({', '.join(in_c(k) for k in kinds)})"
     return calls
@@ -99,7 +109,7 @@ def missing():
     """Why the archives cannot be tried; None where they can."""
     if not all(a.is_file() for a in ARCHIVES):
         return "target/staticlib has not every archive of calls for C ('make -C library' writes them)"
-    sources = [f for kind in ("*.rt", "*.antt") for f in (made.ROOT / "crates").rglob(kind)]
+    sources = [f for folder in ("src", "specs", "proofs") for f in (made.ROOT / "crates").glob(f"*/{folder}/**/*.*t")]
     if min(a.stat().st_mtime for a in ARCHIVES) < max(f.stat().st_mtime for f in sources):
         return "an archive in target/staticlib is older than its sources ('make -C library' writes it anew)"
     return None
@@ -131,6 +141,11 @@ class Header(unittest.TestCase):
 
     def test_every_call_is_declared_as_it_is_exported(self):
         self.assertEqual(declared(), exported())
+
+    def test_every_export_is_that_of_its_library(self):
+        for part in PARTS:
+            self.assertGreater(len(exports(part)), 0)
+            self.assertEqual(exports(part), functions(f"firmware_{part}", "pub fn "))
 
     def test_every_call_has_its_stack(self):
         self.assertEqual(set(stack_said()), set(exported()))

@@ -1,4 +1,5 @@
-// The calls for C of events and the start: include/card.h declares them. Each is the call by that name of `card`, with its contract.
+// The calls for C of events and the start: include/card.h declares them, `firmware_events_c` exports them. Each is the call by that name of
+// `card`, with its contract.
 // An array that is lent passes as one pointer, a slice as a pointer and a length, so nothing of the card is copied. The number handed
 // back says how many octets of the output were written.
 #![tactic(auto)]
@@ -10,15 +11,13 @@ ghost use Rattle.memory.specs.Memory.{card_of};
 
 use memory::{NUMBER_COUNT, OCTET_COUNT};
 
-#[unsafe(no_mangle)]
-pub extern "C" fn card_start(numbers: &mut [u64; NUMBER_COUNT], base: u32) -> u32
+pub fn card_start(numbers: &mut [u64; NUMBER_COUNT], base: u32) -> u32
     ensures { (result ≡ (start base).answer) × ((os : List ℕ) → card_of numbers.new os ≡ (start base).card) }
 {
     card::start(numbers, base)
 }
 
-#[unsafe(no_mangle)]
-pub extern "C" fn card_receive(
+pub fn card_receive(
     numbers: &mut [u64; NUMBER_COUNT],
     names: &mut [u8; OCTET_COUNT],
     neighbour: u32,
@@ -32,8 +31,7 @@ pub extern "C" fn card_receive(
     card::receive_core(numbers, names, neighbour, message, out, answer)
 }
 
-#[unsafe(no_mangle)]
-pub extern "C" fn card_join(
+pub fn card_join(
     numbers: &mut [u64; NUMBER_COUNT],
     names: &mut [u8; OCTET_COUNT],
     element: &[u8],
@@ -46,8 +44,7 @@ pub extern "C" fn card_join(
     card::join_core(numbers, names, element, out, answer)
 }
 
-#[unsafe(no_mangle)]
-pub extern "C" fn card_leave(
+pub fn card_leave(
     numbers: &mut [u64; NUMBER_COUNT],
     names: &mut [u8; OCTET_COUNT],
     element: &[u8],
@@ -60,8 +57,7 @@ pub extern "C" fn card_leave(
     card::leave_core(numbers, names, element, out, answer)
 }
 
-#[unsafe(no_mangle)]
-pub extern "C" fn card_route(
+pub fn card_route(
     numbers: &mut [u64; NUMBER_COUNT],
     names: &mut [u8; OCTET_COUNT],
     root: &[u8],
@@ -75,8 +71,7 @@ pub extern "C" fn card_route(
     card::route_core(numbers, names, root, via, out, answer)
 }
 
-#[unsafe(no_mangle)]
-pub extern "C" fn card_lost(
+pub fn card_lost(
     numbers: &mut [u64; NUMBER_COUNT],
     names: &mut [u8; OCTET_COUNT],
     neighbour: u32,

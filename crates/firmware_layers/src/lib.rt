@@ -1,5 +1,5 @@
-// The calls for C of names inside names: include/card.h declares them. How many layers a name has and where each lies, which are read from the
-// name alone; a name wrapped in a layer, and unwrapped. No card is lent.
+// The calls for C of names inside names: include/card.h declares them, `firmware_layers_c` exports them. How many layers a name has and where each
+// lies, which are read from the name alone; a name wrapped in a layer, and unwrapped. No card is lent.
 #![tactic(auto)]
 
 ghost use Rattle.std.specs.Prelude.{◌≡◌, ◌∷◌, ◌<◌, length};
@@ -10,8 +10,7 @@ ghost use Rattle.firmware_layers.specs.Fields.{answer_of, count_of, layer_answer
 
 // ---- reading
 
-#[unsafe(no_mangle)]
-pub extern "C" fn card_layers(name: &[u8], answer: &mut u32) -> usize
+pub fn card_layers(name: &[u8], answer: &mut u32) -> usize
     ensures { (answer.new ≡ answer_of (read name.now)) × (result ≡ count_of (read name.now)) }
 {
     let refusal = wire_name::element_refusal(name);
@@ -49,8 +48,7 @@ fn fields_of(layer: &[u8], start: usize) -> [u64; 4]
     [start as u64, root as u64, eight as u64, inner as u64]
 }
 
-#[unsafe(no_mangle)]
-pub extern "C" fn card_layer(name: &[u8], down: usize, fields: &mut [u64; 4]) -> u32
+pub fn card_layer(name: &[u8], down: usize, fields: &mut [u64; 4]) -> u32
     ensures { (result ≡ layer_answer down (read name.now)) × (fields.new ≡ fields_of down name.now fields.old) }
 {
     let answer = layer_answer(name, down);
@@ -64,27 +62,14 @@ pub extern "C" fn card_layer(name: &[u8], down: usize, fields: &mut [u64; 4]) ->
 
 // ---- wrapping and unwrapping
 
-#[unsafe(no_mangle)]
-pub extern "C" fn card_wrap(
-    root: &[u8],
-    eight: &[u8],
-    name: &[u8],
-    out: &mut [u8],
-    answer: &mut u32,
-) -> usize
+pub fn card_wrap(root: &[u8], eight: &[u8], name: &[u8], out: &mut [u8], answer: &mut u32) -> usize
     ensures { let w = wrap (length out.old) root.now eight.now name.now in
         Writes w.answer w.octets answer.new result out.old out.new }
 {
     wire_wraps::wrap_core(root, eight, name, out, answer)
 }
 
-#[unsafe(no_mangle)]
-pub extern "C" fn card_unwrap(
-    name: &[u8],
-    out: &mut [u8],
-    lengths: &mut [u64; 2],
-    answer: &mut u32,
-) -> usize
+pub fn card_unwrap(name: &[u8], out: &mut [u8], lengths: &mut [u64; 2], answer: &mut u32) -> usize
     ensures { let u = unwrap (length out.old) name.now in
         Writes u.answer u.octets answer.new result out.old out.new
         × (layer_in name.now lengths.new ≡ u.layer) × (lengths.new ≡ lengths_of u.layer) }

@@ -1,4 +1,5 @@
-// The calls for C of lookups: include/card.h declares them. The branches go into a lent array, and the leaf mark is handed back.
+// The calls for C of lookups: include/card.h declares them, `firmware_lookups_c` exports them. The branches go into a lent array, and the leaf
+// mark is handed back.
 #![tactic(auto)]
 
 ghost use Rattle.std.specs.Prelude.{◌≡◌, List, ℕ};
@@ -9,8 +10,7 @@ ghost use Rattle.meaning.specs.Calls.{feed_in};
 use meaning::NEIGHBOUR_COUNT;
 use memory::{NUMBER_COUNT, OCTET_COUNT};
 
-#[unsafe(no_mangle)]
-pub extern "C" fn card_lookup_label(
+pub fn card_lookup_label(
     numbers: &[u64; NUMBER_COUNT],
     label: u32,
     branches: &mut [u64; NEIGHBOUR_COUNT],
@@ -20,8 +20,7 @@ pub extern "C" fn card_lookup_label(
     card_lookups::lookup_label_core(numbers, label, branches)
 }
 
-#[unsafe(no_mangle)]
-pub extern "C" fn card_lookup_name(
+pub fn card_lookup_name(
     numbers: &[u64; NUMBER_COUNT],
     names: &[u8; OCTET_COUNT],
     element: &[u8],
@@ -32,8 +31,7 @@ pub extern "C" fn card_lookup_name(
     card_lookups::lookup_name_core(numbers, names, element, branches)
 }
 
-#[unsafe(no_mangle)]
-pub extern "C" fn card_free_labels(numbers: &[u64; NUMBER_COUNT]) -> u32
+pub fn card_free_labels(numbers: &[u64; NUMBER_COUNT]) -> u32
     ensures { (os : List ℕ) → result ≡ free_labels (card_of numbers.now os) }
 {
     card_lookups::free_labels(numbers)

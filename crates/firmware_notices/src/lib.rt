@@ -1,5 +1,5 @@
-// The calls for C of notices: include/card.h declares them. The record of one is written as an event's records are; what a record says
-// goes into five lent fields.
+// The calls for C of notices: include/card.h declares them, `firmware_notices_c` exports them. The record of one is written as an event's records
+// are; what a record says goes into five lent fields.
 #![tactic(auto)]
 
 ghost use Rattle.std.specs.Prelude.{◌≡◌, List, ℕ, length};
@@ -12,8 +12,7 @@ ghost use Rattle.firmware_notices.specs.Fields.{answer_of, fields_of};
 use memory::NUMBER_COUNT;
 use notice_reader::Read;
 
-#[unsafe(no_mangle)]
-pub extern "C" fn card_notice(
+pub fn card_notice(
     numbers: &mut [u64; NUMBER_COUNT],
     neighbour: u32,
     number: u32,
@@ -27,8 +26,7 @@ pub extern "C" fn card_notice(
     notice_writer::notice_core(numbers, neighbour, number, octets, out, answer)
 }
 
-#[unsafe(no_mangle)]
-pub extern "C" fn card_read_notice(octets: &[u8], fields: &mut [u32; 5]) -> u32
+pub fn card_read_notice(octets: &[u8], fields: &mut [u32; 5]) -> u32
     ensures { (result ≡ answer_of (read_of octets.now)) × (fields.new ≡ fields_of (read_of octets.now) fields.old) }
 {
     let read = notice_reader::read_notice(octets);

@@ -1,5 +1,5 @@
-// The calls for C of plans: include/card.h declares them. Whether a list is accepted or found is handed back; the number of a refusal, and how
-// many entries there are, go to lent places. Both only read the card.
+// The calls for C of plans: include/card.h declares them, `firmware_plans_c` exports them. Whether a list is accepted or found is handed back; the
+// number of a refusal, and how many entries there are, go to lent places. Both only read the card.
 #![tactic(auto)]
 
 ghost use Rattle.std.specs.Prelude.{◌≡◌};
@@ -15,8 +15,7 @@ use memory::{NUMBER_COUNT, OCTET_COUNT};
 use plan_check::Verdict;
 use plan_make::Planned;
 
-#[unsafe(no_mangle)]
-pub extern "C" fn card_check_list(
+pub fn card_check_list(
     numbers: &[u64; NUMBER_COUNT],
     names: &[u8; OCTET_COUNT],
     neighbour: u32,
@@ -39,8 +38,7 @@ pub extern "C" fn card_check_list(
     }
 }
 
-#[unsafe(no_mangle)]
-pub extern "C" fn card_plan(
+pub fn card_plan(
     numbers: &[u64; NUMBER_COUNT],
     names: &[u8; OCTET_COUNT],
     neighbour: u32,

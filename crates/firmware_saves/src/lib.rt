@@ -1,5 +1,5 @@
-// The calls for C of saves: include/card.h declares them. The table as octets in either form, and the way back, which is lent spare memory of
-// any content; the second call of each is for the new form. And a save from one form to the other, with no card.
+// The calls for C of saves: include/card.h declares them, `firmware_saves_c` exports them. The table as octets in either form, and the way back,
+// which is lent spare memory of any content; the second call of each is for the new form. And a save from one form to the other, with no card.
 #![tactic(auto)]
 
 ghost use Rattle.std.specs.Prelude.{◌≡◌, length};
@@ -11,8 +11,7 @@ ghost use Rattle.save_mover.specs.Moves.{Moves};
 use meaning::SAVE_LIMIT;
 use memory::{NUMBER_COUNT, OCTET_COUNT};
 
-#[unsafe(no_mangle)]
-pub extern "C" fn card_save(
+pub fn card_save(
     numbers: &[u64; NUMBER_COUNT],
     names: &[u8; OCTET_COUNT],
     out: &mut [u8],
@@ -24,8 +23,7 @@ pub extern "C" fn card_save(
     save_writer::save_core(numbers, names, false, out, answer)
 }
 
-#[unsafe(no_mangle)]
-pub extern "C" fn card_save2(
+pub fn card_save2(
     numbers: &[u64; NUMBER_COUNT],
     names: &[u8; OCTET_COUNT],
     out: &mut [u8],
@@ -37,8 +35,7 @@ pub extern "C" fn card_save2(
     save_writer::save_core(numbers, names, true, out, answer)
 }
 
-#[unsafe(no_mangle)]
-pub extern "C" fn card_restore(
+pub fn card_restore(
     numbers: &mut [u64; NUMBER_COUNT],
     names: &mut [u8; OCTET_COUNT],
     octets: &[u8],
@@ -61,8 +58,7 @@ pub extern "C" fn card_restore(
     )
 }
 
-#[unsafe(no_mangle)]
-pub extern "C" fn card_restore2(
+pub fn card_restore2(
     numbers: &mut [u64; NUMBER_COUNT],
     names: &mut [u8; OCTET_COUNT],
     octets: &[u8],
@@ -85,8 +81,7 @@ pub extern "C" fn card_restore2(
     )
 }
 
-#[unsafe(no_mangle)]
-pub extern "C" fn card_newer(
+pub fn card_newer(
     octets: &[u8],
     spare_numbers: &mut [u64; NUMBER_COUNT],
     spare_names: &mut [u8; OCTET_COUNT],
@@ -107,8 +102,7 @@ pub extern "C" fn card_newer(
     )
 }
 
-#[unsafe(no_mangle)]
-pub extern "C" fn card_older(
+pub fn card_older(
     octets: &[u8],
     spare_numbers: &mut [u64; NUMBER_COUNT],
     spare_names: &mut [u8; OCTET_COUNT],

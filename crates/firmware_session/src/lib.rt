@@ -1,5 +1,5 @@
-// The calls for C of the session box: include/card.h declares them. A stream lies in four numbers and a buffer, both lent; the identifiers are six
-// octets each. The number handed back says how many octets of the output were written.
+// The calls for C of the session box: include/card.h declares them, `firmware_session_c` exports them. A stream lies in four numbers and a buffer,
+// both lent; the identifiers are six octets each. The number handed back says how many octets of the output were written.
 #![tactic(auto)]
 
 ghost use Rattle.std.specs.Prelude.{◌≡◌, List, ℕ, length};
@@ -15,8 +15,7 @@ ghost use Rattle.session.specs.Lent.{stream_of};
 use card::{NUMBER_COUNT, OCTET_COUNT};
 use session::{IDENTIFIER_SIZE, STREAM_NUMBERS};
 
-#[unsafe(no_mangle)]
-pub extern "C" fn card_serve(
+pub fn card_serve(
     numbers: &mut [u64; NUMBER_COUNT],
     names: &mut [u8; OCTET_COUNT],
     stream: &mut [u64; STREAM_NUMBERS],
@@ -36,22 +35,19 @@ pub extern "C" fn card_serve(
     )
 }
 
-#[unsafe(no_mangle)]
-pub extern "C" fn card_is_stopped(stream: &[u64; STREAM_NUMBERS]) -> bool
+pub fn card_is_stopped(stream: &[u64; STREAM_NUMBERS]) -> bool
     ensures { (buffer : List ℕ) → result ≡ is_stopped (stream_of stream.now buffer) }
 {
     session_calls::is_stopped(stream)
 }
 
-#[unsafe(no_mangle)]
-pub extern "C" fn card_holds_message(stream: &[u64; STREAM_NUMBERS], buffer: &[u8]) -> bool
+pub fn card_holds_message(stream: &[u64; STREAM_NUMBERS], buffer: &[u8]) -> bool
     ensures { result ≡ holds_message (stream_of stream.now buffer.now) }
 {
     session_calls::holds_message(stream, buffer)
 }
 
-#[unsafe(no_mangle)]
-pub extern "C" fn card_lose(
+pub fn card_lose(
     numbers: &mut [u64; NUMBER_COUNT],
     names: &mut [u8; OCTET_COUNT],
     stream: &mut [u64; STREAM_NUMBERS],
@@ -66,8 +62,7 @@ pub extern "C" fn card_lose(
     session_calls::lose_core(numbers, names, stream, neighbour, out, answer)
 }
 
-#[unsafe(no_mangle)]
-pub extern "C" fn card_pack(
+pub fn card_pack(
     records: &[u8],
     neighbour: u32,
     id: &[u8; IDENTIFIER_SIZE],
