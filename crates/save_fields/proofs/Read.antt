@@ -28,6 +28,15 @@ module _ (o : List ℕ) (at : ℕ) where
       let e : at + (i + 2) ≡ at + i + 2 = omega arith in
       ap₂ (λ (x y : ℕ). x * 65536 + y) (two-there o at i) (two-there o at (i + 2) ∙ ap (two_at o) e)
 
+-- four octets by themselves
+pub four-part : (o : List ℕ) (at : ℕ) → four_at (take (at + 4 - at) (drop at o)) 0 ≡ four_at o at
+unfolding four_at two_at
+four-part o at =
+    let n : at + 4 - at ≡ 4 = omega arith in
+    let here : at + 0 ≡ at = omega arith in
+    rw (n, get_or-take 4 (drop at o) 0 0 (omega arith), get_or-take 4 (drop at o) 1 0 (omega arith), get_or-take 4 (drop at o) 2 0 (omega arith), get_or-take 4 (drop at o) 3 0 (omega arith))
+    (four-drop o at 0 ∙ ap (four_at o) here)
+
 -- ---- octets in a space
 
 up_to-take : (n k : ℕ) (l : List ℕ) → take (up_to n k) l ≡ take k (take n l)

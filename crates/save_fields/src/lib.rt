@@ -2,7 +2,7 @@
 #![tactic(auto)]
 
 ghost use Rattle.std.specs.Prelude.{◌≡◌, [], ◌∷◌, ◌++◌, ◌+◌, ◌≤◌, ◌<◌, length, take, drop, eqb};
-ghost use Rattle.meaning.specs.Octets.{pick, two};
+ghost use Rattle.meaning.specs.Octets.{pick, two, four_at};
 ghost use Rattle.meaning.specs.Wire.{name_limit, root_limit};
 ghost use Rattle.meaning_save.specs.Save.{old, new, form_of, spaced_in, name_in, extent, saved_opaque};
 ghost use Rattle.memory.specs.Memory.{up_to, Placed};
@@ -13,6 +13,18 @@ fn at_most(n: usize, k: usize) -> usize
     ensures { (result ≡ up_to k n) × (result ≤ k) }
 {
     if n < k { n } else { k }
+}
+
+// The number of four octets at a place. Where they are all there they are read at once.
+pub fn four_at(octets: &[u8], at: usize) -> u64
+    requires { at + 4 < 18446744073709551616 }
+    ensures { (result ≡ four_at octets.now at) × (result < 4294967296) }
+{
+    let e = at + 4;
+    if octets.len() < e {
+        return octets::four_at(octets, at);
+    }
+    octets::four_at(&octets[at..e], 0)
 }
 
 // The octets that stand in a space of n, with their number before them.
