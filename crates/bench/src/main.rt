@@ -11,10 +11,16 @@ ghost use Rattle.bench.specs.Input.{Seat, seat_after, Stands};
 ghost use Rattle.bench_lines.specs.Text.{text_space};
 
 use bench_answers::Answered;
+use bench_input::Output;
 use bench_lines::TEXT_SPACE;
 use bench_orders::LINE_LIMIT;
 use meaning::SAVE_LIMIT;
 use memory::{NUMBER_COUNT, OCTET_COUNT};
+use std::io;
+use std::io::Write;
+
+// how many octets are read at a time
+const CHUNK_SPACE: usize = 65536;
 
 // the room that is lent before an order says less: that of the longest save
 const WHOLE_ROOM: u32 = SAVE_LIMIT as u32;
@@ -52,7 +58,8 @@ fn reply(
     }
 }
 
-fn take_octet(
+fn take_octet<W: Write>(
+    out: &mut Output<W>,
     numbers: &mut [u64; NUMBER_COUNT],
     names: &mut [u8; OCTET_COUNT],
     line: &mut [u8; LINE_LIMIT],
@@ -74,7 +81,7 @@ fn take_octet(
     let number = std::num::wrapping_add_u64(state.number, 1);
     let done = reply(numbers, names, line, text, number, state);
     let n = done.length;
-    io::write_all(1, &text[..n]);
+    bench_input::write(out, &text[..n]);
     State {
         number,
         kept: 0,
@@ -82,7 +89,8 @@ fn take_octet(
     }
 }
 
-fn take_chunk(
+fn take_chunk<W: Write>(
+    out: &mut Output<W>,
     numbers: &mut [u64; NUMBER_COUNT],
     names: &mut [u8; OCTET_COUNT],
     line: &mut [u8; LINE_LIMIT],
@@ -96,13 +104,13 @@ fn take_chunk(
     let mut state = from;
     let mut i = 0;
     while i < chunk.len() {
-        state = take_octet(numbers, names, line, text, chunk[i], state);
+        state = take_octet(out, numbers, names, line, text, chunk[i], state);
         i += 1;
     }
     state
 }
 
-// The line and its text have a function each because the proof of `main` would work out their octets one by one.
+// The line, its text and the chunk have a function each because the proof of `main` would work out their octets one by one.
 fn blank_line() -> [u8; LINE_LIMIT] {
     [0; LINE_LIMIT]
 }
@@ -111,14 +119,24 @@ fn blank_text() -> [u8; TEXT_SPACE] {
     [0; TEXT_SPACE]
 }
 
+fn blank_chunk() -> [u8; CHUNK_SPACE] {
+    [0; CHUNK_SPACE]
+}
+
 // The room is at first that of the longest save: events have no more than their buffer of it.
 // A proved loop has to end, and nothing says that the input does: the loop counts its turns down, from a number that no run uses up.
-fn main() {
+// A write that fails ends the program with its error; a read that fails is the end of the input.
+fn main(rt: HostRuntime) -> io::Result<()> {
+    let mut input = rt.stdin();
+    let mut out = Output {
+        to: rt.stdout(),
+        written: Ok(()),
+    };
     let mut numbers = [0u64; NUMBER_COUNT];
     let mut names = [0u8; OCTET_COUNT];
     let mut line = blank_line();
     let mut text = blank_text();
-    let mut chunk = io::large_buffer();
+    let mut chunk = blank_chunk();
     card::start(&mut numbers, 16);
     let mut state = State {
         number: 0,
@@ -128,10 +146,10 @@ fn main() {
     let mut more = true;
     let mut turns = u64::MAX;
     while turns > 0 && more {
-        let got = bench_input::read_chunk(&mut chunk, state.kept);
-        more = got.more;
+        let got = bench_input::read_chunk(&mut input, &mut chunk, state.kept);
         let n = got.count;
         state = take_chunk(
+            &mut out,
             &mut numbers,
             &mut names,
             &mut line,
@@ -139,6 +157,8 @@ fn main() {
             &chunk[..n],
             state,
         );
+        more = got.more && out.written.is_ok();
         turns -= 1;
     }
+    out.written
 }

@@ -4,8 +4,8 @@
 ghost use Rattle.std.specs.Prelude.{◌≡◌, ◌+◌, ◌<◌, ◌≤◌, length};
 ghost use Rattle.meaning.specs.Wire.{opaque_limit, root_limit, name_limit};
 
-use libc::STDOUT_FILENO;
 use meaning::{NAME_LIMIT, OPAQUE_LIMIT, RECORD_BESIDE, RECORD_LIMIT};
+use std::io;
 use wire_reader::Read;
 
 const LONGEST: u8 = OPAQUE_LIMIT as u8;
@@ -175,16 +175,14 @@ fn count(family: u8, root: u8) -> u64
     kept
 }
 
-fn report(family: u8, root: u8)
+fn report(rt: &impl Print, family: u8, root: u8) -> io::Result<()>
     requires { root ≤ root_limit }
 {
-    io::print_decimal(STDOUT_FILENO, root as u64);
-    io::write_all(STDOUT_FILENO, b"-octet root: ");
-    io::print_decimal(STDOUT_FILENO, count(family, root));
-    io::write_all(STDOUT_FILENO, b" of 126 read back\n");
+    let kept = count(family, root);
+    println!(rt; "{root}-octet root: {kept} of 126 read back")
 }
 
-fn main() {
-    report(1, 4);
-    report(2, 16);
+fn main(rt: HostRuntime) -> io::Result<()> {
+    report(&rt, 1, 4)?;
+    report(&rt, 2, 16)
 }

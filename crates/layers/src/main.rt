@@ -14,9 +14,10 @@ ghost use Rattle.layers.specs.TreeText.{label_words, feed_words, tree_line, labe
 ghost use Rattle.layers.specs.Shown.{table_text, no_save, shown_of, hex_in, shown, shown_space, AllNamed, Shows};
 
 use bench_lines::{FEED_SPACE, NUMBER_SPACE};
-use libc::{STDIN_FILENO, STDOUT_FILENO};
 use meaning::{NAME_LIMIT, NEIGHBOUR_COUNT, SAVE_DIGITS, SAVE_LIMIT, TREE_LIMIT};
 use memory::{NUMBER_COUNT, OCTET_COUNT};
+use std::io;
+use std::io::{Read, Write};
 
 // The space of a line, as `line_space` in specs/TreeText.antt.
 const LABEL_SPACE: usize = 8 + NUMBER_SPACE;
@@ -169,16 +170,33 @@ fn show(
 
 // ---- the program
 
-fn write(text: &[u8], end: usize)
-    requires { end ≤ length text.now }
+// Reads until the buffer is full or the input ends; a read that fails ends it.
+fn read_full<R: Read>(from: &mut R, buffer: &mut [u8]) -> usize
+    ensures { result ≤ length buffer.new }
 {
-    io::write_all(STDOUT_FILENO, &text[..end]);
+    let mut done = 0;
+    while done < buffer.len() {
+        let Ok(n) = from.read(&mut buffer[done..]) else {
+            return done;
+        };
+        if n == 0 {
+            return done;
+        }
+        done += n;
+    }
+    done
 }
 
-fn print(text: &[u8; SHOWN_SPACE], end: usize)
+fn write<W: Write>(to: &mut W, text: &[u8], end: usize) -> io::Result<()>
+    requires { end ≤ length text.now }
+{
+    to.write_all(&text[..end])
+}
+
+fn print<W: Write>(to: &mut W, text: &[u8; SHOWN_SPACE], end: usize) -> io::Result<()>
     requires { end ≤ shown_space }
 {
-    write(text, end);
+    write(to, text, end)
 }
 
 // Each has a function because the proof of `main` would work out its octets one by one.
@@ -194,13 +212,13 @@ fn blank_text() -> [u8; SHOWN_SPACE] {
     [0; SHOWN_SPACE]
 }
 
-fn main() {
+fn main(rt: HostRuntime) -> io::Result<()> {
     let mut input = blank_input();
     let mut octets = blank_save();
     let mut numbers = [0u64; NUMBER_COUNT];
     let mut names = [0u8; OCTET_COUNT];
     let mut text = blank_text();
-    let n = io::read_full(STDIN_FILENO, &mut input);
+    let n = read_full(&mut rt.stdin(), &mut input);
     let end = show(
         &input[..n],
         &mut octets,
@@ -208,5 +226,5 @@ fn main() {
         &mut names,
         &mut text,
     );
-    print(&text, end);
+    print(&mut rt.stdout(), &text, end)
 }

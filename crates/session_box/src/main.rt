@@ -13,11 +13,17 @@ ghost use Rattle.session_replies.specs.Four.{four, box_of};
 ghost use Rattle.session_box.specs.Input.{box_left, Stands};
 
 use bench_answers::Answered;
+use bench_input::Output;
 use bench_orders::LINE_LIMIT;
 use card::{NUMBER_COUNT, OCTET_COUNT};
 use meaning::SAVE_LIMIT;
 use session::STREAM_ROOM;
 use session_replies::{BOX_NUMBERS, TURNS_SPACE};
+use std::io;
+use std::io::Write;
+
+// how many octets are read at a time
+const CHUNK_SPACE: usize = 65536;
 
 // the room that is lent before an order says less: that of the longest save
 const WHOLE_ROOM: u32 = SAVE_LIMIT as u32;
@@ -70,7 +76,8 @@ fn reply(
     bench_answers::answer(numbers, names, whole, number, room, text)
 }
 
-fn take_octet(
+fn take_octet<W: Write>(
+    out: &mut Output<W>,
     numbers: &mut [u64; NUMBER_COUNT],
     names: &mut [u8; OCTET_COUNT],
     streams: &mut [u64; BOX_NUMBERS],
@@ -99,7 +106,7 @@ fn take_octet(
         numbers, names, streams, b0, b1, b2, b3, line, text, state.kept, number, state.room,
     );
     let n = done.length;
-    io::write_all(1, &text[..n]);
+    bench_input::write(out, &text[..n]);
     State {
         number,
         kept: 0,
@@ -107,7 +114,8 @@ fn take_octet(
     }
 }
 
-fn take_chunk(
+fn take_chunk<W: Write>(
+    out: &mut Output<W>,
     numbers: &mut [u64; NUMBER_COUNT],
     names: &mut [u8; OCTET_COUNT],
     streams: &mut [u64; BOX_NUMBERS],
@@ -127,14 +135,14 @@ fn take_chunk(
     let mut i = 0;
     while i < chunk.len() {
         state = take_octet(
-            numbers, names, streams, b0, b1, b2, b3, line, text, chunk[i], state,
+            out, numbers, names, streams, b0, b1, b2, b3, line, text, chunk[i], state,
         );
         i += 1;
     }
     state
 }
 
-// The line and its text have a function each because the proof of `main` would work out their octets one by one.
+// The line, its text and the chunk have a function each because the proof of `main` would work out their octets one by one.
 fn blank_line() -> [u8; LINE_LIMIT] {
     [0; LINE_LIMIT]
 }
@@ -143,9 +151,19 @@ fn blank_text() -> [u8; TURNS_SPACE] {
     [0; TURNS_SPACE]
 }
 
+fn blank_chunk() -> [u8; CHUNK_SPACE] {
+    [0; CHUNK_SPACE]
+}
+
 // The room is at first that of the longest save: no call has more of it than its buffer.
 // A proved loop has to end, and nothing says that the input does: the loop counts its turns down, from a number that no run uses up.
-fn main() {
+// A write that fails ends the program with its error; a read that fails is the end of the input.
+fn main(rt: HostRuntime) -> io::Result<()> {
+    let mut input = rt.stdin();
+    let mut out = Output {
+        to: rt.stdout(),
+        written: Ok(()),
+    };
     let mut numbers = [0u64; NUMBER_COUNT];
     let mut names = [0u8; OCTET_COUNT];
     let mut streams = [0u64; BOX_NUMBERS];
@@ -155,7 +173,7 @@ fn main() {
     let mut b3 = [0u8; STREAM_ROOM];
     let mut line = blank_line();
     let mut text = blank_text();
-    let mut chunk = io::large_buffer();
+    let mut chunk = blank_chunk();
     card::start(&mut numbers, 16);
     let mut state = State {
         number: 0,
@@ -165,10 +183,10 @@ fn main() {
     let mut more = true;
     let mut turns = u64::MAX;
     while turns > 0 && more {
-        let got = bench_input::read_chunk(&mut chunk, state.kept);
-        more = got.more;
+        let got = bench_input::read_chunk(&mut input, &mut chunk, state.kept);
         let n = got.count;
         state = take_chunk(
+            &mut out,
             &mut numbers,
             &mut names,
             &mut streams,
@@ -181,6 +199,8 @@ fn main() {
             &chunk[..n],
             state,
         );
+        more = got.more && out.written.is_ok();
         turns -= 1;
     }
+    out.written
 }

@@ -1,16 +1,14 @@
 -- `bench::take_chunk` meets its contract. Assumes nothing.
-use Rattle.std.proofs.Common.{◌-◌, ◌<◌, ◌≤◌, length, take, sym, arith, take_all, rules}
-use Rattle.memory.specs.Memory.{card_of}
-use Rattle.bench_input.specs.Input.{Stand, after_all}
+use Rattle.std.proofs.Common.{◌-◌, ◌<◌, length, sym, arith, take_all}
 use Rattle.bench_input.proofs.Input.{after_none, after_next}
-use Rattle.bench.specs.Input.{Seat, seat_after, Stands}
+use Rattle.bench.specs.Input.{seat_after}
 use Rattle.bench.proofs.take_chunk.Goals as goal
 
 pub loop-i-init : goal.loop-i-init
-loop-i-init c = (omega arith, λ s h. rw (after_none seat_after s) h)
+loop-i-init g c = (omega arith, λ s h. rw (after_none seat_after s) h)
 
 pub loop-i-preserved : goal.loop-i-preserved
-loop-i-preserved c =
+loop-i-preserved g c =
     let the-loop-test = c.loop-i-test in
     let chunk = c.args.chunk.now in
     let i = c.loop-i.i in
@@ -18,6 +16,6 @@ loop-i-preserved c =
     (omega arith, λ s k. rw (sym (after_next seat_after s chunk i h)) (c.take_octet-state.ensures _ (c.loop-i.invariant.1 s k)))
 
 pub returns : goal.returns
-returns c =
+returns g c =
     let whole = take_all c.loop-i.i c.args.chunk.now c.loop-i-test.false in
     λ s h. rw whole at (c.loop-i.invariant.1 s h)

@@ -1,5 +1,4 @@
 use Rattle.bench_input.proofs.Input.{keeps-more, keeps-over}
-use borrow.Author.Rules.{rules}
 use Rattle.bench_input.proofs.keep.Goals as goal
 
 pub returns-then-kept-line : goal.returns-then-kept-line

@@ -1,5 +1,5 @@
 -- `echo::count` meets its contract: no more are kept than were tried. Assumes nothing.
-use Rattle.std.proofs.Common.{◌-◌, ◌≤◌, rules}
+use Rattle.std.proofs.Common.{◌-◌, ◌≤◌}
 use Rattle.meaning.specs.Wire.{opaque_limit}
 use Rattle.echo.proofs.count.Given as goal
 

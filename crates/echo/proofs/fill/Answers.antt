@@ -1,5 +1,5 @@
 -- `echo::fill` meets its contract: no store changes the length. Assumes nothing.
-use Rattle.std.proofs.Common.{◌≡◌, ◌-◌, length, refl, rules}
+use Rattle.std.proofs.Common.{◌-◌, refl}
 use Rattle.echo.proofs.fill.Goals as goal
 
 pub loop-i-init : goal.loop-i-init

@@ -1,5 +1,5 @@
 -- `echo::fill` meets its contract: no store changes the length. Assumes nothing.
-use Rattle.std.proofs.Common.{◌≡◌, ◌-◌, length, refl, rules}
+use Rattle.std.proofs.Common.{◌≡◌, ◌-◌, length}
 use Rattle.echo.proofs.fill.Given as goal
 
 abbrev pub invariant-loop-i : goal.invariant-loop-i

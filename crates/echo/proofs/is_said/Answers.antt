@@ -1,5 +1,5 @@
 -- `echo::is_said` meets its contract: where the name lies, as `read_message` ensures it, is a part of the message. Assumes nothing.
-use Rattle.std.proofs.Common.{subst, arith, rules}
+use Rattle.std.proofs.Common.{subst, arith}
 use Rattle.wire_reader.specs.Read.{Reads}
 use Rattle.echo.proofs.is_said.Goals as goal
 

@@ -2,7 +2,6 @@ use native.Mathlib.Omega.{arith}
 use borrow.Author.Tests.{eq-eqb, ne_eqb}
 use Rattle.bench_words.specs.Words.{ascii}
 use Rattle.layers.specs.TreeText.{label_words}
-use borrow.Author.Rules.{rules}
 use Rattle.layers.proofs.add_label.Goals as goal
 
 pub returns-then-label-eq0 : goal.returns-then-label-eq0

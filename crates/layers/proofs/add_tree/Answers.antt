@@ -3,7 +3,6 @@ use mathlib.Core.Path.{ap, ◌∙◌}
 use Rattle.meaning.specs.Wire.{element_refusal}
 use Rattle.bench_lines.proofs.Text.{adds_then}
 use Rattle.layers.proofs.Words.{adds_same, line_of}
-use borrow.Author.Rules.{rules}
 use Rattle.layers.proofs.add_tree.Goals as goal
 
 pub add_layers-at-requires : goal.add_layers-at-requires
@@ -30,4 +29,8 @@ returns c =
     let layers = c.add_layers-at in
     let own = c.tree_label in
     let label = c.add_label-at in
-    let leads = c.add_leads in record { fact = adds_same (line_of _ _ _ _ (name.ensures.0 c.args.numbers.now c.requires.4.0) (own.ensures c.args.names.now)) (adds_then layers.ensures.adds (adds_then label.ensures.adds leads.ensures.adds)); upper_bound = omega (arith, name.ensures.1, layers.ensures.upper_bound, label.ensures.upper_bound, leads.ensures.upper_bound) }
+    let leads = c.add_leads in
+    record {
+      fact = adds_same (line_of _ _ _ _ (name.ensures.0 c.args.numbers.now c.requires.4.0) (own.ensures c.args.names.now)) (adds_then layers.ensures.adds (adds_then label.ensures.adds leads.ensures.adds));
+      upper_bound = omega (arith, name.ensures.1, layers.ensures.upper_bound, label.ensures.upper_bound, leads.ensures.upper_bound);
+    }

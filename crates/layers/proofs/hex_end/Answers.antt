@@ -1,5 +1,4 @@
 use native.Mathlib.Omega.{arith}
-use borrow.Author.Rules.{rules}
 use Rattle.layers.proofs.Printed.{hex-none, hex-ended, hex-open}
 use Rattle.layers.proofs.hex_end.Goals as goal
 

@@ -1,6 +1,5 @@
 use mathlib.Core.Path.{sym, ◌∙◌}
 use Rattle.layers.proofs.Printed.{shows-old, shows-new}
-use borrow.Author.Rules.{rules}
 use Rattle.layers.proofs.is_taken.Goals as goal
 
 pub returns-then-is_taken : goal.returns-then-is_taken

@@ -1,5 +1,4 @@
 use Rattle.layers.proofs.Printed.{shows-decoded}
-use borrow.Author.Rules.{rules}
 use Rattle.layers.proofs.is_taken_hex.Goals as goal
 
 pub returns : goal.returns

@@ -1,7 +1,6 @@
 use native.Mathlib.Omega.{arith}
 use Rattle.bench_words.specs.Words.{ascii}
 use Rattle.layers.specs.Shown.{no_save}
-use borrow.Author.Rules.{rules}
 use Rattle.layers.proofs.put_refused.Goals as goal
 
 pub returns : goal.returns

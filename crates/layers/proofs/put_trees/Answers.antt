@@ -1,13 +1,9 @@
-use Prim.Native.Nat.{◌-◌, ◌*◌, ◌≤◌}
+use Prim.Native.Nat.{◌-◌}
 use native.Mathlib.Omega.{arith}
-use mathlib.Core.Path.{◌≡◌, refl, sym, ◌∙◌}
-use lib.ListN.{length, take}
-use borrow.Author.Rules.{rules}
+use mathlib.Core.Path.{refl, sym, ◌∙◌}
 use Rattle.memory.specs.Memory.{card_of}
 use Rattle.memory.proofs.Memory.{trees-length}
-use Rattle.bench_lines.specs.Text.{Adds}
 use Rattle.bench_lines.proofs.Text.{adds_none, adds_then}
-use Rattle.layers.specs.TreeText.{line_space}
 use Rattle.layers.specs.Shown.{trees_text}
 use Rattle.layers.proofs.Printed.{trees-more, table-whole}
 use Rattle.layers.proofs.put_trees.Goals as goal
