@@ -1,9 +1,9 @@
 -- Saves of a made card of base 16, seed 3, and spoiled ones, as the second program writes them: second/save-rows writes this file.
-use Rattle.std.specs.Prelude.{ℕ, suc, ◌&&◌, List, [], ◌∷◌}
+use Rattle.std.specs.Prelude.{ℕ, suc, Bool, ◌&&◌, List, [], ◌∷◌}
 use Rattle.meaning.specs.Octets.{pick, same}
 use Rattle.meaning.specs.Computing.{computing}
 use Rattle.meaning.specs.Card.{Card}
-use Rattle.meaning.specs.Events.{Event, receive, route, start}
+use Rattle.meaning.specs.Events.{Event, receive, join, leave, route, start}
 use Rattle.meaning.specs.Examples.{NoneWrong}
 use Rattle.meaning_save.specs.Save.{old, saved}
 use Rattle.meaning_save.specs.SaveExample.{computing_saves, after}
