@@ -11,16 +11,13 @@ ghost use Rattle.bench.specs.Input.{Seat, seat_after, Stands};
 ghost use Rattle.bench_lines.specs.Text.{text_space};
 
 use bench_answers::Answered;
-use bench_input::Output;
+use bench_input::{CHUNK_SPACE, Output};
 use bench_lines::TEXT_SPACE;
 use bench_orders::LINE_LIMIT;
 use meaning::SAVE_LIMIT;
 use memory::{NUMBER_COUNT, OCTET_COUNT};
 use std::io;
 use std::io::Write;
-
-// how many octets are read at a time
-const CHUNK_SPACE: usize = 65536;
 
 // the room that is lent before an order says less: that of the longest save
 const WHOLE_ROOM: u32 = SAVE_LIMIT as u32;

@@ -8,6 +8,9 @@ ghost use Rattle.bench_input.specs.Kept.{Keeps};
 use std::io;
 use std::io::{Read, Write};
 
+// how many octets a program reads at a time
+pub const CHUNK_SPACE: usize = 65536;
+
 // How many octets came, and whether there is more to read.
 #[derive(Clone, Copy)]
 pub struct Got {

@@ -13,7 +13,7 @@ ghost use Rattle.session_replies.specs.Four.{four, box_of};
 ghost use Rattle.session_box.specs.Input.{box_left, Stands};
 
 use bench_answers::Answered;
-use bench_input::Output;
+use bench_input::{CHUNK_SPACE, Output};
 use bench_orders::LINE_LIMIT;
 use card::{NUMBER_COUNT, OCTET_COUNT};
 use meaning::SAVE_LIMIT;
@@ -21,9 +21,6 @@ use session::STREAM_ROOM;
 use session_replies::{BOX_NUMBERS, TURNS_SPACE};
 use std::io;
 use std::io::Write;
-
-// how many octets are read at a time
-const CHUNK_SPACE: usize = 65536;
 
 // the room that is lent before an order says less: that of the longest save
 const WHOLE_ROOM: u32 = SAVE_LIMIT as u32;
