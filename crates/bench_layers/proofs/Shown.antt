@@ -9,8 +9,9 @@ use borrow.Author.Tests.{eq-eqb, ne_eqb}
 use Rattle.meaning.specs.Wire.{root_length, root_in, opaque_in, element_refusal}
 use Rattle.meaning_laws.specs.RoundTrip.{whole}
 use Rattle.meaning_layers.specs.Layers.{before_inner, eight_in, inner_of, layer_of, under, peel, read}
-use Rattle.meaning_layers.specs.LayerLaws.{inner-named}
-use Rattle.meaning_layers.specs.InnerStart.{inner_start, start-not, start-more, start-inner, peel-end, peel-part}
+use Rattle.meaning_layers.proofs.LayerLaws.{inner-named}
+use Rattle.meaning_layers.specs.InnerStart.{inner_start}
+use Rattle.meaning_layers.proofs.InnerStart.{start-not, start-more, start-inner, peel-end, peel-part}
 use Rattle.bench_words.specs.Words.{ascii, hex_of}
 use Rattle.bench_lines.specs.Text.{count_line}
 use Rattle.bench_layers.specs.LayerText.{eight_text, layer_text, outer_text, innermost_text, peeled_text, layers_line, or_dash}

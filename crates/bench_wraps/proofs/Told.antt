@@ -12,7 +12,7 @@ use Rattle.meaning_save.specs.Save.{new, save_limit}
 use Rattle.meaning.specs.Lists.{by-test}
 use Rattle.meaning_laws.specs.RoundTrip.{whole}
 use Rattle.meaning_layers.specs.Layers.{eight_in, eight_kind, eight_size, before_inner, inner_of, layer_of, read, wrap_refusal, wrap, unwrap_refusal, unwrap}
-use Rattle.meaning_layers.specs.LayerLaws.{wrappable, unwrappable}
+use Rattle.meaning_layers.proofs.LayerLaws.{wrappable, unwrappable}
 use Rattle.meaning_layers.specs.LayerCalls.{HandsPart}
 use Rattle.bench_words.specs.Words.{Puts, ascii}
 use Rattle.bench_lines.specs.Text.{count_line, event_line, text_space}

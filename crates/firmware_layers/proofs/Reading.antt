@@ -9,7 +9,8 @@ use borrow.Author.Tests.{eq-eqb, ne_eqb, lt-ltb, le-ltb}
 use Rattle.meaning.specs.Octets.{◌when◌else◌}
 use Rattle.meaning.specs.Wire.{root_in, opaque_in, element_refusal}
 use Rattle.meaning_layers.specs.Layers.{eight_in, layer_of, peel, refused, peeled, read}
-use Rattle.meaning_layers.specs.InnerStart.{inner_start, layer_count, layer_start, start_none, start-not, start-below}
+use Rattle.meaning_layers.specs.InnerStart.{inner_start, layer_count, layer_start}
+use Rattle.meaning_layers.proofs.InnerStart.{start_none, start-not, start-below}
 use Rattle.firmware_layers.specs.Fields.{answer_of, count_of, layer_answer, layer_fields, fields_of}
 
 -- ---- by the refusal n of the octets

@@ -9,7 +9,6 @@ pub mod LossLaws
 pub mod EventLaws
 pub mod RouteLaws
 pub mod PromiseProof
-pub mod RulesKept
 pub mod CountsKept
 pub mod Sizes
 pub mod NoWayBack

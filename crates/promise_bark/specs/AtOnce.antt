@@ -10,10 +10,11 @@ use Rattle.meaning.specs.Lists.{by-test}
 use Rattle.meaning.specs.Card.{Card, tree_of, Branch, Feed, lookup_name}
 use Rattle.meaning.specs.Events.{branch}
 use Rattle.promise_line.specs.Line.{lists, lives}
-use Rattle.promise_line.specs.LineProof.{each_live}
+use Rattle.promise_line.proofs.LineProof.{each_live}
 use Rattle.promise_net.specs.Net.{Far, nobody, box, Wires, Net, box_at, laid, turns, onward, along, reaches, fed, joined}
-use Rattle.promise_net.specs.NetProof.{AllBound, turns-bound, laid-bound}
-use Rattle.promise_net.specs.PacketProof.{count-append}
+use Rattle.promise_net.specs.NetProof.{AllBound}
+use Rattle.promise_net.proofs.NetProof.{turns-bound, laid-bound}
+use Rattle.promise_net.proofs.PacketProof.{count-append}
 use Rattle.promise_bark.specs.Bark.{NoBarkAtOnce, Alive}
 use Rattle.promise_bark.specs.Lookups.{EachBranch, Listed, Fair, name-fair, label-fair}
 

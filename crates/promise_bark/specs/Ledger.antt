@@ -13,7 +13,8 @@ use Rattle.meaning_laws.specs.RoundTrip.{both}
 use Rattle.meaning.specs.Wire.{mapping, withdraw, release, Message, message_in, Sent}
 use Rattle.meaning.specs.Events.{Event, receive, join, leave, route, lost}
 use Rattle.promise.specs.Promise.{Given, of_label, is_about, mark, remove, without, note_sent, note_all, note_taken, Step, Past, is_taken, live_at, sends, then_step, NoneLive}
-use Rattle.promise.specs.PromiseProof.{Upheld, kept}
+use Rattle.promise.specs.PromiseProof.{Upheld}
+use Rattle.promise.proofs.PromiseProof.{kept}
 use Rattle.promise_line.specs.Life.{about}
 use Rattle.promise_line.specs.Sends.{is_down}
 use Rattle.promise_bark.specs.Bark.{NotGiven, Alive}

@@ -11,11 +11,12 @@ use Rattle.meaning.specs.Card.{Tree, Use, free, mapped, awaiting, Card, tree_of,
 use Rattle.meaning.specs.Events.{branch}
 use Rattle.promise.specs.Promise.{Given, of_label, is_about, Past}
 use Rattle.promise.specs.LiveLaws.{Books, only, givens}
-use Rattle.promise.specs.CardLaws.{tree-name}
-use Rattle.promise.specs.PromiseProof.{Upheld, carrier-is}
+use Rattle.promise.proofs.CardLaws.{tree-name}
+use Rattle.promise.specs.PromiseProof.{Upheld}
+use Rattle.promise.proofs.PromiseProof.{carrier-is}
 use Rattle.promise_line.specs.Life.{about}
 use Rattle.promise_net.specs.Cards.{mapped-lookup}
-use Rattle.promise_net.specs.PacketProof.{not-held, some-label}
+use Rattle.promise_net.proofs.PacketProof.{not-held, some-label}
 use Rattle.promise_bark.specs.Bark.{Alive}
 
 unfoldable pub EachBranch : (Branch → Type 0) → List Branch → Type 0

@@ -14,10 +14,11 @@ use Rattle.promise.specs.Deeds.{then_deed}
 use Rattle.promise.specs.Deeds
 use Rattle.promise_line.specs.Line.{parcels, addressed, hearing, sent_by, refuses}
 use Rattle.promise_net.specs.Net.{Far, nobody, box, Wires, Wired, box_at, arriving, anew, over_line, losing, joined, Whole}
-use Rattle.promise_net.specs.PacketProof.{whole-net}
+use Rattle.promise_net.proofs.PacketProof.{whole-net}
 use Rattle.promise_bark.specs.Bark.{Item, letter, packet, Traffic, letters, talk, copies_to, noticed, taken, dropped, passed, is_live, handed, handed_of, hands, EachHand, turn, turns, NoBark}
 use Rattle.promise_bark.specs.Bark
-use Rattle.promise_bark.specs.BarkProof.{Sure, turns-sure, laid-sure, no-bark}
+use Rattle.promise_bark.specs.BarkProof.{Sure}
+use Rattle.promise_bark.proofs.BarkProof.{turns-sure, laid-sure, no-bark}
 use Rattle.promise_kept.specs.CallContracts.{Call, Called, made, Telling, Told, Started, began, LookedUp, looked-up, NameLookedUp, name-looked-up}
 use Rattle.promise_kept.specs.CallContracts
 use Rattle.promise_kept.specs.Kept.{Done, call, tell, live_by, accepted_by, step_of, past_of, called-deed, told-deed}

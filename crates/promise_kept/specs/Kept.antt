@@ -13,7 +13,8 @@ use Rattle.meaning.specs.Calls.{Hands, feed_in}
 use Rattle.meaning.specs.Lists.{by-test}
 use Rattle.promise.specs.Promise.{Given, of_label, note_all, note_taken, branches_said, feed_by, Step, Past, answer_to, sends, is_taken, live_at, accepted_at, then_step, begun, Each, NoneLive, AllMapped, Leads, is_withdrawn, Untouched, Promise}
 use Rattle.promise.specs.SaveKept as Swap
-use Rattle.promise.specs.Deeds.{Deed, does, tells, saves, swaps, moves, restores, then_deed, then_deeds, IsClaimed, Claimed, deeds-kept}
+use Rattle.promise.specs.Deeds.{Deed, does, tells, saves, swaps, moves, restores, then_deed, then_deeds, IsClaimed, Claimed}
+use Rattle.promise.proofs.Deeds.{deeds-kept}
 use Rattle.memory.specs.Memory.{card_of}
 use Rattle.promise_kept.specs.CallContracts.{Call, Called, made, Telling, Told, told, Started, began, Saved, wrote, Restored, read, Moving, shifted, LookedUp, looked-up, NameLookedUp, name-looked-up, Counted, counted}
 

@@ -10,7 +10,7 @@ use Rattle.promise.specs.Promise.{answer_to, is_taken, then_step}
 use Rattle.promise.specs.Deeds.{then_deed}
 use Rattle.promise_line.specs.Line.{parcels, addressed, Box, ready, Act, is_from, hearing, sent_by, refuses, after, heard, answered, acts, says, World, Turn, turn, turns, flipped, OnOneLine}
 use Rattle.promise_line.specs.Line
-use Rattle.promise_line.specs.LineProof.{two-boxes}
+use Rattle.promise_line.proofs.LineProof.{two-boxes}
 use Rattle.promise_kept.specs.CallContracts.{Call, Called, made, Telling, Told, told, Started, began}
 use Rattle.promise_kept.specs.Kept.{Done, call, tell, live_by, accepted_by, step_of, past_of, called-deed, told-deed}
 use Rattle.meaning.specs.Card.{neighbour_count}

@@ -13,10 +13,11 @@ use Rattle.promise_net.specs.Net.{Wires, Wired, Net, box_at, anew}
 use Rattle.promise_net.specs.Net
 use Rattle.promise_bark.specs.Bark.{Item, letter, packet, Traffic, messages, talk, copies_to, passed, taken, turn}
 use Rattle.promise_bark.specs.Bark
-use Rattle.promise_bark.specs.Queues.{messages-append, messages-passed}
-use Rattle.promise_bark.specs.BarkProof.{anew-at, messages-anew, messages-copies-to, talk-steps}
+use Rattle.promise_bark.proofs.Queues.{messages-append, messages-passed}
+use Rattle.promise_bark.proofs.BarkProof.{anew-at, messages-anew, messages-copies-to, talk-steps}
 use Rattle.promise_tick.specs.Tick.{Ear, Silent, Rank, ahead, Within, Slopes, some, delivered, hearings}
-use Rattle.promise_tick.specs.TickProof.{Fit, Ready, later-ready, later-most, none_ahead}
+use Rattle.promise_tick.specs.TickProof.{Fit, Ready}
+use Rattle.promise_tick.proofs.TickProof.{later-ready, later-most, none_ahead}
 use Rattle.promise_kept.specs.BarkKept.{Plant, copied, past_at, traffic_of, Goes, hears, sends, does, tells, puts, comes, loses, passes, cuts, Reached, heard-path, reached-sure}
 
 -- what the boxes of the net say to each other

@@ -10,7 +10,8 @@ use Rattle.meaning.specs.Notice.{notice_due, notice_record, notice}
 use Rattle.meaning_laws.specs.NoticeLaws.{spread, record-spread}
 use Rattle.promise.specs.Promise.{note_sent, note_all, Past}
 use Rattle.promise.specs.PromiseProof.{Upheld}
-use Rattle.promise.specs.Deeds.{renumbered, renumbered-upheld}
+use Rattle.promise.specs.Deeds.{renumbered}
+use Rattle.promise.proofs.Deeds.{renumbered-upheld}
 use Rattle.promise_line.specs.Sends.{is_up, is_down, kin_to}
 
 -- what a notice hands back: the table but for the next identifier, and octets in which a reader finds no message about a label

@@ -10,9 +10,10 @@ use Rattle.meaning.specs.Card.{Tree, mapped, Card, nobody, tree_of, route_of, le
 use Rattle.meaning.specs.Events.{upstream, holder, holder_of}
 use Rattle.promise.specs.Promise.{Past}
 use Rattle.promise.specs.LiveLaws.{mapped-eq, Linked}
-use Rattle.promise.specs.CardLaws.{tree-name}
-use Rattle.promise.specs.RuleLaws.{held-named}
-use Rattle.promise.specs.PromiseProof.{Upheld, carrier-is, sender-is}
+use Rattle.promise.proofs.CardLaws.{tree-name}
+use Rattle.promise.proofs.RuleLaws.{held-named}
+use Rattle.promise.specs.PromiseProof.{Upheld}
+use Rattle.promise.proofs.PromiseProof.{carrier-is, sender-is}
 
 -- for whom a label is to be held, by the route
 route-asked : (c : Card) (t : Tree) (v : ℕ) → v < neighbour_count → route_of (root_in t.name) c ≡ v → leads_on v t ≡ true → holder_of c t ≡ v

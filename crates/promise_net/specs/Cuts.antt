@@ -11,16 +11,19 @@ use Rattle.meaning.specs.Events.{Outcome, refuse, accept, room_short, finish, br
 use Rattle.promise.specs.Promise.{Past, answer_to, is_taken, then_step}
 use Rattle.promise.specs.LiveLaws.{givens, Books}
 use Rattle.promise.specs.EventLaws.{became}
-use Rattle.promise.specs.LossKept.{lost-taken, NoneOf, Gone, lost-gone}
-use Rattle.promise.specs.Sizes.{loss-taken}
-use Rattle.promise.specs.PromiseProof.{Upheld, then-upheld}
+use Rattle.promise.specs.LossKept.{NoneOf}
+use Rattle.promise.proofs.LossKept.{lost-taken, Gone, lost-gone}
+use Rattle.promise.proofs.Sizes.{loss-taken}
+use Rattle.promise.specs.PromiseProof.{Upheld}
+use Rattle.promise.proofs.PromiseProof.{then-upheld}
 use Rattle.promise_line.specs.Line.{Box}
 use Rattle.promise_line.specs.Life.{idle}
 use Rattle.promise_line.specs.Sends.{kin, mine, mine-only}
-use Rattle.promise_line.specs.Steps.{from, branches}
+use Rattle.promise_line.specs.Steps.{from}
+use Rattle.promise_line.proofs.Steps.{branches}
 use Rattle.promise_line.specs.LineProof.{Bound}
 use Rattle.promise_net.specs.Net.{losing}
-use Rattle.promise_line.specs.LineRefusals.{far-off}
+use Rattle.promise_line.proofs.LineRefusals.{far-off}
 
 -- no label of the table is at n
 none_kept : (room : ℕ) (c : Card) (n : ℕ) (o : Outcome) → Gone n o → eqb (finish room c o).answer 0 ≡ true → (l : ℕ) → is_of n (use_of l (finish room c o).card) ≡ false

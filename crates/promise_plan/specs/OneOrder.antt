@@ -14,10 +14,13 @@ use Rattle.meaning_laws.specs.Counts.{counted-twelve, counted_same}
 use Rattle.meaning.specs.Events.{runs_out, Out, Outcome, taken, unless, accept, room_short, finish, Moved, still, followed_by, need_move, labels_short, upstream, holder_of, of_root, move_one, move_from, move_all, need_one, sum_from, need_all, routes_with, not_route, not_root, routes_full, route_refusal, re_route, on_route, route, outcome, event}
 use Rattle.promise.specs.Promise.{Given, note_all, note_taken}
 use Rattle.promise.specs.CardLaws.{shape}
-use Rattle.promise.specs.LabelLaws.{Sound, spent-eq, Fine, Kept, one-fine, one_free, need-later, all-kept, shape-name}
-use Rattle.promise.specs.RuleLaws.{Ruled, shape-holder, own-route, other-route}
-use Rattle.promise.specs.EventLaws.{Follows, Keeps, became, Apart, event-keeps, upstream-near}
-use Rattle.promise.specs.Sizes.{order-short}
+use Rattle.promise.specs.LabelLaws.{Sound, Fine, Kept}
+use Rattle.promise.proofs.LabelLaws.{spent-eq, one-fine, one_free, need-later, all-kept, shape-name}
+use Rattle.promise.specs.RuleLaws.{Ruled}
+use Rattle.promise.proofs.RuleLaws.{shape-holder, own-route, other-route}
+use Rattle.promise.specs.EventLaws.{Follows, Keeps, became, Apart}
+use Rattle.promise.proofs.EventLaws.{event-keeps, upstream-near}
+use Rattle.promise.proofs.Sizes.{order-short}
 
 -- ---- what a move needs depends on no tree's label
 

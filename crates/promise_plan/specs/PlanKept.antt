@@ -13,7 +13,7 @@ use Rattle.meaning_laws.specs.RoundTrip.{both}
 use Rattle.meaning_save.specs.Save.{keeps_rules, last_right}
 use Rattle.meaning_laws.specs.SaveRules.{all-at, all_of, rules}
 use Rattle.promise.specs.Promise.{Step, history}
-use Rattle.promise.specs.SaveKept.{history-keeps-rules, history-last}
+use Rattle.promise.proofs.SaveKept.{history-keeps-rules, history-last}
 use Rattle.meaning_plan.specs.Plan.{Move, move_for, Allowed, goes_by, need_list, may_have, is_move, listed_once, accepts, choice, through, proposal, is_found, refused, none, listed, planned, carried_out, no_refusal, some_through, route_after}
 use Rattle.promise_plan.specs.CarriedOut.{route-at, accepted, May, may, move-from, each-once, carried, carried-routes}
 use Rattle.promise_plan.specs.RulesSound.{in_use, rules-sound, rules-ruled}

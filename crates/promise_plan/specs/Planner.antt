@@ -18,7 +18,7 @@ use Rattle.meaning_laws.specs.SaveFields.{all_cons}
 use Rattle.meaning_laws.specs.SaveRules.{all-at, all_of}
 use Rattle.meaning_plan.specs.Plan.{Move, move_for, Allowed, goes_by, need_list, may_have, is_move, listed_once, accepts, choice, as_move, through, chosen, proposal, is_found}
 use Rattle.promise_plan.specs.CarriedOut.{of-root, for-root, route-there, route-at, Accepted, move-from, each-once}
-use Rattle.meaning_plan.specs.Cheapest.{Beats, cheapest-in, cheapest-beats}
+use Rattle.meaning_plan.proofs.Cheapest.{Beats, cheapest-in, cheapest-beats}
 use Rattle.meaning_plan.specs.Rising.{own_first, count-through, as-of, count-both, count-chosen}
 
 -- ---- sums over the roots of a list

@@ -16,10 +16,11 @@ use Rattle.meaning_laws.specs.SaveCounts.{right-counted}
 use Rattle.meaning_laws.specs.SaveRules.{all-at, Rules}
 use Rattle.promise.specs.Promise.{Given, of_label}
 use Rattle.promise.specs.LiveLaws.{is_mapped, stray, Linked, only, givens, Books}
-use Rattle.promise.specs.CardLaws.{Proper, AllProper, tree-name}
+use Rattle.promise.specs.CardLaws.{Proper, AllProper}
+use Rattle.promise.proofs.CardLaws.{tree-name}
 use Rattle.promise.specs.LabelLaws.{Sound, Spent}
 use Rattle.promise.specs.RuleLaws.{Ruled}
-use Rattle.promise.specs.SaveKept.{mapped-same}
+use Rattle.promise.proofs.SaveKept.{mapped-same}
 
 -- ---- the labels in use, as live ones
 

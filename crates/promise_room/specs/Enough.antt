@@ -15,12 +15,15 @@ use Rattle.meaning.specs.Lists.{by-test, picked}
 use Rattle.session.specs.Session.{message_room, label}
 use Rattle.promise.specs.Promise.{Given, note_taken, Step, history}
 use Rattle.promise.specs.LabelLaws.{Sound}
-use Rattle.promise.specs.RuleLaws.{Ruled, held-named}
+use Rattle.promise.specs.RuleLaws.{Ruled}
+use Rattle.promise.proofs.RuleLaws.{held-named}
 use Rattle.meaning_laws.specs.Counts.{any-set-zero}
-use Rattle.promise.specs.EventLaws.{became, Apart, Keeps, event-keeps}
-use Rattle.promise.specs.PromiseProof.{history-upheld}
-use Rattle.promise.specs.Sizes.{AtMost, unless-most, records-short, let-go-one, take-up-one}
-use Rattle.promise.specs.RulesKept.{entered_at}
+use Rattle.promise.specs.EventLaws.{became, Apart, Keeps}
+use Rattle.promise.proofs.EventLaws.{event-keeps}
+use Rattle.promise.proofs.PromiseProof.{history-upheld}
+use Rattle.promise.specs.Sizes.{AtMost}
+use Rattle.promise.proofs.Sizes.{unless-most, records-short, let-go-one, take-up-one}
+use Rattle.promise.proofs.RulesKept.{entered_at}
 
 -- ---- how many messages a move of a label sends
 

@@ -13,13 +13,15 @@ use Rattle.meaning.specs.Card.{Tree, Card, nobody, named, bare, with_trees, with
 use Rattle.meaning.specs.Events.{Outcome, refused, taken, unless, still, followed_by, tell, give_up, give, let_go, take_up, move_label, relabel, upstream, holder, holder_of, entered, enter, become, branch, other_label, on_mapping, less_branch, on_withdraw, on_release, on_message, on_octets, receive, outcome}
 use Rattle.promise.specs.Promise.{Given, Step, Past, answer_to, sends}
 use Rattle.promise.specs.LiveLaws.{stray-not}
-use Rattle.promise.specs.CardLaws.{tree-name}
+use Rattle.promise.proofs.CardLaws.{tree-name}
 use Rattle.promise.specs.LabelLaws.{Sound}
-use Rattle.promise.specs.RuleLaws.{Ruled, held-named}
-use Rattle.promise.specs.EventLaws.{get_d-put, less-name, less-label}
-use Rattle.promise.specs.PromiseProof.{messages_of, Upheld, sends-is}
-use Rattle.promise.specs.RulesKept.{less-leads}
-use Rattle.promise_line.specs.Steps.{or-true}
+use Rattle.promise.specs.RuleLaws.{Ruled}
+use Rattle.promise.proofs.RuleLaws.{held-named}
+use Rattle.promise.proofs.EventLaws.{get_d-put, less-name, less-label}
+use Rattle.promise.specs.PromiseProof.{messages_of, Upheld}
+use Rattle.promise.proofs.PromiseProof.{sends-is}
+use Rattle.promise.proofs.RulesKept.{less-leads}
+use Rattle.promise_line.proofs.Steps.{or-true}
 
 -- ---- what is said of an outcome's messages is said of those that its octets hold
 

@@ -8,7 +8,8 @@ use Rattle.session.specs.Stream.{holds_message}
 use Rattle.session.specs.Session.{label, called, Called, Cut, Driven, driven, Piece, came_in, pieced}
 use Rattle.session.specs.Calls.{HandsOver}
 use Rattle.session.specs.Kept.{Kept}
-use Rattle.session.specs.Cuts.{AllEaten, pieces-agree}
+use Rattle.session.specs.Cuts.{AllEaten}
+use Rattle.session.proofs.Cuts.{pieces-agree}
 use Rattle.session_kept.specs.CallContracts.{Lent, card_in, stream_in, Call, Served, served}
 
 -- ---- calls one after the other, and nothing between them

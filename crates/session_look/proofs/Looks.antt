@@ -10,7 +10,8 @@ use denote.Enum.Declared.{tag_of}
 use types.Run.{OneOf, miss}
 use Rattle.meaning.specs.Octets.{same, two_at}
 use Rattle.session.specs.Stream.{least_length, most_length, body_limit, pdu_head, Look, wait, bad, head, message, wrong_version, wrong_length, wrong_id, look_head, message_size, look_message, look}
-use Rattle.session.specs.StreamLaws.{Tells, look-tells}
+use Rattle.session.specs.StreamLaws.{Tells}
+use Rattle.session.proofs.StreamLaws.{look-tells}
 use Rattle.session_look.specs.Shown.{shown, head_in}
 use Rattle.session_look.specs.declared.Shows.{Shows}
 use Rattle.session_look.specs.contracts.Shows.{the_type}

@@ -8,7 +8,8 @@ use lib.ListN.{length, take, drop, length-take}
 use denote.Enum.Declared.{tag_of}
 use types.Run.{OneOf, miss}
 use Rattle.session.specs.Stream.{Look, message, look, Stream, stopped, reading, is_stopped, Filled, filled, Read, worked_by, worked, eaten_of, taken}
-use Rattle.session.specs.StreamLaws.{Tells, look-tells}
+use Rattle.session.specs.StreamLaws.{Tells}
+use Rattle.session.proofs.StreamLaws.{look-tells}
 use Rattle.session.specs.Lent.{left_in, place_in, count_in, stream_of}
 use Rattle.session_look.specs.Shown.{shown}
 use Rattle.session_streams.specs.Holds.{held_at}

@@ -6,14 +6,16 @@ use mathlib.Core.List.{List, [], ◌∷◌, ◌++◌}
 use lib.ListN.{length, take, drop, length-take, length-drop, drop_of_length-le}
 use lib.Seq.{take_all, length-take-le}
 use Rattle.session.specs.Stream.{Look, wait, bad, head, message, look, limit, Filled, space, fill, opened, filled, body_limit}
-use Rattle.session.specs.StreamLaws.{Tells, look-tells}
-use Rattle.session.specs.Lent.{left_in, place_in, count_in, lent-reading, lent-fill}
+use Rattle.session.specs.StreamLaws.{Tells}
+use Rattle.session.proofs.StreamLaws.{look-tells}
+use Rattle.session.specs.Lent.{left_in, place_in, count_in}
+use Rattle.session.proofs.Lent.{lent-reading, lent-fill}
 use Rattle.session_look.specs.Shown.{head_in}
 use Rattle.session_streams.specs.Holds.{held_at}
 use Rattle.session_streams.proofs.Settling.{take_min}
 use Rattle.session_offer.specs.Offers.{TakesIn}
 use Rattle.session.specs.Session.{stream_room}
-use Rattle.session.specs.Kept.{limit-some}
+use Rattle.session.proofs.Kept.{limit-some}
 
 -- what is offered from place k on
 pub offered-rest : (k : ℕ) (o : List ℕ) → take (length o - k) (drop k o) ≡ drop k o

@@ -13,7 +13,7 @@ use Rattle.meaning.specs.Lists.{by-test, append-nil}
 use Rattle.octets.specs.Part.{mid}
 use Rattle.session.specs.Stream.{pdu_head, identifier_size, body_limit}
 use Rattle.session.specs.Pack.{pdu, joined, groups_from, groups, pdus, packed}
-use Rattle.session.specs.PackLaws.{joined-append, joined-one}
+use Rattle.session.proofs.PackLaws.{joined-append, joined-one}
 use Rattle.session_pdu.specs.Packing.{NoneEmpty, body_after, added_by, size_from, length_place, with_message, written_from}
 
 module _ (id : List ℕ) (six : length id ≡ identifier_size) where

@@ -5,7 +5,8 @@ use Rattle.std.specs.Prelude.{◌≡◌, refl, false, List, drop, length}
 use Rattle.meaning.specs.Lists.{by-test}
 use Rattle.meaning.specs.Card.{Card}
 use Rattle.session.specs.Stream.{Stream, stopped, reading, body_limit}
-use Rattle.session.specs.Kept.{Fits, limit-most}
+use Rattle.session.specs.Kept.{Fits}
+use Rattle.session.proofs.Kept.{limit-most}
 use Rattle.session.specs.Ends.{pending}
 use Rattle.session.specs.Session.{Called}
 use Rattle.session_replies.specs.Turns.{Turns, called_box, is_last, and_then, turns_f, most_turns, turns}

@@ -12,10 +12,13 @@ use Rattle.meaning.specs.Lists.{by-test, append-nil}
 use Rattle.meaning.specs.Card.{Card}
 use Rattle.meaning.specs.Events.{no_neighbour}
 use Rattle.session.specs.Stream.{pdu_head, Look, wait, bad, head, message, look, Stream, stopped, reading, holds_message, Filled, fill, opened, filled, settled_by, settled, worked_by, worked, eaten_of, taken}
-use Rattle.session.specs.StreamLaws.{Tells, look-tells}
-use Rattle.session.specs.Kept.{Quiet, quiet-taken, filled-eaten, taken-eaten, taken-one}
+use Rattle.session.specs.StreamLaws.{Tells}
+use Rattle.session.proofs.StreamLaws.{look-tells}
+use Rattle.session.specs.Kept.{Quiet}
+use Rattle.session.proofs.Kept.{quiet-taken, filled-eaten, taken-eaten, taken-one}
 use Rattle.session.specs.Session.{message_room, stream_room, label, heeded, session_short, call_refusal, accepted, called_by, Called, called}
-use Rattle.session.specs.Ends.{pending, taken-less, fill-count, quiet_none}
+use Rattle.session.specs.Ends.{pending}
+use Rattle.session.proofs.Ends.{taken-less, fill-count, quiet_none}
 use Rattle.session_calls.proofs.Serving.{label-fits}
 use Rattle.session_replies.specs.Turns.{identifier, call_room, called_box, is_last, call_space, octet_space}
 

@@ -5,10 +5,11 @@ use mathlib.Core.Path.{◌≡◌, ap}
 use mathlib.Core.List.{List, [], ◌∷◌}
 use lib.ListN.{length, take, drop, length-take, drop_of_length-le}
 use Rattle.session.specs.Stream.{stopped, reading, empty, limit, body_limit}
-use Rattle.session.specs.Lent.{left_in, place_in, count_in, stream_of, lent-reading, lent-stopped, lent-past}
+use Rattle.session.specs.Lent.{left_in, place_in, count_in, stream_of}
+use Rattle.session.proofs.Lent.{lent-reading, lent-stopped, lent-past}
 use Rattle.session_streams.specs.Holds.{held_at}
 use Rattle.session.specs.Session.{stream_room}
-use Rattle.session.specs.Kept.{limit-some}
+use Rattle.session.proofs.Kept.{limit-some}
 
 pub stopped-is : (ns : List ℕ) → ns ≡ 1 ∷ 0 ∷ 0 ∷ 0 ∷ [] → (length ns ≡ 4) × ((b : List ℕ) → stream_of ns b ≡ stopped)
 stopped-is ns e = (ap length e, λ b. rw e (lent-stopped 0 0 0 b))

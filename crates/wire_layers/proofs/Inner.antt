@@ -13,7 +13,8 @@ use Rattle.meaning.specs.Wire.{root_length, opaque_in, element_refusal}
 use Rattle.meaning.specs.Lists.{by-test}
 use Rattle.meaning_laws.specs.WireLaws.{element-kind}
 use Rattle.meaning_layers.specs.Layers.{plain_kind, eight_kind, eight_size, before_inner, eight_in, inner_in, wraps, is_last}
-use Rattle.meaning_layers.specs.InnerStart.{inner_start, start-last, layer_start, start-end, start-part}
+use Rattle.meaning_layers.specs.InnerStart.{inner_start, layer_start}
+use Rattle.meaning_layers.proofs.InnerStart.{start-last, start-end, start-part}
 
 abbrev pub Found : List ℕ → ℕ → Type 0
 Found e r = (r ≡ inner_start e) × (r ≤ length e) × ((r ≡ 0 → ⊥) → 9 ≤ r)

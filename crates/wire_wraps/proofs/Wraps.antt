@@ -17,9 +17,11 @@ use Rattle.meaning_laws.specs.RoundTrip.{both, whole, root-size}
 use Rattle.meaning_laws.specs.WireLaws.{element-6, element-7, element-18, element-0}
 use Rattle.meaning_laws.specs.SaveLists.{either}
 use Rattle.meaning_layers.specs.Layers.{plain_kind, eight_kind, eight_size, before_inner, eight_in, is_last, inner_of, Layer, layer_of, holding, family_of, wrapped, not_eight, wrap_refusal, wrap, unwrap_refusal, no_layer, unwrap}
-use Rattle.meaning_layers.specs.LayerLaws.{holding-length, wrapped-length, wraps-so, eight-length, Unwrappable, unwrappable}
+use Rattle.meaning_layers.specs.LayerLaws.{Unwrappable}
+use Rattle.meaning_layers.proofs.LayerLaws.{holding-length, wrapped-length, wraps-so, eight-length, unwrappable}
 use Rattle.meaning_layers.specs.LayerCalls.{Writes, layer_in, lengths_of}
-use Rattle.meaning_layers.specs.InnerStart.{inner_start, start_none, start-not, start-inner}
+use Rattle.meaning_layers.specs.InnerStart.{inner_start}
+use Rattle.meaning_layers.proofs.InnerStart.{start_none, start-not, start-inner}
 use Rattle.octets.specs.Part.{mid}
 use Rattle.octets.proofs.Parts.{mid-mid}
 use Rattle.wire_wraps.specs.Room.{Fits, head_of}

@@ -4,7 +4,8 @@ use native.Mathlib.Omega.{arith}
 use mathlib.Core.Path.{◌≡◌, refl}
 use lib.ListN.{length}
 use Rattle.card.specs.Table.{card_of}
-use Rattle.session.specs.Lent.{stream_of, lent_fits}
+use Rattle.session.specs.Lent.{stream_of}
+use Rattle.session.proofs.Lent.{lent_fits}
 use Rattle.bench_words.specs.Words.{ascii}
 use Rattle.session_replies.specs.Turns.{turns}
 use Rattle.session_replies.proofs.Telling.{Goes, goes-start, goes-next, goes-out}

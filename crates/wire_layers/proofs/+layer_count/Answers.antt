@@ -1,7 +1,7 @@
 use native.Mathlib.Omega.{arith}
 use mathlib.Core.Path.{sym, ◌∙◌}
 use lib.ListN.{length, length-take, length-drop}
-use Rattle.meaning_layers.specs.InnerStart.{count-end, count-part}
+use Rattle.meaning_layers.proofs.InnerStart.{count-end, count-part}
 use Rattle.wire_layers.proofs.+layer_count.Goals as goal
 
 pub layer_count-requires : goal.layer_count-requires

@@ -15,14 +15,16 @@ use Rattle.meaning.specs.Wire.{element_refusal}
 use Rattle.meaning.specs.Card.{Tree, free, mapped, tree_of, use_of, is_branch, not_held, leads_on, Feed, branches_from, feed_of, lookup_label}
 use Rattle.meaning.specs.Events.{branch}
 use Rattle.promise.specs.Promise.{Step}
-use Rattle.promise.specs.CardLaws.{tree-sized}
-use Rattle.promise.specs.PromiseProof.{Upheld, then-upheld, started}
+use Rattle.promise.proofs.CardLaws.{tree-sized}
+use Rattle.promise.specs.PromiseProof.{Upheld}
+use Rattle.promise.proofs.PromiseProof.{then-upheld, started}
 use Rattle.promise_line.specs.Line.{lists, hearing, refuses}
-use Rattle.promise_line.specs.LineProof.{are-mapped}
+use Rattle.promise_line.proofs.LineProof.{are-mapped}
 use Rattle.promise_net.specs.Net.{Far, nobody, box, Wires, Wired, Net, box_at, laid, stepped, anew, heard, over_line, losing, parted, severed, Turn, hears, does, cuts, turn, turns, Quiet, onward, along, reaches, fed, via, joined, Way, here, up, Climbs, Whole, WholeTree}
-use Rattle.promise_net.specs.NetProof.{AllBound, turns-bound, laid-bound}
+use Rattle.promise_net.specs.NetProof.{AllBound}
+use Rattle.promise_net.proofs.NetProof.{turns-bound, laid-bound}
 use Rattle.promise_net.specs.Cards.{mapped-route, mapped-lookup, leads-mapped, name-lookup}
-use Rattle.promise_net.specs.Ways.{rank_up, one-door}
+use Rattle.promise_net.proofs.Ways.{rank_up, one-door}
 
 -- ---- every box of a net keeps its promises
 

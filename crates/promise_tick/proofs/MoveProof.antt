@@ -20,7 +20,8 @@ use Rattle.promise_tick.specs.Heard.{Says, unless-says, sends-says}
 use Rattle.promise_tick.specs.Costs.{cost_at, cost}
 use Rattle.promise_tick.specs.Names.{EachSent, sent-append, names-append, names-arriving}
 use Rattle.promise_tick.specs.Sums.{sums-zero}
-use Rattle.promise_tick.specs.TickProof.{Fit, reached-fit, turns-append, soft-tick, cost-at, does-adds}
+use Rattle.promise_tick.specs.TickProof.{Fit}
+use Rattle.promise_tick.proofs.TickProof.{reached-fit, turns-append, soft-tick, cost-at, does-adds}
 
 -- ---- a move leaves the other trees, and the names
 

@@ -13,7 +13,7 @@ use Rattle.promise_line.specs.Line.{parcels_f, parcels, addressed, sent_by, refu
 use Rattle.promise_net.specs.Net.{Far, nobody, box, Wired, box_at, laid, arriving, stepped, anew, heard, is_box, over_line, turn, turns, via, Climbs}
 use Rattle.promise_net.specs.NetExample.{is_at}
 use Rattle.promise_tick.specs.Tick.{Ear, hearings, Silent, Served, Within, Under, weight, weights, sum_to, ahead, AfterMove}
-use Rattle.promise_tick.specs.MoveProof.{a_move}
+use Rattle.promise_tick.proofs.MoveProof.{a_move}
 use Rattle.promise_tick.specs.TickExample.{ring, early, morning, moved, heights}
 
 at_place : (Q : ℕ → ℕ → Far → Type 0) (i p a b : ℕ) (f : Far) → is_at i p a b ≡ true → Q a b f → Q i p f

@@ -19,7 +19,8 @@ use Rattle.promise_line.specs.Line
 use Rattle.promise_net.specs.Net.{Far, nobody, box, Wires, Wired, Net, box_at, laid, arriving, stepped, anew, turn, turns, via, Climbs}
 use Rattle.promise_tick.specs.Tick.{Ear, hearing, hearings, Silent, some, delivered, Rank, ahead, Within, Under, times, Unrefused, Reaches, Round, Rounds, Passes, after, InPasses, InRounds, WholeInRounds}
 use Rattle.promise_tick.specs.Heard.{Calls, mute, asks, frees, quits}
-use Rattle.promise_tick.specs.TickProof.{Fit, reached-fit, Ready, anew-at, next-none, then, next-some, said, about, next-ready, later-ready, later-most, none_ahead, silent-lasts, laid-ready, turns-append, silent-whole}
+use Rattle.promise_tick.specs.TickProof.{Fit, Ready}
+use Rattle.promise_tick.proofs.TickProof.{then, next-some, said, about, reached-fit, anew-at, next-none, next-ready, later-ready, later-most, none_ahead, silent-lasts, laid-ready, turns-append, silent-whole}
 
 -- in how many rounds the talk that comes of m, under way to box i, is over
 unfoldable depth : Rank → ℕ → Message → ℕ

@@ -13,12 +13,13 @@ use Rattle.meaning_laws.specs.Standing.{standing-at, not-standing}
 use Rattle.promise.specs.Promise.{Given, Step, history}
 use Rattle.meaning.specs.Lists.{by-test, picked, neither}
 use Rattle.meaning_laws.specs.RoundTrip.{both}
-use Rattle.promise.specs.CardLaws.{tree-name}
+use Rattle.promise.proofs.CardLaws.{tree-name}
 use Rattle.promise.specs.LabelLaws.{Sound}
 use Rattle.meaning_laws.specs.Counts.{any-set-zero}
-use Rattle.promise.specs.RuleLaws.{Ruled, held-named, bare-empty, any-set-two}
-use Rattle.promise.specs.EventLaws.{get_d-put, less-name, less-label}
-use Rattle.promise.specs.PromiseProof.{history-upheld}
+use Rattle.promise.specs.RuleLaws.{Ruled}
+use Rattle.promise.proofs.RuleLaws.{held-named, bare-empty, any-set-two}
+use Rattle.promise.proofs.EventLaws.{get_d-put, less-name, less-label}
+use Rattle.promise.proofs.PromiseProof.{history-upheld}
 
 -- All of the table's rules.
 pub rules-kept : (base : ℕ) (steps : List Step) → Ruled (history base steps).card

@@ -1,0 +1,3 @@
+pub mod LayerLaws
+pub mod PeelLaws
+pub mod InnerStart

@@ -1,0 +1,16 @@
+pub mod CardLaws
+pub mod CountLaws
+pub mod LabelLaws
+pub mod RuleLaws
+pub mod PartedLaws
+pub mod LossLaws
+pub mod EventLaws
+pub mod RouteLaws
+pub mod PromiseProof
+pub mod RulesKept
+pub mod CountsKept
+pub mod Sizes
+pub mod LossKept
+pub mod SaveSteps
+pub mod SaveKept
+pub mod Deeds

@@ -1,0 +1,3 @@
+pub mod NetProof
+pub mod Ways
+pub mod PacketProof
