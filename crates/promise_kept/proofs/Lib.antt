@@ -1,0 +1,5 @@
+pub mod One
+pub mod Kept
+pub mod LineKept
+pub mod BarkKept
+pub mod TickKept
