@@ -30,14 +30,14 @@
  * The most stack that each call takes, in octets, its return address counted and its arguments not. It is read from
  * the object code, over every path (tools/stack), and memcpy and memset come on top:
  *
- *     card_start          8     card_notice        32     card_layers       680     card_serve         408
- *     card_receive      536     card_read_notice   24     card_layer        904     card_is_stopped      8
- *     card_join         328     card_save         216     card_wrap          88     card_holds_message   8
- *     card_leave        456     card_save2        216     card_unwrap       104     card_lose          264
- *     card_route        392     card_restore      936                               card_pack          120
- *     card_lost         248     card_restore2     936     card_check_list   360
- *     card_lookup_label   8     card_newer        936     card_plan         952
- *     card_lookup_name  152     card_older        936
+ *     card_start          8     card_notice        32     card_layers        40     card_serve         328
+ *     card_receive      360     card_read_notice   32     card_layer         88     card_is_stopped      8
+ *     card_join         216     card_save         184     card_wrap         104     card_holds_message  16
+ *     card_leave        312     card_save2        184     card_unwrap       104     card_lose          216
+ *     card_route        296     card_restore      920                               card_pack          128
+ *     card_lost         216     card_restore2     920     card_check_list   296
+ *     card_lookup_label   8     card_newer        920     card_plan         856
+ *     card_lookup_name  136     card_older        920
  *     card_free_labels    8
  */
 #ifndef CARD_H
