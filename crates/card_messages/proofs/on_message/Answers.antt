@@ -1,3 +1,4 @@
+use native.Mathlib.Omega.{arith}
 use Rattle.memory.specs.Memory.{card_of}
 use Rattle.card_messages.proofs.Messages.{does-same, says-mapping, says-withdraw, says-release, says_nothing}
 use Rattle.event_tree.proofs.Ends.{does-refused}
@@ -12,20 +13,14 @@ returns-then-kind-eq1024 c =
 
 pub returns-then-kind-eq1026 : goal.returns-then-kind-eq1026
 returns-then-kind-eq1026 c =
-    let the-if1 = c.if-kind-eq1024 in
-    let the-if2 = c.if-kind-eq1026 in
     let the-withdraw = c.withdraw in
-    does-same _ _ _ _ _ _ _ _ _ (says-withdraw (card_of c.args.numbers.now c.args.names.now) c.args.n (record { kind = c.args.kind; name = c.args.name.now; label = c.args.label }) the-if1.false the-if2.true) the-withdraw.ensures
+    does-same _ _ _ _ _ _ _ _ _ (says-withdraw (card_of c.args.numbers.now c.args.names.now) c.args.n (record { kind = c.args.kind; name = c.args.name.now; label = c.args.label }) (λ e. omega (arith, e)) (omega arith)) the-withdraw.ensures
 
 pub returns-then-kind-eq1027 : goal.returns-then-kind-eq1027
 returns-then-kind-eq1027 c =
-    let the-if1 = c.if-kind-eq1024 in
-    let the-if2 = c.if-kind-eq1026 in
-    let the-if3 = c.if-kind-eq1027 in
     let the-release = c.release in
-    does-same _ _ _ _ _ _ _ _ _ (says-release (card_of c.args.numbers.now c.args.names.now) c.args.n (record { kind = c.args.kind; name = c.args.name.now; label = c.args.label }) the-if1.false the-if2.false the-if3.true) (the-release.ensures _)
+    does-same _ _ _ _ _ _ _ _ _ (says-release (card_of c.args.numbers.now c.args.names.now) c.args.n (record { kind = c.args.kind; name = c.args.name.now; label = c.args.label }) (λ e. omega (arith, e)) (λ e. omega (arith, e)) (omega arith)) (the-release.ensures _)
 
 pub returns : goal.returns
 returns c =
-    let the-if1 = c.if-kind-eq1024 in
-    does-same _ _ _ _ _ _ _ _ _ (says_nothing (card_of c.args.numbers.now c.args.names.now) c.args.n (record { kind = c.args.kind; name = c.args.name.now; label = c.args.label }) the-if1.false c.if-kind-eq1026.false c.if-kind-eq1027.false) (does-refused _ 3 _)
+    does-same _ _ _ _ _ _ _ _ _ (says_nothing (card_of c.args.numbers.now c.args.names.now) c.args.n (record { kind = c.args.kind; name = c.args.name.now; label = c.args.label }) (λ e. omega (arith, e)) (λ e. omega (arith, e)) (λ e. omega (arith, e))) (does-refused _ 3 _)
