@@ -3,8 +3,10 @@
 
 ghost use Rattle.std.specs.Prelude.{◌≡◌, ◌+◌, ◌≤◌, ◌<◌, length, drop};
 ghost use Rattle.meaning.specs.Wire.{address_length, root_length, root_in, first_end, is_filled, element_refusal, root_limit, name_limit};
+ghost use Rattle.refusals.specs.Refusals.{answer_of};
 
 use meaning::{OPAQUE_LIMIT, ROOT_LIMIT};
+use refusals::Refusal;
 
 pub fn address_length(family: u64) -> usize
     ensures { (result ≡ address_length family) × (result ≤ root_limit) }
@@ -67,32 +69,32 @@ fn is_filled(s: &[u8], from: usize) -> bool
     true
 }
 
-// 6, 7, 18, or 0.
-pub fn element_refusal(e: &[u8]) -> u32
-    ensures { result ≡ element_refusal e.now }
+// Whether the octets are one whole P2MP element; else refusal 6, 7 or 18.
+pub fn check_element(e: &[u8]) -> Result<(), Refusal>
+    ensures { answer_of result ≡ element_refusal e.now }
 {
     if octets::at(e, 0) != 6 {
-        return 6;
+        return Err(Refusal::BadElement);
     }
     let n = root_length(e);
     if n == 0 {
-        return 6;
+        return Err(Refusal::BadElement);
     }
     if octets::at(e, 3) != n as u64 {
-        return 6;
+        return Err(Refusal::BadElement);
     }
     let k = octets::two_at(e, 4 + n) as usize;
     if e.len() != 6 + n + k {
-        return 6;
+        return Err(Refusal::BadElement);
     }
     if k == 0 {
-        return 7;
+        return Err(Refusal::BadOpaque);
     }
     if OPAQUE_LIMIT < k {
-        return 7;
+        return Err(Refusal::BadOpaque);
     }
     if is_filled(e, 6 + n) {
-        return 0;
+        return Ok(());
     }
-    18
+    Err(Refusal::MalformedOpaque)
 }

@@ -1,17 +1,24 @@
 -- A message, by its refusals. Assumes nothing.
 use Prim.Native.Nat.{ℕ, ◌+◌, ◌-◌, ◌≤◌, ◌<◌}
 use native.Mathlib.Omega.{arith}
-use mathlib.Core.Path.{◌≡◌, refl, sym, ap, ◌∙◌}
+use mathlib.Core.Path.{◌≡◌, refl, sym, ap, ◌∙◌, subst}
 use mathlib.Core.Bool.{Bool, true, false, not, and-false}
 use mathlib.Core.List.{List, ◌∷◌}
 use lib.ListN.{length, take, drop}
-use borrow.Author.Tests.{le-leb, lt-leb, eq-eqb, ne_eqb, not-true, not-false}
+use lib.Dec.{eqb}
+use borrow.Author.Tests.{le-leb, lt-leb, eqb-true, eq-eqb, ne_eqb, not-true, not-false}
+use Rattle.std.specs.Option.{ok_or}
+use Rattle.std.specs.declared.option.Option.{Option}
+use Rattle.std.specs.declared.option.Option.TheVariants.{None, Some}
+use Rattle.std.specs.declared.result.Result.TheVariants.{Ok, Err}
+use Rattle.refusals.specs.declared.Refusal.{Refusal}
 use Rattle.meaning.specs.Octets.{any, two_at, ◌when◌else◌}
-use Rattle.meaning.specs.Lists.{no-when}
+use Rattle.meaning.specs.Lists.{no-when, picked}
 use Rattle.meaning.specs.Wire as wire
-use Rattle.meaning.specs.Wire.{tlvs, is_overrun, found, must, is_element, is_opaque, is_filled, opaque_in, element_refusal, is_sized, is_kind, body_of, fec_of, label_of, is_ordered, is_label, message_refusal, message_in}
+use Rattle.meaning.specs.Wire.{tlvs, is_overrun, found, must, is_element, is_opaque, is_filled, opaque_in, element_refusal, is_sized, is_kind, body_of, fec_of, label_of, is_ordered, is_label, message_refusal, message_in, mapping, withdraw, release}
 use Rattle.meaning_laws.specs.RoundTrip.{element-ok}
-use Rattle.wire_reader.specs.Read.{tlv_at, end_of, label_in, head_refusal, Ordered}
+use Rattle.wire_reader.specs.Read.{tlv_at, end_of, label_in, type_of, kind_of, head_refusal, Ordered}
+use Rattle.wire_reader.specs.declared.Kind.{Kind}
 use Rattle.wire_reader.specs.declared.Tlv.TheVariants.{Whole}
 use Rattle.wire_reader.proofs.Places.{whole-within, overrun-on, found-on, end-some, end_none, label-none, label-some}
 
@@ -20,6 +27,31 @@ when-same : (n : ℕ) (b : Bool) (x y : ℕ) → (n when b else x ≡ 0 → ⊥)
 unfolding ◌when◌else◌
 when-same n true x y h k = refl
 when-same n false x y h k = k h
+
+-- what an `ok_or` was given that gave this
+pub was-none : {A : Type 0} (o : Option A) (e f : Refusal) → Err e ≡ ok_or o f → (o ≡ None) × (e ≡ f)
+was-none None e f q = (refl, cc)
+was-none (Some a) e f q = cc
+
+pub was-some : {A : Type 0} (o : Option A) (a : A) (f : Refusal) → Ok a ≡ ok_or o f → o ≡ Some a
+was-some None a f q = cc
+was-some (Some b) a f q = cc
+
+-- what the kind of a message type says of the type
+abbrev Kinds : ℕ → Option Kind → Type 0
+Kinds k (Some kind) = (is_kind k ≡ true) × (type_of kind ≡ k)
+Kinds k None = is_kind k ≡ false
+
+kind-read : (k : ℕ) → Kinds k (kind_of k)
+unfolding is_kind
+kind-read k =
+    picked (Kinds k) (eqb k mapping)
+    (λ h. (rw h refl, sym (eqb-true k mapping h)))
+    (λ h. picked (Kinds k) (eqb k withdraw)
+    (λ g. (rw (h, g) refl, sym (eqb-true k withdraw g)))
+    (λ g. picked (Kinds k) (eqb k release)
+    (λ f. (rw (h, g, f) refl, sym (eqb-true k release f)))
+    (λ f. rw (h, g, f) refl)))
 
 module _ (s : List ℕ) where
   pub short-head : length s < 8 → is_sized s ≡ false
@@ -34,8 +66,11 @@ module _ (s : List ℕ) where
   unfolding is_sized
   right-size h e = simp (le-leb 8 (length s) h, eq-eqb (4 + two_at s 2) (length s) e)
 
-  pub kind-is : (k : ℕ) (b d : Bool) → k ≡ two_at s 0 → b ≡ is_kind k → b ≡ d → is_kind (two_at s 0) ≡ d
-  kind-is k b d p q r = cc
+  pub kind-none : kind_of (two_at s 0) ≡ None → is_kind (two_at s 0) ≡ false
+  kind-none q = subst (Kinds (two_at s 0)) q (kind-read (two_at s 0))
+
+  pub kind-some : (kind : Kind) → kind_of (two_at s 0) ≡ Some kind → (is_kind (two_at s 0) ≡ true) × (type_of kind ≡ two_at s 0)
+  kind-some kind q = subst (Kinds (two_at s 0)) q (kind-read (two_at s 0))
 
   pub head-2 : is_sized s ≡ false → 2 ≡ head_refusal s
   unfolding head_refusal ◌when◌else◌
@@ -73,13 +108,13 @@ module _ (s : List ℕ) where
     unfolding message_refusal ◌when◌else◌
     other-order h = rw (headed.0, headed.1, headed.2, h)
 
-    pub no-fec : 0 ≡ end_of 0x0100 (tlv_at s 8) → message_refusal s ≡ 5
+    pub no-fec : end_of 0x0100 (tlv_at s 8) ≡ None → message_refusal s ≡ 5
     unfolding is_ordered fec_of body_of
     no-fec q = other-order (rw (end_none s 8 0x0100 (omega arith) q headed.2))
 
-    module _ (e : ℕ) (q : e ≡ end_of 0x0100 (tlv_at s 8)) (z : e ≡ 0 → ⊥) where
+    module _ (e : ℕ) (q : end_of 0x0100 (tlv_at s 8) ≡ Some e) where
       fec : tlv_at s 8 ≡ Whole 0x0100 12 e
-      fec = end-some s 8 0x0100 e q z
+      fec = end-some s 8 0x0100 e q
 
       after-fec : body_of s ≡ record { type_field = 0x0100; value = take (e - 12) (drop 12 s) } ∷ found (tlvs (drop e s))
       unfolding body_of
@@ -88,13 +123,13 @@ module _ (s : List ℕ) where
       framed-fec : is_overrun (tlvs (drop e s)) ≡ false
       framed-fec = sym (overrun-on s 8 0x0100 12 e fec) ∙ headed.2
 
-      pub no_label : 0 ≡ end_of 0x0200 (tlv_at s e) → message_refusal s ≡ 5
+      pub no_label : end_of 0x0200 (tlv_at s e) ≡ None → message_refusal s ≡ 5
       unfolding is_ordered fec_of label_of
       no_label r = other-order (rw after-fec (end_none s e 0x0200 (omega arith) r framed-fec))
 
-      module _ (l : ℕ) (r : l ≡ end_of 0x0200 (tlv_at s e)) (y : l ≡ 0 → ⊥) where
+      module _ (l : ℕ) (r : end_of 0x0200 (tlv_at s e) ≡ Some l) where
         label : tlv_at s e ≡ Whole 0x0200 (e + 4) l
-        label = end-some s e 0x0200 l r y
+        label = end-some s e 0x0200 l r
 
         pub ordered : Ordered s e l
         ordered =
@@ -135,14 +170,14 @@ module _ (s : List ℕ) (e l : ℕ) (o : Ordered s e l) where
   )
 
   module _ (named : element_refusal name_at ≡ 0) where
-    pub label-refused : 0 ≡ label_in label_at → 8 ≡ message_refusal s
+    pub label-refused : label_in label_at ≡ None → 8 ≡ message_refusal s
     unfolding ◌when◌else◌
     label-refused q = let n = element-ok name_at named in sym (refusal-after ∙ rw (n.0, n.1, n.2, label-none label_at q))
 
-    module _ (k : ℕ) (q : k ≡ label_in label_at) (z : k ≡ 0 → ⊥) where
+    module _ (k : ℕ) (q : label_in label_at ≡ Some k) where
       refusal-last : message_refusal s ≡ 9 when any must (found (tlvs (drop l s))) else 0
       unfolding ◌when◌else◌
-      refusal-last = let n = element-ok name_at named in refusal-after ∙ rw (n.0, n.1, n.2, (label-some label_at k q z).0)
+      refusal-last = let n = element-ok name_at named in refusal-after ∙ rw (n.0, n.1, n.2, (label-some label_at k q).0)
 
       pub must-refused : any must (found (tlvs (drop l s))) ≡ true → 9 ≡ message_refusal s
       unfolding ◌when◌else◌
@@ -154,4 +189,4 @@ module _ (s : List ℕ) (e l : ℕ) (o : Ordered s e l) where
 
       pub message-says : (t : ℕ) → t ≡ two_at s 0 → message_in s ≡ record { kind = t; name = name_at; label = k }
       unfolding message_in fec_of label_of
-      message-says t w = rw (o.body, w, (label-some label_at k q z).1)
+      message-says t w = rw (o.body, w, (label-some label_at k q).1)

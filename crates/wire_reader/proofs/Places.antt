@@ -2,17 +2,18 @@
 use Prim.Native.Nat.{ℕ, suc, ◌+◌, ◌-◌, ◌≤◌, ◌<◌}
 use native.Mathlib.Omega.{arith}
 use mathlib.Core.Path.{◌≡◌, refl, sym, ap, ◌∙◌, subst}
-use mathlib.Core.Bool.{true, false, ◌&&◌, and-false}
+use mathlib.Core.Bool.{true, false, and-false}
 use mathlib.Core.List.{List, [], ◌∷◌}
 use lib.ListN.{length, take, drop, get_or, length-drop, drop_of_length-le}
 use lib.Seq.{drop-cons, drop-drop}
 use lib.Dec.{ltb, leb, eqb}
-use borrow.Author.Tests.{le-ltb, lt-ltb, ltb-true, ltb-false, leb-true, le-leb, lt-leb, eqb-true, eq-eqb, ne_eqb}
+use borrow.Author.Tests.{le-ltb, lt-ltb, ltb-true, ltb-false, le-leb, lt-leb, eqb-true, eq-eqb, ne_eqb}
+use Rattle.std.specs.declared.option.Option.{Option}
+use Rattle.std.specs.declared.option.Option.TheVariants.{None, Some}
 use Rattle.meaning.specs.Octets.{pick, any, two_at, four_at}
 use Rattle.meaning.specs.Lists.{by-test, picked}
 use Rattle.meaning.specs.Wire as wire
 use Rattle.meaning.specs.Wire.{Framed, framed, overrun, after, tlvs, is_overrun, found, must, absent, is_label, least_label, most_label}
-use Rattle.meaning_laws.specs.RoundTrip.{both}
 use Rattle.meaning_laws.specs.WireLaws.{tlvs-end, tlvs-step, tlvs-short}
 use Rattle.wire_reader.specs.Read.{tlv_at, end_of, label_in}
 use Rattle.wire_reader.specs.declared.Tlv.{Tlv}
@@ -151,33 +152,33 @@ module _ (s : List ℕ) (at : ℕ) where
 -- ---- a TLV of a given type
 
 module _ (s : List ℕ) (at k a e : ℕ) (p : tlv_at s at ≡ Whole k a e) (n : ℕ) where
-  pub end-here : k ≡ n → e ≡ end_of n (tlv_at s at)
+  pub end-here : k ≡ n → Some e ≡ end_of n (tlv_at s at)
   end-here h = sym (ap (end_of n) p ∙ rw (eq-eqb k n h))
 
-  pub end-other : (k ≡ n → ⊥) → 0 ≡ end_of n (tlv_at s at)
+  pub end-other : (k ≡ n → ⊥) → None ≡ end_of n (tlv_at s at)
   end-other h = sym (ap (end_of n) p ∙ rw (ne_eqb k n h))
 
 module _ (s : List ℕ) (at n : ℕ) where
-  pub end-some : (e : ℕ) → e ≡ end_of n (tlv_at s at) → (e ≡ 0 → ⊥) → tlv_at s at ≡ Whole n (at + 4) e
-  end-some e q z = go (tlv_at s at) refl q
+  pub end-some : (e : ℕ) → end_of n (tlv_at s at) ≡ Some e → tlv_at s at ≡ Whole n (at + 4) e
+  end-some e q = go (tlv_at s at) refl q
     where
-      go : (t : Tlv) → tlv_at s at ≡ t → e ≡ end_of n t → tlv_at s at ≡ Whole n (at + 4) e
+      go : (t : Tlv) → tlv_at s at ≡ t → end_of n t ≡ Some e → tlv_at s at ≡ Whole n (at + 4) e
       go (Whole k a i) p q =
           let a' : a ≡ at + 4 = (whole-within s at k a i p).0 in
           by-test (eqb k n)
-          (λ h. let k' : k ≡ n = eqb-true k n h in let i' : e ≡ i = rw h at q in cc)
-          (λ h. absurd (z (rw h at q)))
-      go End p q = absurd (z q)
-      go Past p q = absurd (z q)
+          (λ h. let k' : k ≡ n = eqb-true k n h in let i' : Some i ≡ Some e = rw h at q in cc)
+          (λ h. let no : ◌≡◌ {A = Option ℕ} None (Some e) = rw h at q in cc)
+      go End p q = cc
+      go Past p q = cc
 
-  pub end_none : 0 < n → 0 ≡ end_of n (tlv_at s at) → is_overrun (tlvs (drop at s)) ≡ false → eqb (get_or (found (tlvs (drop at s))) 0 absent).type_field n ≡ false
+  pub end_none : 0 < n → end_of n (tlv_at s at) ≡ None → is_overrun (tlvs (drop at s)) ≡ false → eqb (get_or (found (tlvs (drop at s))) 0 absent).type_field n ≡ false
   unfolding absent found
   end_none some q fills = go (tlv_at s at) refl q
     where
-      go : (t : Tlv) → tlv_at s at ≡ t → 0 ≡ end_of n t → eqb (get_or (found (tlvs (drop at s))) 0 absent).type_field n ≡ false
+      go : (t : Tlv) → tlv_at s at ≡ t → end_of n t ≡ None → eqb (get_or (found (tlvs (drop at s))) 0 absent).type_field n ≡ false
       go (Whole k a i) p q = rw (found-on s at k a i p fills) (
           by-test (eqb k n)
-          (λ h. let w = whole-within s at k a i p in let i' : 0 ≡ i = rw h at q in absurd (omega arith))
+          (λ h. let no : ◌≡◌ {A = Option ℕ} (Some i) None = rw h at q in cc)
           (λ h. h))
       go End p q = rw (end-next s at p) (ne_eqb 0 n (λ h. omega arith))
       go Past p q = rw (past_next s at p) (ne_eqb 0 n (λ h. omega arith))
@@ -185,34 +186,33 @@ module _ (s : List ℕ) (at n : ℕ) where
 -- ---- the label in a value
 
 module _ (v : List ℕ) where
-  pub label-size : (length v ≡ 4 → ⊥) → 0 ≡ label_in v
+  pub label-size : (length v ≡ 4 → ⊥) → None ≡ label_in v
   unfolding label_in is_label
   label-size h = simp (ne_eqb _ _ h)
 
   module _ (l : ℕ) (e : l ≡ four_at v 0) where
-    pub label-low : l < 16 → 0 ≡ label_in v
+    pub label-low : l < 16 → None ≡ label_in v
     unfolding label_in is_label
     label-low h = simp (← e, lt-leb least_label l h, and-false)
 
-    pub label-high : most_label < l → 0 ≡ label_in v
+    pub label-high : most_label < l → None ≡ label_in v
     unfolding label_in is_label
     label-high h = simp (← e, lt-leb l most_label h, and-false)
 
-    pub label-right : length v ≡ 4 → least_label ≤ l → l ≤ most_label → l ≡ label_in v
+    pub label-right : length v ≡ 4 → least_label ≤ l → l ≤ most_label → Some l ≡ label_in v
     unfolding label_in is_label
     label-right h low high = simp (← e, eq-eqb _ _ h, le-leb least_label l low, le-leb l most_label high)
 
-  label-least : is_label v ≡ true → least_label ≤ four_at v 0
-  unfolding is_label
-  label-least h = leb-true least_label (four_at v 0) (both (eqb (length v) 4) (leb least_label (four_at v 0)) (both (eqb (length v) 4 && leb least_label (four_at v 0)) (leb (four_at v 0) most_label) h).0).1
-
-  pub label-none : 0 ≡ label_in v → is_label v ≡ false
+  pub label-none : label_in v ≡ None → is_label v ≡ false
   unfolding label_in
   label-none q =
       by-test (is_label v)
-      (λ h. let low = label-least h in let z : 0 ≡ four_at v 0 = rw h at q in absurd (omega arith))
+      (λ h. let no : ◌≡◌ {A = Option ℕ} (Some (four_at v 0)) None = rw h at q in cc)
       (λ h. h)
 
-  pub label-some : (l : ℕ) → l ≡ label_in v → (l ≡ 0 → ⊥) → (is_label v ≡ true) × (l ≡ four_at v 0)
+  pub label-some : (l : ℕ) → label_in v ≡ Some l → (is_label v ≡ true) × (l ≡ four_at v 0)
   unfolding label_in
-  label-some l q z = by-test (is_label v) (λ h. (h, rw h at q)) (λ h. absurd (z (rw h at q)))
+  label-some l q =
+      by-test (is_label v)
+      (λ h. let same : Some (four_at v 0) ≡ Some l = rw h at q in (h, cc))
+      (λ h. let no : ◌≡◌ {A = Option ℕ} None (Some l) = rw h at q in cc)

@@ -2,11 +2,12 @@
 #![tactic(auto)]
 
 ghost use Rattle.std.specs.Prelude.{◌≡◌, false, not, drop};
-ghost use Rattle.meaning.specs.Octets.{any};
-ghost use Rattle.meaning.specs.Wire.{tlvs, is_overrun, found, must, is_kind};
-ghost use Rattle.wire_reader.specs.Read.{tlv_at, end_of, label_in, head_refusal, Ordered, Reads};
+ghost use Rattle.meaning.specs.Octets.{any, two_at};
+ghost use Rattle.meaning.specs.Wire.{tlvs, is_overrun, found, must};
+ghost use Rattle.wire_reader.specs.Read.{tlv_at, end_of, label_in, type_of, kind_of, Heads, Ordered, Reads};
 
 use meaning::{LEAST_LABEL, MOST_LABEL};
+use refusals::Refusal;
 
 // ---- TLVs
 
@@ -79,16 +80,20 @@ pub fn tlv_from(message: &[u8], at: usize) -> Tlv
 
 // ---- a message
 
-// The refusal's number; or what the message says: its kind, where its name lies, and the label.
-#[derive(Clone, Copy)]
-pub enum Read {
-    Refused(u32),
-    Says {
-        kind: u64,
-        start: usize,
-        end: usize,
-        label: u64,
-    },
+#[derive(Clone, Copy, PartialEq, Eq)]
+pub enum Kind {
+    Mapping,
+    Withdraw,
+    Release,
+}
+
+// What a message says: its kind, where its name lies, and the label.
+#[derive(Clone, Copy, PartialEq, Eq)]
+pub struct Said {
+    pub kind: Kind,
+    pub start: usize,
+    pub end: usize,
+    pub label: u64,
 }
 
 // Whether whole TLVs fill the message.
@@ -143,8 +148,8 @@ fn must_follow(message: &[u8], from: usize) -> bool
     }
 }
 
-// Where the value of the TLV at a place ends; 0 where no whole TLV of that type stands there.
-fn value_end(message: &[u8], at: usize, kind: u64) -> usize
+// Where the value of the TLV at a place ends, if a whole TLV of that type stands there.
+fn value_end(message: &[u8], at: usize, kind: u64) -> Option<usize>
     ensures { result ≡ end_of kind (tlv_at message.now at) }
 {
     match tlv_from(message, at) {
@@ -154,105 +159,85 @@ fn value_end(message: &[u8], at: usize, kind: u64) -> usize
             end,
         } => {
             if found == kind {
-                return end;
+                return Some(end);
             }
-            0
+            None
         }
-        Tlv::End => 0,
-        Tlv::Past => 0,
+        Tlv::End => None,
+        Tlv::Past => None,
     }
 }
 
-fn is_kind(kind: u64) -> bool
-    ensures { result ≡ is_kind kind }
+fn kind_of(number: u64) -> Option<Kind>
+    ensures { result ≡ kind_of number }
 {
-    if kind == 0x0400 {
-        return true;
+    match number {
+        0x0400 => Some(Kind::Mapping),
+        0x0402 => Some(Kind::Withdraw),
+        0x0403 => Some(Kind::Release),
+        _ => None,
     }
-    if kind == 0x0402 {
-        return true;
-    }
-    if kind == 0x0403 {
-        return true;
-    }
-    false
 }
 
-// The label in the value of a Label TLV; 0, which is none, where it holds none.
-fn label_in(v: &[u8]) -> u64
+// The label in the value of a Label TLV, if it holds one.
+fn label_in(v: &[u8]) -> Option<u64>
     ensures { result ≡ label_in v.now }
 {
     if v.len() != 4 {
-        return 0;
+        return None;
     }
     let label = octets::four_at(v, 0);
     if label < LEAST_LABEL {
-        return 0;
+        return None;
     }
     if MOST_LABEL < label {
-        return 0;
+        return None;
     }
-    label
+    Some(label)
 }
 
-// 2, 3, 4, or 0: the framing of the whole message comes before the first TLV is looked at.
-fn head_refusal(message: &[u8]) -> u32
-    ensures { result ≡ head_refusal message.now }
+// The message's kind; refusals 2, 3 and 4. The framing of the whole message comes before the first TLV is looked at.
+fn check_head(message: &[u8]) -> Result<Kind, Refusal>
+    ensures { Heads message.now result }
 {
     if message.len() < 8 {
-        return 2;
+        return Err(Refusal::BadLength);
     }
     if 4 + octets::two_at(message, 2) != message.len() as u64 {
-        return 2;
+        return Err(Refusal::BadLength);
     }
-    if is_kind(octets::two_at(message, 0)) {
-        if whole_tlvs(message) {
-            return 0;
-        }
-        return 4;
+    let kind = kind_of(octets::two_at(message, 0)).ok_or(Refusal::BadType)?;
+    if whole_tlvs(message) {
+        return Ok(kind);
     }
-    3
+    Err(Refusal::TlvOverrun)
 }
 
-// The refusals 6, 7, 18, 8 and 9, where the ends of the first two TLVs are known.
-fn read_body(message: &[u8], fec: usize, end: usize) -> Read
-    requires { Ordered message.now fec end }
+// The refusals 6, 7, 18, 8 and 9, where the kind and the ends of the first two TLVs are known.
+fn read_body(message: &[u8], kind: Kind, fec: usize, end: usize) -> Result<Said, Refusal>
+    requires kind { type_of kind ≡ two_at message.now 0 }
+    requires ordered { Ordered message.now fec end }
     ensures { Reads message.now result }
 {
-    let refusal = wire_name::element_refusal(&message[12..fec]);
-    if refusal != 0 {
-        return Read::Refused(refusal);
-    }
+    wire_name::check_element(&message[12..fec])?;
     let start = fec + 4;
-    let label = label_in(&message[start..end]);
-    if label == 0 {
-        return Read::Refused(8);
-    }
+    let label = label_in(&message[start..end]).ok_or(Refusal::BadLabel)?;
     if must_follow(message, end) {
-        return Read::Refused(9);
+        return Err(Refusal::UnknownTlv);
     }
-    Read::Says {
-        kind: octets::two_at(message, 0),
+    Ok(Said {
+        kind,
         start: 12,
         end: fec,
         label,
-    }
+    })
 }
 
-pub fn read_message(message: &[u8]) -> Read
+pub fn read_message(message: &[u8]) -> Result<Said, Refusal>
     ensures { Reads message.now result }
 {
-    let refusal = head_refusal(message);
-    if refusal != 0 {
-        return Read::Refused(refusal);
-    }
-    let fec = value_end(message, 8, 0x0100);
-    if fec == 0 {
-        return Read::Refused(5);
-    }
-    let end = value_end(message, fec, 0x0200);
-    if end == 0 {
-        return Read::Refused(5);
-    }
-    read_body(message, fec, end)
+    let kind = check_head(message)?;
+    let fec = value_end(message, 8, 0x0100).ok_or(Refusal::BadTlvOrder)?;
+    let end = value_end(message, fec, 0x0200).ok_or(Refusal::BadTlvOrder)?;
+    read_body(message, kind, fec, end)
 }

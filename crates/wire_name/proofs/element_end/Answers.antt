@@ -1,7 +1,6 @@
 -- `wire_name::element_end` meets its contract: one law for each kind of head. Assumes nothing.
 use native.Mathlib.Omega.{arith}
 use Rattle.wire_name.proofs.Name.{end-long, end-plain}
-use borrow.Author.Rules.{rules}
 use Rattle.wire_name.proofs.element_end.Goals as goal
 
 pub returns-then-at-eq255 : goal.returns-then-at-eq255

@@ -1,12 +1,9 @@
 -- `wire_name::is_filled` meets its contract. The loop's invariant: what is left is filled exactly where the whole is. The measure is what is left.
 -- Assumes nothing.
 use Prim.Native.Nat.{◌-◌, ◌≤◌}
-use native.Mathlib.Omega.{arith}
-use mathlib.Core.Path.{◌≡◌, refl, sym, ◌∙◌}
+use mathlib.Core.Path.{◌≡◌}
 use lib.ListN.{length, drop}
-use borrow.Author.Rules.{rules}
 use Rattle.meaning.specs.Wire.{is_filled}
-use Rattle.wire_name.proofs.Name.{filled_none, filled-past, filled_on}
 use Rattle.wire_name.proofs.is_filled.Given as goal
 
 abbrev pub invariant-loop-at : goal.invariant-loop-at

@@ -2,7 +2,6 @@
 -- Assumes nothing.
 use native.Mathlib.Omega.{arith}
 use Rattle.meaning.specs.Wire.{root_length, family_in}
-use borrow.Author.Rules.{rules}
 use Rattle.wire_name.proofs.root_length.Goals as goal
 
 pub returns : goal.returns

@@ -1,7 +1,6 @@
 -- `wire_name::root_of` meets its contract: each part is the root's, by one law.
 -- Assumes nothing.
 use native.Mathlib.Omega.{arith}
-use borrow.Author.Rules.{rules}
 use Rattle.wire_name.proofs.Name.{root_none, root-short, root-all}
 use Rattle.wire_name.proofs.root_of.Goals as goal
 

@@ -1,6 +1,5 @@
 -- `wire_reader::label_in` meets its contract: each return's tests are those of one law.
 -- Assumes nothing.
-use borrow.Author.Rules.{rules}
 use Rattle.wire_reader.proofs.Places.{label-size, label-low, label-high, label-right}
 use Rattle.wire_reader.proofs.label_in.Goals as goal
 

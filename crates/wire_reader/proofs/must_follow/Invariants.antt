@@ -1,14 +1,11 @@
 -- `wire_reader::must_follow` meets its contract: the loop's invariant is that whole TLVs fill what is left, and that a TLV with its U bit clear is there just where one is from the first place on; its measure, what is left of the message.
 -- Assumes nothing.
 use Prim.Native.Nat.{◌-◌}
-use native.Mathlib.Omega.{arith}
-use mathlib.Core.Path.{◌≡◌, refl, sym, ◌∙◌}
+use mathlib.Core.Path.{◌≡◌}
 use mathlib.Core.Bool.{false}
 use lib.ListN.{length, drop}
-use borrow.Author.Rules.{rules}
 use Rattle.meaning.specs.Octets.{any}
 use Rattle.meaning.specs.Wire.{tlvs, is_overrun, found, must}
-use Rattle.wire_reader.proofs.Places.{whole-within, overrun-on, must-here, must-on, must-end, must-past}
 use Rattle.wire_reader.proofs.must_follow.Given as goal
 
 abbrev pub invariant-loop-kind : goal.invariant-loop-kind

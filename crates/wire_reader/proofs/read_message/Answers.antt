@@ -1,29 +1,32 @@
 -- `wire_reader::read_message` meets its contract: each return is one law of a message.
 -- Assumes nothing.
-use native.Mathlib.Omega.{arith}
-use mathlib.Core.Path.{sym, ◌∙◌}
-use borrow.Author.Rules.{rules}
-use Rattle.wire_reader.proofs.Message.{head-refused, no-fec, no_label, ordered}
+use mathlib.Core.Path.{sym, ap, ◌∙◌}
+use Rattle.std.proofs.lemmas.Result.{err_from_is_err_and}
+use Rattle.refusals.specs.Refusals.{number_of}
+use Rattle.refusals.proofs.Numbers.{number-positive, number-not-0}
+use Rattle.wire_reader.proofs.Message.{was-none, was-some, head-refused, no-fec, no_label, ordered}
 use Rattle.wire_reader.proofs.read_message.Goals as goal
 
-pub returns-then-refusal-ne0 : goal.returns-then-refusal-ne0
-returns-then-refusal-ne0 c = head-refused _ _ c.head_refusal-refusal.ensures c.if-refusal-ne0.true
+pub returns-in_err-kind : goal.returns-in_err-kind
+returns-in_err-kind c =
+    let p = err_from_is_err_and c.from_residual.result c.from_residual.ensures.1 in
+    rw (p.1, p.2) (head-refused _ _ c.in_err-kind.ensures (number-not-0 _))
 
-pub returns-then-fec-eq0 : goal.returns-then-fec-eq0
-returns-then-fec-eq0 c =
-    let m = c.args.message.now in
-    (sym (no-fec m (sym c.head_refusal-refusal.ensures ∙ c.if-refusal-ne0.false) (sym c.if-fec-eq0.true ∙ c.value_end-fec.ensures)), omega arith)
+pub returns-in_err-fec : goal.returns-in_err-fec
+returns-in_err-fec c =
+    let p = err_from_is_err_and c.from_residual-in_err-fec.result c.from_residual-in_err-fec.ensures.1 in
+    let gave = was-none _ _ _ c.in_err-fec.ensures.value in
+    rw (p.1, p.2) (ap number_of gave.1 ∙ sym (no-fec _ c.in_ok-kind.ensures.0 (sym c.value_end.ensures ∙ gave.0)), number-positive _)
 
-pub returns-then-end-eq0 : goal.returns-then-end-eq0
-returns-then-end-eq0 c =
-    let the-head-refusal = c.head_refusal-refusal in
-    let the-if1 = c.if-refusal-ne0 in
-    let m = c.args.message.now in
-    (sym (no_label m (sym the-head-refusal.ensures ∙ the-if1.false) _ c.value_end-fec.ensures c.if-fec-eq0.false (sym c.if-end-eq0.true ∙ c.value_end-end.ensures)), omega arith)
+pub returns-in_err-end : goal.returns-in_err-end
+returns-in_err-end c =
+    let p = err_from_is_err_and c.from_residual-in_err-end.result c.from_residual-in_err-end.ensures.1 in
+    let fec = sym c.value_end.ensures ∙ was-some _ _ _ c.in_ok-fec.ensures.value in
+    let gave = was-none _ _ _ c.in_err-end.ensures.value in
+    rw (p.1, p.2) (ap number_of gave.1 ∙ sym (no_label _ c.in_ok-kind.ensures.0 _ fec (sym c.value_end-2.ensures ∙ gave.0)), number-positive _)
 
-pub read_body-requires : goal.read_body-requires
-read_body-requires c =
-    let the-head-refusal = c.head_refusal-refusal in
-    let the-if1 = c.if-refusal-ne0 in
-    let m = c.args.message.now in
-    ordered m (sym the-head-refusal.ensures ∙ the-if1.false) _ c.value_end-fec.ensures c.if-fec-eq0.false _ c.value_end-end.ensures c.if-end-eq0.false
+pub read_body-requires-clause-ordered : goal.read_body-requires-clause-ordered
+read_body-requires-clause-ordered c =
+    let fec = sym c.value_end.ensures ∙ was-some _ _ _ c.in_ok-fec.ensures.value in
+    let end = sym c.value_end-2.ensures ∙ was-some _ _ _ c.in_ok-end.ensures.value in
+    ordered _ c.in_ok-kind.ensures.0 _ fec _ end

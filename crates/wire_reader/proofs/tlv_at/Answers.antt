@@ -1,7 +1,6 @@
 -- `wire_reader::tlv_at` meets its contract: each return's tests are those of one law.
 -- Assumes nothing.
 use native.Mathlib.Omega.{arith}
-use borrow.Author.Rules.{rules}
 use borrow.Author.Tests.{le-ltb}
 use Rattle.wire_reader.proofs.Places.{no-head, no_value, is_whole}
 use Rattle.wire_reader.proofs.tlv_at.Goals as goal

@@ -1,7 +1,6 @@
 -- `wire_reader::value_end` meets its contract: by what stands at the place.
 -- Assumes nothing.
 use mathlib.Core.Path.{sym, ap, ◌∙◌}
-use borrow.Author.Rules.{rules}
 use Rattle.wire_reader.specs.Read.{end_of}
 use Rattle.wire_reader.proofs.Places.{end-here, end-other}
 use Rattle.wire_reader.proofs.value_end.Goals as goal

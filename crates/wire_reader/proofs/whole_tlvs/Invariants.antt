@@ -1,13 +1,9 @@
 -- `wire_reader::whole_tlvs` meets its contract: the loop's invariant is that the TLVs from the place on run past the message just where those from 8 on do; its measure, what is left of the message.
 -- Assumes nothing.
 use Prim.Native.Nat.{◌-◌}
-use native.Mathlib.Omega.{arith}
-use mathlib.Core.Path.{◌≡◌, refl, sym, ap, ◌∙◌}
-use mathlib.Core.Bool.{not}
+use mathlib.Core.Path.{◌≡◌}
 use lib.ListN.{length, drop}
-use borrow.Author.Rules.{rules}
 use Rattle.meaning.specs.Wire.{tlvs, is_overrun}
-use Rattle.wire_reader.proofs.Places.{whole-within, overrun-on, overrun-end, overrun-past}
 use Rattle.wire_reader.proofs.whole_tlvs.Given as goal
 
 abbrev pub invariant-loop-next : goal.invariant-loop-next

@@ -1,11 +1,10 @@
--- `wire_name::element_refusal` meets its contract: each return's tests are those of one law of `WireLaws`.
+-- `wire_name::check_element` meets its contract: each return's tests are those of one law of `WireLaws`.
 -- Assumes nothing.
 use native.Mathlib.Omega.{arith}
 use mathlib.Core.Path.{sym}
 use Rattle.meaning_laws.specs.WireLaws.{element-kind, element-family, element-length, element-fill, element-whole, element-7, element-18, element-0, opaque-length, opaque-none, opaque-long, opaque-right}
 use Rattle.wire_name.proofs.Name.{opaque-at, filled_in}
-use borrow.Author.Rules.{rules}
-use Rattle.wire_name.proofs.element_refusal.Goals as goal
+use Rattle.wire_name.proofs.check_element.Goals as goal
 
 pub returns-then-at-ne6 : goal.returns-then-at-ne6
 returns-then-at-ne6 c = sym (element-kind _ (λ h. omega arith))
