@@ -57,6 +57,8 @@ pub const ROUTES: u64 = ROUTE_LIMIT as u64;
 pub const LABELS: u64 = LABEL_COUNT as u64;
 
 pub const NEIGHBOURS: u64 = NEIGHBOUR_COUNT as u64;
+// Kept: a number that stands for none, here and behind, and a place that is the number of all: a save and C see these numbers, and the
+// definitions speak of them.
 // a route that leads nowhere, and in the place of a neighbour's number: nobody
 pub const NO_ROUTE: u64 = NEIGHBOURS + 1;
 
@@ -73,10 +75,7 @@ pub fn base(numbers: &[u64]) -> u64
     ensures { (result ≡ base_in numbers.now) × (least_label ≤ result) × (result ≤ most_base) }
 {
     let b = numbers[0];
-    if b < LEAST_LABEL {
-        return LEAST_LABEL;
-    }
-    if MOST_BASE < b {
+    if b < LEAST_LABEL || MOST_BASE < b {
         return LEAST_LABEL;
     }
     b
@@ -151,16 +150,10 @@ pub fn may_be(names: &[u8], k: usize, a: usize, s: &[u8]) -> bool
     ensures { result ≡ false → same (text_at k names.now a) s.now ≡ false }
 {
     let n = s.len();
-    if n < 4 {
+    if n < 4 || k < n {
         return true;
     }
-    if k < n {
-        return true;
-    }
-    if octets::equal_four(names, a + n - 3, s, n - 4) {
-        return text(names, k, a).len() == n;
-    }
-    false
+    octets::equal_four(names, a + n - 3, s, n - 4) && text(names, k, a).len() == n
 }
 
 // Of the texts of a column the first from the ith on and before the nth that may be s; n where none may. A loop that calls nothing is a
@@ -169,15 +162,10 @@ fn next_like(names: &[u8], k: usize, from: usize, i: usize, n: usize, s: &[u8]) 
     requires { Names names.now × (i ≤ n) × Column k from n }
     ensures { (i ≤ result) × (result ≤ n) × ((j : ℕ) → i ≤ j → j < result → same (in_column k from names.now j) s.now ≡ false) }
 {
-    let w = k + 1;
-    let mut a = from + i * w;
-    let mut j = i;
-    while j < n {
-        if may_be(names, k, a, s) {
+    for j in i..n {
+        if may_be(names, k, from + j * (k + 1), s) {
             return j;
         }
-        a += w;
-        j += 1;
     }
     n
 }
@@ -192,6 +180,7 @@ pub fn text_place(names: &[u8], k: usize, from: usize, n: usize, s: &[u8]) -> us
     let e = s.len();
     let t = &s[..e];
     let mut i = 0;
+    // Kept: i steps behind what was found; one loop with both comparisons took 8 to 10 instructions a text for 6 (docs/BENCHMARK.md).
     while i < n {
         let j = next_like(names, k, from, i, n, t);
         if n <= j {

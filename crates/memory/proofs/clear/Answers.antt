@@ -1,7 +1,6 @@
 use Prim.Native.Nat.{◌+◌, ◌-◌}
 use native.Mathlib.Omega.{arith}
 use Rattle.memory.proofs.Parts.{cleared}
-use borrow.Author.Rules.{rules}
 use Rattle.memory.proofs.clear.Goals as goal
 
 pub returns : goal.returns

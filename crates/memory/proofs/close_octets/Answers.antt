@@ -1,5 +1,4 @@
 use Rattle.memory.proofs.Parts.{closed}
-use borrow.Author.Rules.{rules}
 use Rattle.memory.proofs.close_octets.Goals as goal
 
 pub returns : goal.returns

@@ -1,5 +1,4 @@
 use mathlib.Core.Path.{refl}
-use borrow.Author.Rules.{rules}
 use Rattle.memory.specs.Memory.{next_in, card_of}
 use Rattle.memory.proofs.next_id.Goals as goal
 

@@ -1,6 +1,5 @@
 use native.Mathlib.Omega.{arith}
 use mathlib.Core.Path.{sym}
-use borrow.Author.Rules.{rules}
 use Rattle.meaning.specs.Card.{route_limit}
 use Rattle.memory.specs.Memory.{route_count}
 use Rattle.memory.proofs.Memory.{up_to-in, up_to-above}

@@ -1,9 +1,7 @@
 use Prim.Native.Nat.{◌+◌, ◌-◌}
 use native.Mathlib.Omega.{arith}
-use mathlib.Core.Path.{◌∙◌}
-use lib.ListN.{length, length-set}
+use lib.ListN.{length}
 use Rattle.memory.proofs.Parts.{text-written}
-use borrow.Author.Rules.{rules}
 use Rattle.memory.proofs.set_text.Goals as goal
 
 pub returns : goal.returns

@@ -1,4 +1,3 @@
-use borrow.Author.Rules.{rules}
 use Rattle.memory.proofs.Head.{set-turn}
 use Rattle.memory.proofs.set_turn.Goals as goal
 

@@ -1,7 +1,6 @@
 use Prim.Native.Nat.{◌+◌, ◌-◌}
 use native.Mathlib.Omega.{arith}
 use lib.ListN.{get_or}
-use borrow.Author.Rules.{rules}
 use Rattle.memory.proofs.Memory.{up_to-in, up_to-above}
 use Rattle.memory.proofs.Head.{text-lent}
 use Rattle.memory.proofs.text.Goals as goal

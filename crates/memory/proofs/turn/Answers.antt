@@ -1,5 +1,4 @@
 use native.Mathlib.Omega.{arith}
-use borrow.Author.Rules.{rules}
 use Rattle.memory.proofs.Head.{turn-none, turn-some}
 use Rattle.memory.proofs.turn.Goals as goal
 

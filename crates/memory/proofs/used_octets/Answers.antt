@@ -4,7 +4,6 @@ use mathlib.Core.Path.{ap}
 use mathlib.Core.List.{List}
 use lib.ListN.{length}
 use Rattle.memory.specs.Memory.{tree_name}
-use borrow.Author.Rules.{rules}
 use Rattle.memory.proofs.used_octets.Goals as goal
 
 pub returns : goal.returns
