@@ -63,13 +63,11 @@ fn free_from_word(numbers: &[u64], from: usize) -> usize
     requires { Numbers numbers.now × (from ≤ word_count) }
     ensures { FirstFree numbers.now (from * 64) result }
 {
-    let mut w = from;
-    while w < 4 {
+    for w in from..LABEL_COUNT / 64 {
         let x = numbers[WORD_COLUMN + w];
         if x != 0 {
             return w * 64 + u64::trailing_zeros(x) as usize;
         }
-        w += 1;
     }
     LABEL_COUNT
 }

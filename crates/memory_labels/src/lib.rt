@@ -60,13 +60,10 @@ pub fn is_awaited(numbers: &[u64], names: &[u8], neighbour: u64, name: &[u8], la
         × (result ≡ true → (base_in numbers.now ≤ label) × (label < base_in numbers.now + label_count) × (is_mapped_at numbers.now (label - base_in numbers.now) ≡ false)) }
 {
     let p = place_in_block(numbers, label);
-    if LABEL_COUNT <= p {
-        return false;
-    }
-    if is_free(numbers, p) {
-        return false;
-    }
-    if numbers[MARK_COLUMN + p] % 256 != NEIGHBOURS + neighbour {
+    if LABEL_COUNT <= p
+        || is_free(numbers, p)
+        || numbers[MARK_COLUMN + p] % 256 != NEIGHBOURS + neighbour
+    {
         return false;
     }
     octets::equal(label_name(names, p), name)

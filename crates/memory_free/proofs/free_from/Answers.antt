@@ -5,7 +5,6 @@ use Rattle.meaning.specs.Lists.{positive}
 use Rattle.memory.specs.Sizes.{word_column}
 use Rattle.memory.specs.Memory.{word_at}
 use Rattle.memory.proofs.NextFree.{first-here, first-behind, first_past, first_on}
-use borrow.Author.Rules.{rules}
 use Rattle.memory_free.proofs.free_from.Goals as goal
 
 pub returns-then-i-ge-LABEL_COUNT : goal.returns-then-i-ge-LABEL_COUNT

@@ -1,6 +1,5 @@
 use native.Mathlib.Omega.{arith}
 use Rattle.memory.proofs.Labels.{free-label}
-use borrow.Author.Rules.{rules}
 use Rattle.memory_free.proofs.free_label.Goals as goal
 
 pub returns : goal.returns

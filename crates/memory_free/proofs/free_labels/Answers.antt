@@ -1,7 +1,6 @@
 use Prim.Native.Nat.{◌+◌}
 use native.Mathlib.Omega.{arith}
 use Rattle.memory.proofs.Labels.{few-in, counted}
-use borrow.Author.Rules.{rules}
 use Rattle.memory.specs.Sizes.{word_column}
 use Rattle.memory_free.proofs.free_labels.Goals as goal
 

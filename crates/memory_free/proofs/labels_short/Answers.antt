@@ -1,6 +1,5 @@
 use mathlib.Core.Path.{refl}
 use Rattle.meaning.specs.Events.{labels_short}
-use borrow.Author.Rules.{rules}
 use Rattle.memory_free.proofs.labels_short.Goals as goal
 
 pub returns : goal.returns

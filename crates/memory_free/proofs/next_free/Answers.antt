@@ -1,5 +1,4 @@
 use Rattle.memory.proofs.NextFree.{next-later, next-around}
-use borrow.Author.Rules.{rules}
 use Rattle.memory_free.proofs.next_free.Goals as goal
 
 pub returns-then-p-lt-LABEL_COUNT : goal.returns-then-p-lt-LABEL_COUNT

@@ -1,10 +1,8 @@
 use Prim.Native.Nat.{◌+◌}
-use mathlib.Core.Path.{refl, ◌∙◌}
 use Rattle.meaning.specs.Events.{labels_short}
 use Rattle.memory.specs.Sizes.{word_column}
 use Rattle.memory.proofs.Labels.{counted}
 use Rattle.memory_free.proofs.Ones.{none-short}
-use borrow.Author.Rules.{rules}
 use Rattle.memory_free.proofs.none_free.Goals as goal
 
 pub returns : goal.returns

@@ -4,7 +4,6 @@ use mathlib.Core.Bool.{true}
 use Rattle.octets.proofs.Bits.{one_shifted, set_same, set_other}
 use Rattle.memory.specs.Memory.{word_at}
 use Rattle.memory.proofs.Marks.{rebit}
-use borrow.Author.Rules.{rules}
 use Rattle.memory_free.proofs.set_free.Goals as goal
 
 pub returns : goal.returns

@@ -4,7 +4,6 @@ use mathlib.Core.Bool.{false}
 use Rattle.octets.proofs.Bits.{one_shifted, clear-same, clear-other}
 use Rattle.memory.specs.Memory.{word_at}
 use Rattle.memory.proofs.Marks.{rebit}
-use borrow.Author.Rules.{rules}
 use Rattle.memory_free.proofs.set_taken.Goals as goal
 
 pub returns : goal.returns

@@ -1,4 +1,4 @@
-use Rattle.std.proofs.Common.{[], arith, rules}
+use Rattle.std.proofs.Common.{[], arith}
 use Rattle.memory.proofs.Labels.{awaits-use, awaited-is}
 use Rattle.memory_labels.proofs.awaited_at.Goals as goal
 

@@ -1,4 +1,4 @@
-use Rattle.std.proofs.Common.{◌≡◌, ◌/◌, ◌%◌, ◌^◌, eqb, sym, refl, ◌∙◌, rules}
+use Rattle.std.proofs.Common.{◌≡◌, ◌/◌, ◌%◌, ◌^◌, eqb, sym, refl, ◌∙◌}
 use Rattle.octets.specs.Bits.{bit}
 use Rattle.memory.specs.Memory.{word_at, is_free_at}
 use Rattle.memory.proofs.Marks.{free_in}

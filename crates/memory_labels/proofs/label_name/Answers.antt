@@ -1,4 +1,3 @@
-use Rattle.std.proofs.Common.{rules}
 use Rattle.memory.specs.Memory.{label_name}
 use Rattle.memory_labels.proofs.label_name.Goals as goal
 

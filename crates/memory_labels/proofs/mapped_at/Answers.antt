@@ -1,4 +1,4 @@
-use Rattle.std.proofs.Common.{sym, ◌∙◌, rules}
+use Rattle.std.proofs.Common.{sym, ◌∙◌}
 use Rattle.memory.proofs.Labels.{maps-free, maps-some, maps-other}
 use Rattle.memory_labels.proofs.mapped_at.Goals as goal
 

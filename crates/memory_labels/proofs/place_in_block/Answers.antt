@@ -1,4 +1,4 @@
-use Rattle.std.proofs.Common.{◌≡◌, ◌-◌, ltb, arith, rules, ltb-false, ltb-true}
+use Rattle.std.proofs.Common.{◌≡◌, ◌-◌, ltb, arith, ltb-false, ltb-true}
 use Rattle.meaning.specs.Lists.{by-test}
 use Rattle.memory.proofs.Labels.{block-under, block-from}
 use Rattle.memory_labels.proofs.place_in_block.Goals as goal
