@@ -1,2 +1,1 @@
-pub mod Fours
 pub mod Others

@@ -4,12 +4,13 @@ use native.Mathlib.Nat.{not-suc-le-zero, le_of_suc-le-suc}
 use native.Mathlib.Numerals.{add-one}
 use native.Mathlib.Omega.{arith}
 use mathlib.Core.Path.{◌≡◌, refl, sym, ap, ◌∙◌}
-use mathlib.Core.Bool.{Bool, true, false}
+use mathlib.Core.Bool.{Bool, true, false, not}
 use mathlib.Core.List.{List, [], ◌∷◌}
 use mathlib.Core.Logic.{◌⊎◌, ⊎_elim}
 use lib.ListN.{length, drop, get_or, set, length-set, drop_of_length-le}
 use lib.Seq.{get_or-set_same, get_or-set_other, set_out, set-set, drop-cons}
 use lib.Dec.{eqb, leb}
+use mir.Val.{bool_byte}
 use borrow.Author.Tests.{eqb-true, eqb-false, leb-true, leb-false, lt-ltb}
 use Rattle.meaning.specs.Octets.{pick, any, count}
 use Rattle.meaning.specs.Lists.{by-test, get_d-out, positive}
@@ -33,13 +34,17 @@ one-some x z = rw (lt-ltb 0 x (positive x z)) refl
 abbrev pub none : ℕ → ℕ
 none x = pick (is_branch x) 0 1
 
-pub none-none : (x : ℕ) → x ≡ 0 → 1 ≡ none x
-unfolding is_branch
-none-none x z = rw z refl
+-- the test of a program, as a number
+pub one-byte : (x : ℕ) → bool_byte (not (eqb x 0)) ≡ one x
+one-byte x = by-test (eqb x 0) (λ t. rw t (one_none x (eqb-true x 0 t))) (λ t. rw t (one-some x (eqb-false x 0 t)))
 
-pub none-some : (x : ℕ) → (x ≡ 0 → ⊥) → 0 ≡ none x
+pub none-byte : (x : ℕ) → bool_byte (eqb x 0) ≡ none x
 unfolding is_branch
-none-some x z = rw (lt-ltb 0 x (positive x z)) refl
+none-byte x = by-test (eqb x 0) (λ t. rw (eqb-true x 0 t) refl) (λ t. rw (t, lt-ltb 0 x (positive x (eqb-false x 0 t))) refl)
+
+pub byte-most : (b : Bool) → bool_byte b ≤ 1
+byte-most true = omega arith
+byte-most false = omega arith
 
 -- of the first n places k have none: with these, all that there are make n and those behind
 pub count-step : (bs : List ℕ) (n k all r b : ℕ) → all + k ≡ n + count is_branch (drop n bs) → n < length bs → b ≡ get_or bs n 0 → r ≡ none b → all + (k + r) ≡ n + 1 + count is_branch (drop (n + 1) bs)

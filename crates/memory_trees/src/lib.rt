@@ -1,18 +1,16 @@
 // Trees in the card's memory: what is asked of them.
 #![tactic(auto)]
 
-ghost use Rattle.std.specs.Prelude.{◌≡◌, true, false, List, [], ◌∷◌, ◌⊎◌, ℕ, ◌+◌, ◌*◌, ◌-◌, ◌≤◌, ◌<◌, length, get_or, set};
+ghost use Rattle.std.specs.Prelude.{◌≡◌, true, List, ℕ, ◌+◌, ◌≤◌, ◌<◌, length, get_or, set};
 ghost use Rattle.meaning.specs.Octets.{pick, place, any, count};
 ghost use Rattle.meaning.specs.Wire.{name_limit};
 ghost use Rattle.meaning.specs.Card.{tree_place, tree_at, is_branch, held_for, carries, label_count, tree_limit, neighbour_count, nobody};
-ghost use Rattle.octets.specs.Part.{tab};
 ghost use Rattle.memory.specs.Sizes.{Numbers, Names};
 ghost use Rattle.memory.specs.Memory.{card_of, base_in, tree_count, tree_name, is_mapped_at, carries_at, own_place, StandsAt};
 
-use meaning::{NAME_LIMIT, NEIGHBOUR_COUNT};
+use meaning::{LABEL_COUNT, NAME_LIMIT, NEIGHBOUR_COUNT};
 use memory::{
-    BRANCH_COLUMN, LABELS, MARK_COLUMN, NAME_SPACE, NEIGHBOURS, NOBODY, OWN_COLUMN, ROW_COLUMN,
-    ROW_WIDTH,
+    BRANCH_COLUMN, MARK_COLUMN, NAME_SPACE, NEIGHBOURS, NOBODY, OWN_COLUMN, ROW_COLUMN, ROW_WIDTH,
 };
 
 // ---- marks
@@ -22,11 +20,8 @@ fn carries_at(numbers: &[u64], i: usize, p: u64) -> bool
     requires { Numbers numbers.now }
     ensures { result ≡ carries_at numbers.now i p }
 {
-    if LABELS <= p {
-        return false;
-    }
     let k = p as usize;
-    if memory_labels::mapped_at(numbers, k) == NOBODY {
+    if LABEL_COUNT <= k || memory_labels::mapped_at(numbers, k) == NOBODY {
         return false;
     }
     numbers[MARK_COLUMN + k] / 256 == i as u64
@@ -67,54 +62,22 @@ pub fn branch(numbers: &[u64], i: usize, n: usize) -> u64
     numbers[BRANCH_COLUMN + i * ROW_WIDTH + n]
 }
 
-// Four numbers that stand one after the other.
-#[derive(Clone, Copy)]
-struct Four {
-    a: u64,
-    b: u64,
-    c: u64,
-    d: u64,
-}
-
-fn four_at(numbers: &[u64], i: usize) -> Four
-    requires { i + 4 ≤ length numbers.now }
-    ensures { (result.a ∷ result.b ∷ result.c ∷ result.d ∷ []) ≡ tab 4 (λ n. get_or numbers.now (i + n) 0) }
-{
-    Four {
-        a: numbers[i + 0],
-        b: numbers[i + 1],
-        c: numbers[i + 2],
-        d: numbers[i + 3],
-    }
-}
-
 // The sixteen branches, all read before the caller writes one: so a lookup makes no copy on the way to the lent array.
 pub fn branches(numbers: &[u64], i: usize) -> [u64; NEIGHBOUR_COUNT]
     requires { Numbers numbers.now × StandsAt numbers.now i }
     ensures { (os : List ℕ) → result ≡ (tree_at i (card_of numbers.now os)).branches }
 {
     let a = BRANCH_COLUMN + i * ROW_WIDTH;
-    let p = four_at(numbers, a);
-    let q = four_at(numbers, a + 4);
-    let r = four_at(numbers, a + 8);
-    let s = four_at(numbers, a + 12);
-    [
-        p.a, p.b, p.c, p.d, q.a, q.b, q.c, q.d, r.a, r.b, r.c, r.d, s.a, s.b, s.c, s.d,
-    ]
+    let mut all = [0; NEIGHBOUR_COUNT];
+    all.copy_from_slice(&numbers[a..a + NEIGHBOUR_COUNT]);
+    all
 }
 
 // Whether x is a branch, as a number.
 pub fn one(x: u64) -> u64
     ensures { (result ≡ pick (is_branch x) 1 0) × (result ≤ 1) }
 {
-    if x == 0 { 0 } else { 1 }
-}
-
-// Whether x is none, as a number.
-fn no_branch(x: u64) -> u64
-    ensures { (result ≡ pick (is_branch x) 0 1) × (result ≤ 1) }
-{
-    if x == 0 { 1 } else { 0 }
+    u64::from(x != 0)
 }
 
 // How many branches the tree has. All sixteen are read, and no step hangs on which of them stand: nothing foretells that. The places with
@@ -124,10 +87,8 @@ pub fn branch_count(numbers: &[u64], i: usize) -> u64
     ensures { ((os : List ℕ) → result ≡ count is_branch (tree_at i (card_of numbers.now os)).branches) × (result ≤ neighbour_count) }
 {
     let mut none = 0;
-    let mut n = 0;
-    while n < NEIGHBOUR_COUNT {
-        none += no_branch(branch(numbers, i, n));
-        n += 1;
+    for n in 0..NEIGHBOUR_COUNT {
+        none += u64::from(branch(numbers, i, n) == 0);
     }
     NEIGHBOURS - none
 }
@@ -143,43 +104,17 @@ pub fn count_of(numbers: &[u64], i: usize, n: usize) -> u64
     0
 }
 
-fn is_other(k: usize, n: usize, but: usize) -> bool
-    ensures { (result ≡ true → (k ≡ n → ⊥) × (k ≡ but → ⊥)) × (result ≡ false → (k ≡ n) ⊎ (k ≡ but)) }
-{
-    if k == n {
-        return false;
-    }
-    k != but
-}
-
 // Whether the tree has a branch of another neighbour than n and `but`. Most have one of a low number, and the first ends the search.
 fn any_other(numbers: &[u64], i: usize, n: usize, but: usize) -> bool
     requires { Numbers numbers.now × StandsAt numbers.now i }
     ensures { (os : List ℕ) → result ≡ any is_branch (set (set (tree_at i (card_of numbers.now os)).branches n 0) but 0) }
 {
-    let mut k = 0;
-    while k < NEIGHBOUR_COUNT {
-        if branch(numbers, i, k) != 0 {
-            if is_other(k, n, but) {
-                return true;
-            }
+    for k in 0..NEIGHBOUR_COUNT {
+        if branch(numbers, i, k) != 0 && k != n && k != but {
+            return true;
         }
-        k += 1;
     }
     false
-}
-
-// Whether the branch x of neighbour n is one, apart from that of neighbour `but`.
-fn is_one(n: usize, x: u64, but: usize) -> bool
-    ensures { (result ≡ true → (x ≡ 0 → ⊥) × (n < neighbour_count) × (n ≡ but → ⊥)) × (result ≡ false → (x ≡ 0) ⊎ ((neighbour_count ≤ n) ⊎ (n ≡ but))) }
-{
-    if x == 0 {
-        return false;
-    }
-    if NEIGHBOUR_COUNT <= n {
-        return false;
-    }
-    n != but
 }
 
 // Whether the tree has a branch, once that of neighbour n is x (NO_NEIGHBOUR: nobody's changes), apart from that of neighbour `but` (NO_NEIGHBOUR: none apart).
@@ -187,7 +122,7 @@ pub fn any_branch(numbers: &[u64], i: usize, n: usize, x: u64, but: usize) -> bo
     requires { Numbers numbers.now × StandsAt numbers.now i }
     ensures { (os : List ℕ) → result ≡ any is_branch (set (set (tree_at i (card_of numbers.now os)).branches n x) but 0) }
 {
-    if is_one(n, x, but) {
+    if x != 0 && n < NEIGHBOUR_COUNT && n != but {
         return true;
     }
     any_other(numbers, i, n, but)
@@ -234,12 +169,8 @@ pub fn carrier_at(numbers: &[u64], p: usize) -> usize
 {
     let n = memory::tree_count(numbers);
     let i = (numbers[MARK_COLUMN + p] / 256) as usize;
-    if n <= i {
+    if n <= i || numbers[OWN_COLUMN + i] != p as u64 {
         return n;
     }
-    if numbers[OWN_COLUMN + i] == p as u64 {
-        i
-    } else {
-        n
-    }
+    i
 }

@@ -1,25 +1,28 @@
 use mathlib.Core.Path.{sym, ap, ◌∙◌}
-use mathlib.Core.Logic.{⊎_elim, inl, inr}
+use mathlib.Core.Logic.{inl, inr}
 use native.Mathlib.Omega.{arith}
-use borrow.Author.Rules.{rules}
 use Rattle.meaning.specs.Octets.{any}
 use Rattle.meaning.specs.Card.{is_branch, tree_at}
 use Rattle.memory.specs.Memory.{card_of}
 use Rattle.memory.proofs.Trees.{branches-length}
 use Rattle.memory_trees.proofs.Others.{one-leads, one-not}
 use Rattle.memory_trees.proofs.any_branch.Goals as goal
+use Rattle.memory_trees.proofs.any_branch.Goals.{else-x-ne0-via-then-x-ne0+then-n-lt-NEIGHBOUR_COUNT+else-n-but, else-x-ne0-via-then-x-ne0+else-n-lt-NEIGHBOUR_COUNT, else-x-ne0-via-else-x-ne0}
 
-pub returns-then-is_one : goal.returns-then-is_one
-returns-then-is_one c = λ os.
+pub returns-then-n-but : goal.returns-then-n-but
+returns-then-n-but c = λ os.
     let a = c.args in
     let n16 = branches-length a.numbers.now os a.i c.requires.1.0 in
-    let one = c.is_one.ensures.0 c.if-is_one.true in
-    sym (one-leads (tree_at a.i (card_of a.numbers.now os)).branches a.n a.but a.x one.0 (omega (arith, n16, one.1)) one.2)
+    sym (one-leads (tree_at a.i (card_of a.numbers.now os)).branches a.n a.but a.x c.if-x-ne0.true (omega arith) c.if-n-but.true)
 
 pub returns : goal.returns
 returns c = λ os.
     let a = c.args in
     let n16 = branches-length a.numbers.now os a.i c.requires.1.0 in
-    let none = c.is_one.ensures.1 c.if-is_one.false in
+    let bs = (tree_at a.i (card_of a.numbers.now os)).branches in
     c.any_other.ensures os
-    ∙ ap (any is_branch) (one-not (tree_at a.i (card_of a.numbers.now os)).branches a.n a.but a.x (⊎_elim (λ z. inl z) (⊎_elim (λ h. inr (inl (omega (arith, n16, h)))) (λ q. inr (inr q))) none))
+    ∙ ap (any is_branch) (one-not bs a.n a.but a.x (elim c.else-x-ne0.branch [
+      | else-x-ne0-via-then-x-ne0+then-n-lt-NEIGHBOUR_COUNT+else-n-but w ↦ inr (inr w.if-n-but.false)
+      | else-x-ne0-via-then-x-ne0+else-n-lt-NEIGHBOUR_COUNT w ↦ inr (inl (omega arith))
+      | else-x-ne0-via-else-x-ne0 w ↦ inl w.if-x-ne0.false
+    ]))

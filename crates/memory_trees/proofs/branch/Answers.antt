@@ -1,4 +1,3 @@
-use borrow.Author.Rules.{rules}
 use Rattle.memory.proofs.Trees.{branch-at}
 use Rattle.memory_trees.proofs.branch.Goals as goal
 

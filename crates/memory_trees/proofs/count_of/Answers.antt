@@ -1,5 +1,4 @@
 use native.Mathlib.Omega.{arith}
-use borrow.Author.Rules.{rules}
 use Rattle.meaning.specs.Lists.{get_d-out}
 use Rattle.meaning.specs.Card.{tree_at}
 use Rattle.memory.specs.Memory.{card_of}

@@ -3,7 +3,6 @@ use mathlib.Core.Path.{sym, ◌∙◌}
 use Rattle.memory.specs.Memory.{own_place}
 use Rattle.memory.proofs.Marks.{carried-out}
 use Rattle.memory.proofs.Trees.{held-some, held_none}
-use borrow.Author.Rules.{rules}
 use Rattle.memory_trees.proofs.held_for.Goals as goal
 
 pub mapped_at-requires : goal.mapped_at-requires

@@ -1,4 +1,3 @@
-use borrow.Author.Rules.{rules}
 use Rattle.memory.proofs.Trees.{leaf-at}
 use Rattle.memory_trees.proofs.is_leaf.Goals as goal
 

@@ -1,9 +1,9 @@
+use mathlib.Core.Bool.{not}
+use lib.Dec.{eqb}
+use mathlib.Core.Path.{◌∙◌}
 use native.Mathlib.Omega.{arith}
-use Rattle.memory_trees.proofs.Others.{one_none, one-some}
+use Rattle.memory_trees.proofs.Others.{one-byte, byte-most}
 use Rattle.memory_trees.proofs.one.Goals as goal
 
-pub returns-then-x-eq0 : goal.returns-then-x-eq0
-returns-then-x-eq0 c = (one_none _ c.if-x-eq0.true, omega arith)
-
-pub returns-else-x-eq0 : goal.returns-else-x-eq0
-returns-else-x-eq0 c = (one-some _ c.if-x-eq0.false, omega arith)
+pub returns : goal.returns
+returns c = (c.from.ensures ∙ one-byte _, omega (arith, c.from.ensures, byte-most (not (eqb c.args.x 0))))

@@ -3,7 +3,6 @@ use mathlib.Core.Path.{sym, ◌∙◌}
 use Rattle.memory.specs.Memory.{own_place}
 use Rattle.memory.proofs.Marks.{carried-out}
 use Rattle.memory.proofs.Trees.{label-some, label-none}
-use borrow.Author.Rules.{rules}
 use Rattle.memory_trees.proofs.tree_label.Goals as goal
 
 pub overflow_add-result-then-own_counts : goal.overflow_add-result-then-own_counts

@@ -1,5 +1,4 @@
 use mathlib.Core.Path.{sym, ◌∙◌}
-use borrow.Author.Rules.{rules}
 use Rattle.memory.specs.Memory.{tree_name}
 use Rattle.memory.proofs.Trees.{name-at}
 use Rattle.memory_trees.proofs.tree_name.Goals as goal

@@ -1,9 +1,0 @@
-use native.Mathlib.Omega.{arith}
-use Rattle.memory_trees.proofs.Others.{none-none, none-some}
-use Rattle.memory_trees.proofs.no_branch.Goals as goal
-
-pub returns-then-x-eq0 : goal.returns-then-x-eq0
-returns-then-x-eq0 c = (none-none _ c.if-x-eq0.true, omega arith)
-
-pub returns-else-x-eq0 : goal.returns-else-x-eq0
-returns-else-x-eq0 c = (none-some _ c.if-x-eq0.false, omega arith)
