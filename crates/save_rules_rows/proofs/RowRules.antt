@@ -8,11 +8,11 @@ use mathlib.Core.Bool.{Bool, true, false, not, ◌&&◌, ◌||◌, and_assoc, an
 use mathlib.Core.List.{List, [], ◌∷◌}
 use lib.ListN.{length, drop, get_or, set, drop_of_length-le}
 use lib.Seq.{drop-cons, set_out}
-use lib.Dec.{eqb, leb}
+use lib.Dec.{eqb}
 use borrow.Author.Tests.{le-leb, lt-leb, eq-eqb, ne_eqb, not-true, not-false}
 use Rattle.meaning.specs.Octets.{place, any, same, all}
 use Rattle.meaning.specs.Lists.{by-test, get_d-same, same-eq, any-count, count-some, never}
-use Rattle.meaning.specs.Wire.{root_in, least_label, most_label}
+use Rattle.meaning.specs.Wire.{root_in}
 use Rattle.meaning.specs.Card.{Route, Tree, Use, Card, tree_at, bare, is_branch, is_empty, is_for, named, route_of, held_for, label_count, neighbour_count}
 use Rattle.meaning.specs.Events.{not_root, upstream, holder_of, holder}
 use Rattle.meaning_save.specs.Save.{is_name, once_each, is_route, same_root, is_branch_label, is_tree, same_name, is_carried, all_carried, holds_right}
@@ -157,18 +157,6 @@ module _ (ns os : List ℕ) (i : ℕ) where
 
 -- ---- one tree
 
-pub branch-none : (l : ℕ) → l ≡ 0 → is_branch_label l ≡ true
-unfolding is_branch_label
-branch-none l e = rw (eq-eqb l 0 e) refl
-
-pub branch-low : (l : ℕ) → (l ≡ 0 → ⊥) → l < neighbour_count → is_branch_label l ≡ false
-unfolding is_branch_label
-branch-low l ne h = rw (ne_eqb l 0 ne, lt-leb least_label l h) refl
-
-pub branch-high : (l : ℕ) → (l ≡ 0 → ⊥) → least_label ≤ l → is_branch_label l ≡ leb l most_label
-unfolding is_branch_label
-branch-high l ne h = rw (ne_eqb l 0 ne, le-leb least_label l h) refl
-
 module _ (t : Tree) where
   pub leaf-leads : (b : Bool) → b ≡ t.leaf → b ≡ true → not (is_empty t) ≡ true
   unfolding is_empty
@@ -211,9 +199,10 @@ place-once a (t ∷ ts) (suc k) d once h e =
     absurd (omega (arith, any-count (same_name t) ts x, count-some (same_name t) ts k d (le_of_suc-le-suc h) (alike a t (get_or ts k d) y e))))
     (λ y. rw y (ap suc (place-once a ts k d (rw x at once) (le_of_suc-le-suc h) e))))
 
--- ---- one test after the other: b is what the code says of the first
-pub and_then : (b a c r : Bool) → b ≡ a → not b ≡ false → c ≡ r → (a && c) ≡ r
-and_then b a c r e k n = rw (← e, not-false b k) n
+-- ---- three tests, one after the other
+module _ (a b c : Bool) (e : a ≡ true) where
+  pub both : b ≡ true → (a && (b && c)) ≡ c
+  both k = rw (e, k) refl
 
-pub and-not : (b a c : Bool) → b ≡ a → not b ≡ true → (a && c) ≡ false
-and-not b a c e k = rw (← e, not-true b k) refl
+  pub not-both : b ≡ false → (a && (b && c)) ≡ false
+  not-both k = rw (e, k) refl

@@ -17,14 +17,8 @@ fn is_route(numbers: &[u64], names: &[u8], i: usize) -> bool
     requires { Numbers numbers.now × Names names.now × (i < route_limit) }
     ensures { result ≡ is_route (route_in numbers.now names.now i) }
 {
-    if 16 < memory_routes::route_via(numbers, i) {
-        return false;
-    }
     let n = memory_routes::root_name(names, i).len();
-    if n == 4 {
-        return true;
-    }
-    n == 16
+    memory_routes::route_via(numbers, i) <= 16 && (n == 4 || n == 16)
 }
 
 pub fn routes_good(numbers: &[u64], names: &[u8]) -> bool
@@ -32,12 +26,10 @@ pub fn routes_good(numbers: &[u64], names: &[u8]) -> bool
     ensures { result ≡ all is_route (card_of numbers.now names.now).routes }
 {
     let n = memory::route_count(numbers);
-    let mut i = 0;
-    while i < n {
+    for i in 0..n {
         if !is_route(numbers, names, i) {
             return false;
         }
-        i += 1;
     }
     true
 }
@@ -48,12 +40,10 @@ fn root_from(numbers: &[u64], names: &[u8], from: usize, root: &[u8]) -> bool
     ensures { result ≡ any (is_for root.now) (drop from (card_of numbers.now names.now).routes) }
 {
     let n = memory::route_count(numbers);
-    let mut i = from;
-    while i < n {
+    for i in from..n {
         if octets::equal(memory_routes::root_name(names, i), root) {
             return true;
         }
-        i += 1;
     }
     false
 }
@@ -63,12 +53,10 @@ pub fn roots_once(numbers: &[u64], names: &[u8]) -> bool
     ensures { result ≡ once_each same_root (card_of numbers.now names.now).routes }
 {
     let n = memory::route_count(numbers);
-    let mut i = 0;
-    while i < n {
+    for i in 0..n {
         if root_from(numbers, names, i + 1, memory_routes::root_name(names, i)) {
             return false;
         }
-        i += 1;
     }
     true
 }
@@ -84,25 +72,17 @@ pub fn is_name(name: &[u8]) -> bool
 fn is_branch_label(label: u64) -> bool
     ensures { result ≡ is_branch_label label }
 {
-    if label == 0 {
-        return true;
-    }
-    if label < LEAST_LABEL {
-        return false;
-    }
-    label <= MOST_LABEL
+    label == 0 || (LEAST_LABEL <= label && label <= MOST_LABEL)
 }
 
 fn branches_good(numbers: &[u64], i: usize) -> bool
     requires { Numbers numbers.now × StandsAt numbers.now i }
     ensures { (os : List ℕ) → result ≡ all is_branch_label (tree_at i (card_of numbers.now os)).branches }
 {
-    let mut k = 0;
-    while k < NEIGHBOUR_COUNT {
+    for k in 0..NEIGHBOUR_COUNT {
         if !is_branch_label(memory_trees::branch(numbers, i, k)) {
             return false;
         }
-        k += 1;
     }
     true
 }
@@ -112,23 +92,17 @@ fn leads_somewhere(numbers: &[u64], i: usize) -> bool
     requires { Numbers numbers.now × StandsAt numbers.now i }
     ensures { (os : List ℕ) → result ≡ not (is_empty (tree_at i (card_of numbers.now os))) }
 {
-    if memory_trees::is_leaf(numbers, i) {
-        return true;
-    }
-    memory_trees::any_branch(numbers, i, NO_NEIGHBOUR, 0, NO_NEIGHBOUR)
+    memory_trees::is_leaf(numbers, i)
+        || memory_trees::any_branch(numbers, i, NO_NEIGHBOUR, 0, NO_NEIGHBOUR)
 }
 
 fn is_tree(numbers: &[u64], names: &[u8], i: usize) -> bool
     requires { Numbers numbers.now × Names names.now × StandsAt numbers.now i }
     ensures { result ≡ is_tree (tree_at i (card_of numbers.now names.now)) }
 {
-    if !is_name(memory_trees::tree_name(names, i)) {
-        return false;
-    }
-    if !branches_good(numbers, i) {
-        return false;
-    }
-    leads_somewhere(numbers, i)
+    is_name(memory_trees::tree_name(names, i))
+        && branches_good(numbers, i)
+        && leads_somewhere(numbers, i)
 }
 
 pub fn trees_good(numbers: &[u64], names: &[u8]) -> bool
@@ -136,12 +110,10 @@ pub fn trees_good(numbers: &[u64], names: &[u8]) -> bool
     ensures { result ≡ all is_tree (card_of numbers.now names.now).trees }
 {
     let n = memory::tree_count(numbers);
-    let mut i = 0;
-    while i < n {
+    for i in 0..n {
         if !is_tree(numbers, names, i) {
             return false;
         }
-        i += 1;
     }
     true
 }

@@ -1,11 +1,5 @@
-use Prim.Native.Nat.{◌-◌}
-use mathlib.Core.Path.{◌≡◌, refl, sym, ◌∙◌}
-use lib.ListN.{drop}
-use Rattle.meaning.specs.Octets.{any}
-use Rattle.meaning.specs.Card.{is_for}
-use Rattle.memory.specs.Memory.{card_of}
+use mathlib.Core.Path.{refl, sym, ◌∙◌}
 use Rattle.save_rules_rows.proofs.RowRules.{any-hit, any-miss, any_none, route-there, route-for, routes-end}
-use borrow.Author.Rules.{rules}
 use Rattle.save_rules_rows.proofs.root_from.Goals as goal
 
 pub loop-i-init : goal.loop-i-init
