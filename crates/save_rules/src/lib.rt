@@ -20,10 +20,8 @@ fn is_near(numbers: &[u64], p: usize) -> bool
     requires { Numbers numbers.now × (p < label_count) × (is_free_at numbers.now p ≡ false) }
     ensures { (os : List ℕ) → is_use (label_in numbers.now os p) ≡ (result && is_name (label_name os p)) }
 {
-    if memory_labels::mapped_at(numbers, p) != NOBODY {
-        return true;
-    }
-    memory_labels::awaited_at(numbers, p) < NEIGHBOURS
+    memory_labels::mapped_at(numbers, p) != NOBODY
+        || memory_labels::awaited_at(numbers, p) < NEIGHBOURS
 }
 
 // The neighbour of a label in use is one of the sixteen, whatever the memory holds: its name is what can be wrong.
@@ -31,25 +29,18 @@ fn is_use(numbers: &[u64], names: &[u8], p: usize) -> bool
     requires { Numbers numbers.now × Names names.now × (p < label_count) }
     ensures { result ≡ is_use (label_in numbers.now names.now p) }
 {
-    if memory_labels::is_free(numbers, p) {
-        return true;
-    }
-    if is_near(numbers, p) {
-        return save_rules_rows::is_name(memory_labels::label_name(names, p));
-    }
-    false
+    memory_labels::is_free(numbers, p)
+        || (is_near(numbers, p) && save_rules_rows::is_name(memory_labels::label_name(names, p)))
 }
 
 fn uses_good(numbers: &[u64], names: &[u8]) -> bool
     requires { Numbers numbers.now × Names names.now }
     ensures { result ≡ all is_use (card_of numbers.now names.now).labels }
 {
-    let mut p = 0;
-    while p < LABEL_COUNT {
+    for p in 0..LABEL_COUNT {
         if !is_use(numbers, names, p) {
             return false;
         }
-        p += 1;
     }
     true
 }
@@ -61,10 +52,8 @@ fn is_carried(numbers: &[u64], p: usize) -> bool
     ensures { (os : List ℕ) → (let c = card_of numbers.now os in
         once_each same_name c.trees ≡ true → all (carries_own c) c.trees ≡ true → result ≡ is_carried c (base_in numbers.now + p) (label_in numbers.now os p)) }
 {
-    if memory_labels::mapped_at(numbers, p) == NOBODY {
-        return true;
-    }
-    memory_trees::carrier_at(numbers, p) < memory::tree_count(numbers)
+    memory_labels::mapped_at(numbers, p) == NOBODY
+        || memory_trees::carrier_at(numbers, p) < memory::tree_count(numbers)
 }
 
 fn all_carried(numbers: &[u64]) -> bool
@@ -72,12 +61,10 @@ fn all_carried(numbers: &[u64]) -> bool
     ensures { (os : List ℕ) → (let c = card_of numbers.now os in
         once_each same_name c.trees ≡ true → all (carries_own c) c.trees ≡ true → result ≡ all_carried c c.base c.labels) }
 {
-    let mut p = 0;
-    while p < LABEL_COUNT {
+    for p in 0..LABEL_COUNT {
         if !is_carried(numbers, p) {
             return false;
         }
-        p += 1;
     }
     true
 }
@@ -87,10 +74,8 @@ pub fn is_mapped_for(numbers: &[u64], names: &[u8], p: usize, name: &[u8]) -> bo
     requires { Numbers numbers.now × Names names.now × (p < label_count) }
     ensures { (result ≡ is_mapped_for name.now (label_in numbers.now names.now p)) × (result ≡ true → is_mapped_at numbers.now p ≡ true) }
 {
-    if memory_labels::mapped_at(numbers, p) == NOBODY {
-        return false;
-    }
-    octets::equal(memory_labels::label_name(names, p), name)
+    memory_labels::mapped_at(numbers, p) != NOBODY
+        && octets::equal(memory_labels::label_name(names, p), name)
 }
 
 // Whether the label of the tree at place i, if it has one, is mapped for the tree's name.
@@ -103,10 +88,7 @@ fn carries_own(numbers: &[u64], names: &[u8], i: usize) -> bool
         return true;
     }
     let p = memory_labels::place_in_block(numbers, label);
-    if LABEL_COUNT <= p {
-        return false;
-    }
-    is_mapped_for(numbers, names, p, memory_trees::tree_name(names, i))
+    p < LABEL_COUNT && is_mapped_for(numbers, names, p, memory_trees::tree_name(names, i))
 }
 
 fn own_labels(numbers: &[u64], names: &[u8]) -> bool
@@ -114,12 +96,10 @@ fn own_labels(numbers: &[u64], names: &[u8]) -> bool
     ensures { let c = card_of numbers.now names.now in result ≡ all (carries_own c) c.trees }
 {
     let n = memory::tree_count(numbers);
-    let mut i = 0;
-    while i < n {
+    for i in 0..n {
         if !carries_own(numbers, names, i) {
             return false;
         }
-        i += 1;
     }
     true
 }

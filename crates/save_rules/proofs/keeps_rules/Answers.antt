@@ -1,6 +1,5 @@
 -- `save_rules::keeps_rules` meets its contract: what is asked, and what is known. Assumes nothing.
 use Rattle.save_rules.proofs.Rules.{kept}
-use borrow.Author.Rules.{rules}
 use Rattle.save_rules.proofs.keeps_rules.Goals as goal
 
 pub returns : goal.returns
