@@ -8,7 +8,7 @@ use lib.ListN.{length, drop, get_or, set, length-drop}
 use lib.Seq.{get_or-set_same, get_or-set_other, get_or-drop}
 use lib.Dec.{eqb, ltb}
 use borrow.Author.Tests.{eqb-true, eqb-false, ltb-true, ltb-false}
-use Rattle.meaning.specs.Octets.{place, any, same, four_at}
+use Rattle.meaning.specs.Octets.{place, any, same}
 use Rattle.meaning.specs.Lists.{by-test, same-eq, same_refl, same-flip, place-finds, place-skips}
 use Rattle.meaning.specs.Card.{Tree, Card, bare, named, tree_place}
 use Rattle.meaning_save.specs.Save.{once_each, same_name}
@@ -19,14 +19,6 @@ use Rattle.memory.proofs.Trees.{named-at}
 use Rattle.octets.proofs.Tab.{tab-get}
 use Rattle.save_rules_rows.proofs.RowRules.{place-once}
 use Rattle.save_tags.specs.Tags.{tag_of, Tagged, hint_count, hinted, Alone}
-
-pub tag-short : (a : List ℕ) (r : ℕ) → length a < 4 → r ≡ four_at a 0 → r ≡ tag_of a
-unfolding tag_of
-tag-short a r h e = let z : length a - 4 ≡ 0 = omega arith in rw z e
-
-pub tag-long : (a : List ℕ) (r : ℕ) → r ≡ four_at a (length a - 4) → r ≡ tag_of a
-unfolding tag_of
-tag-long a r e = e
 
 pub tagged-more : (tags os : List ℕ) (i v : ℕ) → Tagged tags i os → i < length tags → v ≡ tag_of (tree_name os i) → Tagged (set tags i v) (i + 1) os
 tagged-more tags os i v t h e j k =

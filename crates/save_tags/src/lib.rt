@@ -18,11 +18,7 @@ pub const HINT_COUNT: usize = 256;
 fn tag(name: &[u8]) -> u32
     ensures { result ≡ tag_of name.now }
 {
-    let n = name.len();
-    if n < 4 {
-        return octets::four_at(name, 0) as u32;
-    }
-    octets::four_at(name, n - 4) as u32
+    octets::four_at(name, name.len().saturating_sub(4)) as u32
 }
 
 // The tags of all trees' names.
@@ -31,10 +27,8 @@ pub fn tree_tags(numbers: &[u64], names: &[u8], tags: &mut [u32])
     ensures { Tagged tags.new (tree_count numbers.now) names.now }
 {
     let n = memory::tree_count(numbers);
-    let mut i = 0;
-    while i < n {
+    for i in 0..n {
         tags[i] = tag(memory_trees::tree_name(names, i));
-        i += 1;
     }
 }
 
@@ -43,10 +37,7 @@ fn is_named(names: &[u8], tags: &[u32], i: usize, t: u32, name: &[u8]) -> bool
     requires { Names names.now × (length tags.now ≡ tree_limit) × (i < tree_limit) × (get_or tags.now i 0 ≡ tag_of (tree_name names.now i)) × (t ≡ tag_of name.now) }
     ensures { result ≡ same (tree_name names.now i) name.now }
 {
-    if tags[i] != t {
-        return false;
-    }
-    octets::equal(memory_trees::tree_name(names, i), name)
+    tags[i] == t && octets::equal(memory_trees::tree_name(names, i), name)
 }
 
 // The place of the tree of that name, from place `from` on; the number of trees where it does not stand there.
@@ -57,12 +48,10 @@ pub fn tagged_from(numbers: &[u64], names: &[u8], tags: &[u32], from: usize, nam
 {
     let n = memory::tree_count(numbers);
     let t = tag(name);
-    let mut i = from;
-    while i < n {
+    for i in from..n {
         if is_named(names, tags, i, t, name) {
             return i;
         }
-        i += 1;
     }
     n
 }
@@ -80,11 +69,9 @@ pub fn tree_hints(numbers: &[u64], tags: &[u32], hints: &mut [u8])
     requires { Numbers numbers.now × (length tags.now ≡ tree_limit) × (length hints.old ≡ hint_count) }
 {
     let n = memory::tree_count(numbers);
-    let mut i = 0;
-    while i < n {
+    for i in 0..n {
         let k = hint_place(tags[i]);
         hints[k] = i as u8;
-        i += 1;
     }
 }
 
@@ -98,10 +85,8 @@ pub fn tagged_near(numbers: &[u64], names: &[u8], tags: &[u32], hints: &[u8], na
     let t = tag(name);
     let k = hint_place(t);
     let i = hints[k] as usize;
-    if i < memory::tree_count(numbers) {
-        if is_named(names, tags, i, t, name) {
-            return i;
-        }
+    if i < memory::tree_count(numbers) && is_named(names, tags, i, t, name) {
+        return i;
     }
     tagged_from(numbers, names, tags, 0, name)
 }
@@ -121,10 +106,8 @@ fn has_double(numbers: &[u64], names: &[u8], tags: &[u32], i: usize) -> bool
     ensures { (result ≡ true → once_each same_name (card_of numbers.now names.now).trees ≡ false) × (result ≡ false → Alone names.now (tree_count numbers.now) i) }
 {
     let name = memory_trees::tree_name(names, i);
-    if tagged_from(numbers, names, tags, 0, name) < i {
-        return true;
-    }
-    tagged_from(numbers, names, tags, i + 1, name) < memory::tree_count(numbers)
+    tagged_from(numbers, names, tags, 0, name) < i
+        || tagged_from(numbers, names, tags, i + 1, name) < memory::tree_count(numbers)
 }
 
 // Whether the tree at place i is told from the others: its hint names it, or no other has its name.
@@ -133,10 +116,7 @@ fn is_told(numbers: &[u64], names: &[u8], tags: &[u32], hints: &[u8], i: usize) 
     ensures { (result ≡ true → hinted tags.now hints.now i ≡ false → Alone names.now (tree_count numbers.now) i)
         × (result ≡ false → once_each same_name (card_of numbers.now names.now).trees ≡ false) }
 {
-    if is_hinted(tags, hints, i) {
-        return true;
-    }
-    !has_double(numbers, names, tags, i)
+    is_hinted(tags, hints, i) || !has_double(numbers, names, tags, i)
 }
 
 // No two trees have one name. Two that their hints name have two places in the hints, and so two tags: the name of any other is sought.
@@ -149,12 +129,10 @@ pub fn names_once(numbers: &[u64], names: &[u8]) -> bool
     let mut hints = [0u8; HINT_COUNT];
     tree_hints(numbers, &tags, &mut hints);
     let n = memory::tree_count(numbers);
-    let mut i = 0;
-    while i < n {
+    for i in 0..n {
         if !is_told(numbers, names, &tags, &hints, i) {
             return false;
         }
-        i += 1;
     }
     true
 }

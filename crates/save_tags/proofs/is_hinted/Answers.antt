@@ -4,7 +4,6 @@ use mathlib.Core.Path.{ap}
 use lib.ListN.{get_or}
 use lib.Dec.{eqb}
 use Rattle.save_tags.specs.Tags.{hinted}
-use borrow.Author.Rules.{rules}
 use Rattle.save_tags.proofs.is_hinted.Goals as goal
 
 pub overflow_cast-result : goal.overflow_cast-result

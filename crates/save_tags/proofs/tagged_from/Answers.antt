@@ -1,21 +1,14 @@
 -- `save_tags::tagged_from` meets its contract: a search, in which a tag that is another says that the name is. Assumes nothing.
-use Prim.Native.Nat.{◌+◌, ◌-◌, ◌≤◌}
 use native.Mathlib.Omega.{arith}
-use mathlib.Core.Path.{◌≡◌, refl, sym, ◌∙◌}
-use lib.ListN.{drop}
-use borrow.Author.Rules.{rules}
-use Rattle.meaning.specs.Octets.{place}
-use Rattle.meaning.specs.Card.{named}
-use Rattle.octets.specs.Part.{tab}
+use mathlib.Core.Path.{refl, sym, ◌∙◌}
 use Rattle.octets.proofs.Tab.{place-hit, place-miss, place_none}
-use Rattle.memory.specs.Memory.{card_of, tree_in}
 use Rattle.memory.proofs.Trees.{named-at}
 use Rattle.save_tags.proofs.Tags.{trees-from}
 use Rattle.save_tags.proofs.tagged_from.Goals as goal
 
 pub loop-i-init : goal.loop-i-init
 loop-i-init c =
-    (omega (arith, c.requires.4, c.tree_count-n.ensures.0), trees-from _ _ _ _ _ c.tree_count-n.ensures.0)
+    trees-from _ _ _ _ _ c.tree_count-n.ensures.0
 
 pub is_named-requires : goal.is_named-requires
 is_named-requires c =
@@ -26,13 +19,13 @@ is_named-requires c =
 pub returns-then-is_named : goal.returns-then-is_named
 returns-then-is_named c =
     let n = c.tree_count-n.ensures in
-    (sym (c.loop-i.invariant.1 ∙ place-hit _ _ _ _ c.loop-i-test.true (named-at _ _ _ _ _ refl ∙ sym c.is_named.ensures ∙ c.if-is_named.true)), omega (arith, n, c.loop-i-test.true), omega (arith, n, c.loop-i-test.true))
+    (sym (c.loop-i.invariant ∙ place-hit _ _ _ _ c.loop-i-test.true (named-at _ _ _ _ _ refl ∙ sym c.is_named.ensures ∙ c.if-is_named.true)), omega (arith, n, c.loop-i-test.true), omega (arith, n, c.loop-i-test.true))
 
 pub loop-i-preserved : goal.loop-i-preserved
 loop-i-preserved c =
-    (omega arith, c.loop-i.invariant.1 ∙ place-miss _ _ _ _ c.loop-i-test.true (named-at _ _ _ _ _ refl ∙ sym c.is_named.ensures ∙ c.if-is_named.false))
+    c.loop-i.invariant ∙ place-miss _ _ _ _ c.loop-i-test.true (named-at _ _ _ _ _ refl ∙ sym c.is_named.ensures ∙ c.if-is_named.false)
 
 pub returns : goal.returns
 returns c =
     let n = c.tree_count-n.ensures in
-    (sym (c.loop-i.invariant.1 ∙ place_none _ _ _ _ c.loop-i-test.false c.loop-i.invariant.0), omega (arith, n), omega (arith, n))
+    (sym (c.loop-i.invariant ∙ place_none _ _ _ _ c.loop-i-test.false (omega (arith, c.requires.4, n.0))), omega (arith, n), omega (arith, n))

@@ -1,7 +1,6 @@
 -- `save_tags::tagged_near` meets its contract: where no two trees have one name, whoever has it is the one. Assumes nothing.
 use native.Mathlib.Omega.{arith}
 use mathlib.Core.Path.{sym, ◌∙◌}
-use borrow.Author.Rules.{rules}
 use Rattle.save_tags.proofs.Tags.{from_front, named-there}
 use Rattle.save_tags.proofs.tagged_near.Goals as goal
 
