@@ -2,7 +2,7 @@
 // without zeros in the new one.
 #![tactic(auto)]
 
-ghost use Rattle.std.specs.Prelude.{◌≡◌, ◌+◌, ◌≤◌, length, take, replicate};
+ghost use Rattle.std.specs.Prelude.{◌≡◌, ◌+◌, ◌≤◌, length, take};
 ghost use Rattle.meaning.specs.Wire.{opaque_in, name_limit};
 ghost use Rattle.meaning_save.specs.Save.{old, form_of, padded, spaced, name_saved, name_most, is_short, spaced_name};
 ghost use Rattle.meaning_laws.specs.SaveFields.{name_size};
@@ -13,17 +13,7 @@ use meaning::{NAME_LIMIT, ROOT_LIMIT, SAVED_OPAQUE, SAVED_ROOT_SPACE, SPACED_NAM
 fn fitting(text: &[u8], room: usize) -> usize
     ensures { (result ≡ length (take room text.now)) × (result ≤ room) × (result ≤ length text.now) }
 {
-    if text.len() < room { text.len() } else { room }
-}
-
-fn clear(out: &mut [u8])
-    ensures { out.new ≡ replicate (length out.old) 0 }
-{
-    let mut i = 0;
-    while i < out.len() {
-        out[i] = 0;
-        i += 1;
-    }
+    text.len().min(room)
 }
 
 // A text and zeros behind it, all of which are written first: the room is known when compiled, the text is not. What goes beyond the room
@@ -32,7 +22,7 @@ fn put_padded(out: &mut [u8], room: usize, text: &[u8])
     requires { length out.old ≡ room }
     ensures { out.new ≡ padded room (take room text.now) }
 {
-    clear(out);
+    out.fill(0);
     let n = fitting(text, room);
     octets::copy_field(&mut out[0..n], &text[0..n]);
 }
@@ -63,13 +53,7 @@ fn opaque_of(name: &[u8]) -> &[u8]
 pub fn is_short(name: &[u8], second: bool) -> bool
     ensures { result ≡ is_short (form_of second) name.now }
 {
-    if second {
-        return true;
-    }
-    if name.len() <= 6 + SAVED_OPAQUE {
-        return true;
-    }
-    opaque_of(name).len() <= SAVED_OPAQUE
+    second || name.len() <= 6 + SAVED_OPAQUE || opaque_of(name).len() <= SAVED_OPAQUE
 }
 
 // How many octets a name takes.

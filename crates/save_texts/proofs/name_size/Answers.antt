@@ -1,5 +1,4 @@
 -- `save_texts::name_size` meets its contract, in either form. Assumes nothing.
-use borrow.Author.Rules.{rules}
 use Rattle.save_texts.proofs.Texts.{size-new, size-old}
 use Rattle.save_texts.proofs.name_size.Goals as goal
 

@@ -1,7 +1,6 @@
 -- `save_texts::opaque_of` meets its contract: what stands behind the opaque length field, if anything. Assumes nothing.
 use Rattle.save_texts.proofs.Texts.{opaque-none, opaque-all}
 use native.Mathlib.Omega.{arith}
-use borrow.Author.Rules.{rules}
 use Rattle.save_texts.proofs.opaque_of.Goals as goal
 
 pub returns-then-name-n : goal.returns-then-name-n

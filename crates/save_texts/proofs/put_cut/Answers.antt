@@ -1,6 +1,5 @@
 -- `save_texts::put_cut` meets its contract: two spaces, one behind the other, are the name. Assumes nothing.
 use Rattle.save_texts.proofs.Texts.{name-put}
-use borrow.Author.Rules.{rules}
 use Rattle.save_texts.proofs.put_cut.Goals as goal
 
 pub returns : goal.returns

@@ -1,5 +1,4 @@
 -- `save_texts::put_name` meets its contract, in either form: a text in a space of its own length, or two spaces. Assumes nothing.
-use borrow.Author.Rules.{rules}
 use native.Mathlib.Omega.{arith}
 use Rattle.save_texts.proofs.Texts.{name_new, name-old, room-new, room-old}
 use Rattle.save_texts.proofs.put_name.Goals as goal

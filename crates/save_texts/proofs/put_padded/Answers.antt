@@ -5,4 +5,4 @@ use Rattle.save_texts.proofs.put_padded.Goals as goal
 
 pub returns : goal.returns
 returns c =
-    padded-put c.args.out.now _ _ _ _ _ c.requires c.clear.ensures c.fitting-n.ensures.0 c.copy_field.ensures
+    padded-put c.args.out.now _ _ _ _ _ c.requires (c.fill.ensures.after (λ y h. search rules)) c.fitting-n.ensures.0 c.copy_field.ensures

@@ -1,6 +1,5 @@
 -- `save_texts::put_space` meets its contract: two parts of the output, one behind the other, are the space. Assumes nothing.
 use Rattle.save_texts.proofs.Texts.{space-put}
-use borrow.Author.Rules.{rules}
 use Rattle.save_texts.proofs.put_space.Goals as goal
 
 pub returns : goal.returns

@@ -1,7 +1,6 @@
 -- `save_texts::put_spaces` meets its contract: the two parts of a whole name are its root and its opaque value. Assumes nothing.
 use Rattle.wire_name.proofs.Name.{root-all}
 use Rattle.save_texts.proofs.Texts.{name-put, opaque-all}
-use borrow.Author.Rules.{rules}
 use Rattle.save_texts.proofs.put_spaces.Goals as goal
 
 pub returns : goal.returns
