@@ -1,5 +1,6 @@
 // The numbers in which the two forms of a save differ: the kinds of three records, and the size of the head. Throughout, `second` says that
 // the form is the new one.
+// Kept: a flag and no enum, since the calls for C pass it and the definitions speak of it (form_of).
 #![tactic(auto)]
 
 ghost use Rattle.std.specs.Prelude.{◌≡◌, ◌≤◌};
