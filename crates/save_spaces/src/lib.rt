@@ -22,12 +22,10 @@ fn trees_short(numbers: &[u64], names: &[u8], second: bool) -> bool
     ensures { result ≡ all (is_short_tree (form_of second)) (card_of numbers.now names.now).trees }
 {
     let n = memory::tree_count(numbers);
-    let mut i = 0;
-    while i < n {
+    for i in 0..n {
         if !is_short_tree(numbers, names, second, i) {
             return false;
         }
-        i += 1;
     }
     true
 }
@@ -36,22 +34,18 @@ fn is_short_use(numbers: &[u64], names: &[u8], second: bool, p: usize) -> bool
     requires { Numbers numbers.now × Names names.now × (p < label_count) }
     ensures { result ≡ is_short_use (form_of second) (label_in numbers.now names.now p) }
 {
-    if memory_labels::is_free(numbers, p) {
-        return true;
-    }
-    save_texts::is_short(memory_labels::label_name(names, p), second)
+    memory_labels::is_free(numbers, p)
+        || save_texts::is_short(memory_labels::label_name(names, p), second)
 }
 
 fn uses_short(numbers: &[u64], names: &[u8], second: bool) -> bool
     requires { Numbers numbers.now × Names names.now }
     ensures { result ≡ all (is_short_use (form_of second)) (card_of numbers.now names.now).labels }
 {
-    let mut p = 0;
-    while p < LABEL_COUNT {
+    for p in 0..LABEL_COUNT {
         if !is_short_use(numbers, names, second, p) {
             return false;
         }
-        p += 1;
     }
     true
 }
@@ -60,8 +54,5 @@ pub fn fits_save(numbers: &[u64], names: &[u8], second: bool) -> bool
     requires { Numbers numbers.now × Names names.now }
     ensures { result ≡ fits_save (form_of second) (card_of numbers.now names.now) }
 {
-    if trees_short(numbers, names, second) {
-        return uses_short(numbers, names, second);
-    }
-    false
+    trees_short(numbers, names, second) && uses_short(numbers, names, second)
 }

@@ -1,5 +1,4 @@
 use mathlib.Core.Path.{ap, ◌∙◌}
-use borrow.Author.Rules.{rules}
 use Rattle.meaning_save.specs.Save.{is_short, is_short_tree}
 use Rattle.save_spaces.proofs.is_short_tree.Goals as goal
 

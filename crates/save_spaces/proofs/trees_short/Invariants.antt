@@ -1,18 +1,9 @@
-use Prim.Native.Nat.{◌-◌, ◌≤◌}
-use native.Mathlib.Omega.{arith}
-use mathlib.Core.Path.{◌≡◌, refl, sym, ◌∙◌}
+use mathlib.Core.Path.{◌≡◌}
 use lib.ListN.{drop}
 use Rattle.meaning.specs.Octets.{all}
 use Rattle.meaning_save.specs.Save.{form_of, is_short_tree}
 use Rattle.memory.specs.Memory.{card_of}
-use Rattle.save_rules_rows.proofs.RowRules.{all-hit, all-miss, all_none, tree-there, trees-end}
-use borrow.Author.Rules.{rules}
-use mathlib.Core.Path.{ap}
-use mathlib.Core.Bool.{not}
 use Rattle.save_spaces.proofs.trees_short.Given as goal
 
 abbrev pub invariant-loop-i : goal.invariant-loop-i
-invariant-loop-i l = (l.i ≤ l.n) × (all (is_short_tree (form_of l.second)) (card_of l.numbers l.names).trees ≡ all (is_short_tree (form_of l.second)) (drop l.i (card_of l.numbers l.names).trees))
-
-abbrev pub decreases-loop-i : goal.decreases-loop-i
-decreases-loop-i l = l.n - l.i
+invariant-loop-i l = all (is_short_tree (form_of l.second)) (card_of l.numbers l.names).trees ≡ all (is_short_tree (form_of l.second)) (drop l.i (card_of l.numbers l.names).trees)
