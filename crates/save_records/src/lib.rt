@@ -101,12 +101,10 @@ fn put_fours(numbers: &[u64], i: usize, out: &mut [u8])
     requires { Numbers numbers.now × (length out.old ≡ 4 * neighbour_count) × StandsAt numbers.now i }
     ensures { (os : List ℕ) → out.new ≡ fours_of (tree_at i (card_of numbers.now os)).branches }
 {
-    let mut k = 0;
-    while k < NEIGHBOUR_COUNT {
+    for k in 0..NEIGHBOUR_COUNT {
         let a = k * 4;
         let e = a + 4;
         put_four(&mut out[a..e], memory_trees::branch(numbers, i, k));
-        k += 1;
     }
 }
 
@@ -114,11 +112,7 @@ fn leaf_octet(numbers: &[u64], i: usize) -> u8
     requires { Numbers numbers.now × StandsAt numbers.now i }
     ensures { (os : List ℕ) → result ≡ pick (tree_at i (card_of numbers.now os)).leaf 1 0 }
 {
-    if memory_trees::is_leaf(numbers, i) {
-        1
-    } else {
-        0
-    }
+    u8::from(memory_trees::is_leaf(numbers, i))
 }
 
 // The mark, the kind and the name.
@@ -184,24 +178,12 @@ pub fn put_use_record(numbers: &[u64], names: &[u8], second: bool, p: usize, out
     ensures { out.new ≡ use_saved (form_of second) (base_in numbers.now + p) (label_in numbers.now names.now p) }
 {
     let label = memory::base(numbers) + p as u64;
+    let name = memory_labels::label_name(names, p);
     let n = memory_labels::mapped_at(numbers, p);
     if n == NOBODY {
-        put_state(
-            out,
-            second,
-            label,
-            2,
-            memory_labels::awaited_at(numbers, p),
-            memory_labels::label_name(names, p),
-        );
+        let awaited = memory_labels::awaited_at(numbers, p);
+        put_state(out, second, label, 2, awaited, name);
     } else {
-        put_state(
-            out,
-            second,
-            label,
-            1,
-            n,
-            memory_labels::label_name(names, p),
-        );
+        put_state(out, second, label, 1, n, name);
     }
 }

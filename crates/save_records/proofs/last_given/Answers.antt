@@ -1,5 +1,4 @@
 use Rattle.save_records.proofs.Records.{last_none, last_some}
-use borrow.Author.Rules.{rules}
 use Rattle.save_records.proofs.last_given.Goals as goal
 
 pub returns-then-v-eq0 : goal.returns-then-v-eq0

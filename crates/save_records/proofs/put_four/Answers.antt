@@ -1,6 +1,5 @@
 -- `save_records::put_four` meets its contract: the octets of the array are those of the definition. Assumes nothing.
 use Rattle.meaning.specs.Octets.{four}
-use borrow.Author.Rules.{rules}
 use Rattle.save_records.proofs.put_four.Goals as goal
 
 pub returns : goal.returns

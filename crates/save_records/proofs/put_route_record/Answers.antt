@@ -1,7 +1,6 @@
 -- `save_records::put_route_record` meets its contract: four octets and a space are the route. Assumes nothing.
 use Rattle.memory.specs.Memory.{entry_in, route_in}
 use Rattle.save_records.proofs.Records.{route-put}
-use borrow.Author.Rules.{rules}
 use Rattle.save_records.proofs.put_route_record.Goals as goal
 
 pub returns : goal.returns

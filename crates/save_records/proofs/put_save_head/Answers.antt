@@ -2,7 +2,6 @@ use Rattle.meaning_save.specs.Save.{marked}
 use Rattle.meaning.specs.Octets.{two, four}
 use mathlib.Core.Path.{◌∙◌}
 use Rattle.save_records.proofs.Records.{head-is}
-use borrow.Author.Rules.{rules}
 use Rattle.save_records.proofs.put_save_head.Goals as goal
 
 pub returns : goal.returns

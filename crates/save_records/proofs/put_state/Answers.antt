@@ -4,7 +4,6 @@ use mathlib.Core.List.{[], ◌∷◌, ◌++◌}
 use Prim.Native.Nat.{ℕ}
 use mathlib.Core.Path.{refl, ap, ◌∙◌}
 use Rattle.save_records.proofs.Records.{state-put}
-use borrow.Author.Rules.{rules}
 use Rattle.save_records.proofs.put_state.Goals as goal
 
 pub returns : goal.returns

@@ -2,7 +2,6 @@ use mathlib.Core.List.{[], ◌∷◌}
 use Prim.Native.Nat.{ℕ}
 use mathlib.Core.Path.{refl, ap, ◌∙◌}
 use Rattle.save_records.proofs.Records.{tree-name-put}
-use borrow.Author.Rules.{rules}
 use Rattle.save_records.proofs.put_tree_name.Goals as goal
 
 pub returns : goal.returns

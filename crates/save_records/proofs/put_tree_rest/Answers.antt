@@ -2,7 +2,6 @@ use Rattle.memory.proofs.Trees.{branches-length}
 use Rattle.memory.specs.Memory.{card_of}
 use Rattle.meaning.specs.Card.{tree_at}
 use Rattle.save_records.proofs.Records.{tree-rest-put}
-use borrow.Author.Rules.{rules}
 use Rattle.save_records.proofs.put_tree_rest.Goals as goal
 
 pub returns : goal.returns
