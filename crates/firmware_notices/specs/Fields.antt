@@ -1,14 +1,11 @@
--- What `read_notice` says, as C gets it: a number and five fields. Assumes nothing.
+-- What a record says, as C gets it: five fields. Assumes nothing.
 use Rattle.std.specs.Prelude.{ℕ, List, [], ◌∷◌}
-use Rattle.notice_reader.specs.declared.Read.{Read}
-use Rattle.notice_reader.specs.declared.Read.TheVariants.{Refused, Says}
-
--- the refusal's number, or 0
-unfoldable pub answer_of : Read → ℕ
-answer_of (Refused number) = number
-answer_of (Says neighbour id status copied_id copied_type) = 0
+use Rattle.std.specs.declared.result.Result.{Result}
+use Rattle.std.specs.declared.result.Result.TheVariants.{Ok, Err}
+use Rattle.refusals.specs.declared.Refusal.{Refusal}
+use Rattle.notice_reader.specs.declared.Notice.{Notice}
 
 -- what the record says; refused octets leave the fields as they were
-unfoldable pub fields_of : Read → List ℕ → List ℕ
-fields_of (Refused number) before = before
-fields_of (Says neighbour id status copied_id copied_type) before = neighbour ∷ id ∷ status ∷ copied_id ∷ copied_type ∷ []
+unfoldable pub fields_of : Result Notice Refusal → List ℕ → List ℕ
+fields_of (Ok n) before = n.neighbour ∷ n.id ∷ n.status ∷ n.copied_id ∷ n.copied_type ∷ []
+fields_of (Err _) before = before

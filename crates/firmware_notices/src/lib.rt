@@ -7,10 +7,10 @@ ghost use Rattle.meaning.specs.Notice.{notice};
 ghost use Rattle.meaning.specs.Calls.{Does};
 ghost use Rattle.memory.specs.Memory.{card_of};
 ghost use Rattle.notice_reader.specs.Read.{read_of};
-ghost use Rattle.firmware_notices.specs.Fields.{answer_of, fields_of};
+ghost use Rattle.refusals.specs.Refusals.{answer_of};
+ghost use Rattle.firmware_notices.specs.Fields.{fields_of};
 
 use memory::NUMBER_COUNT;
-use notice_reader::Read;
 
 pub fn card_notice(
     numbers: &mut [u64; NUMBER_COUNT],
@@ -29,18 +29,17 @@ pub fn card_notice(
 pub fn card_read_notice(octets: &[u8], fields: &mut [u32; 5]) -> u32
     ensures { (result ≡ answer_of (read_of octets.now)) × (fields.new ≡ fields_of (read_of octets.now) fields.old) }
 {
-    let read = notice_reader::read_notice(octets);
-    match read {
-        Read::Refused(number) => number,
-        Read::Says {
-            neighbour,
-            id,
-            status,
-            copied_id,
-            copied_type,
-        } => {
-            *fields = [neighbour, id, status, copied_id, copied_type];
+    match notice_reader::read_notice(octets) {
+        Ok(notice) => {
+            *fields = [
+                notice.neighbour,
+                notice.id,
+                notice.status,
+                notice.copied_id,
+                notice.copied_type,
+            ];
             0
         }
+        Err(refusal) => refusal.number(),
     }
 }

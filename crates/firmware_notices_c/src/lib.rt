@@ -6,7 +6,8 @@ ghost use Rattle.meaning.specs.Notice.{notice};
 ghost use Rattle.meaning.specs.Calls.{Does};
 ghost use Rattle.memory.specs.Memory.{card_of};
 ghost use Rattle.notice_reader.specs.Read.{read_of};
-ghost use Rattle.firmware_notices.specs.Fields.{answer_of, fields_of};
+ghost use Rattle.refusals.specs.Refusals.{answer_of};
+ghost use Rattle.firmware_notices.specs.Fields.{fields_of};
 
 use memory::NUMBER_COUNT;
 

@@ -8,8 +8,12 @@ use lib.Dec.{eqb, ltb}
 use borrow.Author.Tests.{eq-eqb, ne_eqb, le-leb, lt-leb}
 use Rattle.meaning.specs.Octets.{two_at, four_at, ◌when◌else◌}
 use Rattle.meaning.specs.Notice.{is_status, status_code, notice_in, is_framed, is_told, notice_refusal}
-use Rattle.notice_reader.specs.Read.{read_of}
-use Rattle.notice_reader.specs.declared.Read.TheVariants.{Refused, Says}
+use Rattle.meaning.specs.Lists.{by-test}
+use Rattle.std.specs.Prelude.{◌&&◌}
+use Rattle.std.specs.declared.result.Result.TheVariants.{Ok, Err}
+use Rattle.refusals.specs.Refusals.{answer_of}
+use Rattle.refusals.specs.declared.Refusal.TheVariants.{BadNotice}
+use Rattle.notice_reader.specs.Read.{said, read_of}
 use Rattle.notice_status.proofs.Status.{heeded}
 
 -- ---- reading: the frame
@@ -68,15 +72,19 @@ module _ (o : List ℕ) (code : ℕ) (ec : code ≡ four_at o 16) where
 -- ---- reading: the answer
 
 module _ (o : List ℕ) where
-  pub reads-refused : is_framed o ≡ false → Refused 21 ≡ read_of o
+  pub reads-refused : is_framed o ≡ false → Err BadNotice ≡ read_of o
   unfolding read_of notice_refusal ◌when◌else◌
   reads-refused e = rw e refl
 
-  pub reads-untold : is_framed o ≡ true → is_told o ≡ false → Refused 21 ≡ read_of o
+  pub reads-untold : is_framed o ≡ true → is_told o ≡ false → Err BadNotice ≡ read_of o
   unfolding read_of notice_refusal ◌when◌else◌
   reads-untold e h = rw (e, h) refl
 
-  pub reads-says : is_framed o ≡ true → is_told o ≡ true → (a b c d e : ℕ) → a ≡ two_at o 2 → b ≡ four_at o 8 → c ≡ four_at o 16 → d ≡ four_at o 20 → e ≡ two_at o 24
-      → Says a b (c % 0x40000000) d e ≡ read_of o
-  unfolding read_of notice_refusal ◌when◌else◌ notice_in
-  reads-says h k a b c d e p q r s t = rw (h, k, p, q, r, s, t) refl
+  pub reads-said : is_framed o ≡ true → is_told o ≡ true → Ok (said (notice_in o)) ≡ read_of o
+  unfolding read_of notice_refusal ◌when◌else◌
+  reads-said h k = rw (h, k) refl
+
+  -- the number of the refusal is the definition's, and 0 where there is none
+  pub refused_by : answer_of (read_of o) ≡ notice_refusal o
+  unfolding read_of notice_refusal ◌when◌else◌
+  refused_by = by-test (is_framed o && is_told o) (λ e. rw e refl) (λ e. rw e refl)

@@ -5,17 +5,16 @@ ghost use Rattle.std.specs.Prelude.{◌≡◌, ◌<◌};
 ghost use Rattle.meaning.specs.Notice.{is_framed, is_told};
 ghost use Rattle.notice_reader.specs.Read.{read_of};
 
-// The refusal's number; or what the record says.
+use refusals::Refusal;
+
+// What a record says.
 #[derive(Clone, Copy)]
-pub enum Read {
-    Refused(u32),
-    Says {
-        neighbour: u32,
-        id: u32,
-        status: u32,
-        copied_id: u32,
-        copied_type: u32,
-    },
+pub struct Notice {
+    pub neighbour: u32,
+    pub id: u32,
+    pub status: u32,
+    pub copied_id: u32,
+    pub copied_type: u32,
 }
 
 // Whether the length, the mark, the neighbour and the two heads are those of a record.
@@ -61,19 +60,17 @@ fn is_told(octets: &[u8]) -> bool
     false
 }
 
-pub fn read_notice(octets: &[u8]) -> Read
+pub fn read_notice(octets: &[u8]) -> Result<Notice, Refusal>
     ensures { result ≡ read_of octets.now }
 {
-    if is_framed(octets) {
-        if is_told(octets) {
-            return Read::Says {
-                neighbour: octets::two_at(octets, 2) as u32,
-                id: octets::four_at(octets, 8) as u32,
-                status: (octets::four_at(octets, 16) % 0x40000000) as u32,
-                copied_id: octets::four_at(octets, 20) as u32,
-                copied_type: octets::two_at(octets, 24) as u32,
-            };
-        }
+    if !is_framed(octets) || !is_told(octets) {
+        return Err(Refusal::BadNotice);
     }
-    Read::Refused(21)
+    Ok(Notice {
+        neighbour: octets::two_at(octets, 2) as u32,
+        id: octets::four_at(octets, 8) as u32,
+        status: (octets::four_at(octets, 16) % 0x40000000) as u32,
+        copied_id: octets::four_at(octets, 20) as u32,
+        copied_type: octets::two_at(octets, 24) as u32,
+    })
 }
