@@ -1,6 +1,5 @@
 -- `notice_writer::next_of` meets its contract: the counter's step. Assumes nothing.
 use mathlib.Core.Path.{ap}
-use borrow.Author.Rules.{rules}
 use Rattle.wire_writer.specs.declared.Counter.{Counter}
 use Rattle.notice_writer.proofs.next_of.Goals as goal
 

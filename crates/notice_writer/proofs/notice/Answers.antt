@@ -2,7 +2,6 @@
 use mathlib.Core.Path.{refl}
 use mathlib.Core.List.{[]}
 use Rattle.meaning_laws.specs.Handed.{handed, handed-count}
-use borrow.Author.Rules.{rules}
 use Rattle.notice_writer.proofs.notice.Goals as goal
 
 pub slice_bounds-result-end : goal.slice_bounds-result-end
