@@ -22,7 +22,7 @@ pub fn set_leaf(numbers: &mut [u64], i: usize, leaf: bool)
     ensures { (os : List ℕ) → (let c = card_of numbers.old os in card_of numbers.new os
         ≡ with_trees (set c.trees i (with_leaf leaf (tree_at i c))) c) }
 {
-    numbers[ROW_COLUMN + i * ROW_WIDTH] = if leaf { 1 } else { 0 };
+    numbers[ROW_COLUMN + i * ROW_WIDTH] = u64::from(leaf);
 }
 
 // The label that the tree carries awaits release from now on, and the tree carries none: a label that is not mapped has no carrier.

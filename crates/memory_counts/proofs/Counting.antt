@@ -48,7 +48,7 @@ module _ (ns os : List ℕ) (i : ℕ) (h : i < tree_count ns) where
 -- ---- what one tree counts
 
 module _ (t : Tree) where
-  abbrev Counted : ℕ → ℕ → Type 0
+  abbrev pub Counted : ℕ → ℕ → Type 0
   Counted standing lone = (standing ≡ one_standing t) × (lone ≡ one_lone t)
 
   pub with-leaf : true ≡ t.leaf → Counted 1 0

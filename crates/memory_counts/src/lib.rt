@@ -25,10 +25,8 @@ pub fn is_empty(numbers: &[u64], i: usize) -> bool
     requires { Numbers numbers.now × StandsAt numbers.now i }
     ensures { (os : List ℕ) → result ≡ is_empty (tree_at i (card_of numbers.now os)) }
 {
-    if memory_trees::is_leaf(numbers, i) {
-        return false;
-    }
-    !memory_trees::any_branch(numbers, i, NO_NEIGHBOUR, 0, NO_NEIGHBOUR)
+    !memory_trees::is_leaf(numbers, i)
+        && !memory_trees::any_branch(numbers, i, NO_NEIGHBOUR, 0, NO_NEIGHBOUR)
 }
 
 // What a tree counts that has so many branches, and a leaf or none.
@@ -36,27 +34,9 @@ fn counts_of(leaf: bool, branches: u64) -> Counts
     ensures { ((t : Tree) → leaf ≡ t.leaf → branches ≡ count is_branch t.branches → (result.standing ≡ one_standing t) × (result.lone ≡ one_lone t))
         × (result.standing ≤ 1) × (result.lone ≤ 1) }
 {
-    if leaf {
-        return Counts {
-            standing: 1,
-            lone: 0,
-        };
-    }
-    if branches == 0 {
-        return Counts {
-            standing: 0,
-            lone: 0,
-        };
-    }
-    if branches == 1 {
-        return Counts {
-            standing: 1,
-            lone: 1,
-        };
-    }
     Counts {
-        standing: 1,
-        lone: 0,
+        standing: u64::from(leaf || branches != 0),
+        lone: u64::from(!leaf && branches == 1),
     }
 }
 
@@ -198,10 +178,7 @@ fn may_be_of(names: &[u8], i: usize, root: &[u8]) -> bool
     ensures { result ≡ false → same (root_in (tree_name names.now i)) root.now ≡ false }
 {
     let n = root.len();
-    if n < 4 {
-        return true;
-    }
-    if ROOT_LIMIT < n {
+    if n < 4 || ROOT_LIMIT < n {
         return true;
     }
     octets::equal_four(names, i * NAME_SPACE + n + 1, root, n - 4)
@@ -211,10 +188,8 @@ pub fn is_of_root(names: &[u8], i: usize, root: &[u8]) -> bool
     requires { Names names.now × (i < tree_limit) }
     ensures { (ns : List ℕ) → i < tree_count ns → result ≡ of_root root.now (tree_at i (card_of ns names.now)) }
 {
-    if may_be_of(names, i, root) {
-        return octets::equal(wire_name::root_of(memory_trees::tree_name(names, i)), root);
-    }
-    false
+    may_be_of(names, i, root)
+        && octets::equal(wire_name::root_of(memory_trees::tree_name(names, i)), root)
 }
 
 // The counts of a root, worked out.
@@ -226,14 +201,12 @@ pub fn work_out(numbers: &[u64], names: &[u8], root: &[u8]) -> Counts
     let k = memory::tree_count(numbers);
     let mut standing = 0;
     let mut lone = 0;
-    let mut i = 0;
-    while i < k {
+    for i in 0..k {
         if is_of_root(names, i, root) {
             let t = counts_at(numbers, i);
             standing += t.standing;
             lone += t.lone;
         }
-        i += 1;
     }
     Counts { standing, lone }
 }

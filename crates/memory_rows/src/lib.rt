@@ -58,10 +58,8 @@ fn lower_behind(numbers: &mut [u64], i: usize, n: usize)
     requires { Numbers numbers.old × (i < n) × (n ≤ tree_limit) }
     ensures { Lowered i (n - 1) numbers.old numbers.new }
 {
-    let mut j = i;
-    while j + 1 < n {
+    for j in i..n - 1 {
         lower_one(numbers, j);
-        j += 1;
     }
 }
 
@@ -80,10 +78,8 @@ fn lower_names(names: &mut [u8], i: usize, n: usize)
     requires { Names names.old × (i < n) × (n ≤ tree_limit) }
     ensures { NamesLowered i (n - 1) names.old names.new }
 {
-    let mut j = i;
-    while j + 1 < n {
+    for j in i..n - 1 {
         lower_name(names, j);
-        j += 1;
     }
 }
 

@@ -1,7 +1,6 @@
 use native.Mathlib.Omega.{arith}
 use mathlib.Core.List.{[]}
 use Rattle.memory.proofs.Trees.{label-carried, own-inside, ends}
-use borrow.Author.Rules.{rules}
 use Rattle.memory_changes.proofs.end_label.Goals as goal
 
 pub overflow_add-k-2 : goal.overflow_add-k-2

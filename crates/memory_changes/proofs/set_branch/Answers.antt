@@ -1,4 +1,3 @@
-use borrow.Author.Rules.{rules}
 use Rattle.memory.proofs.Trees.{set-branch}
 use Rattle.memory_changes.proofs.set_branch.Goals as goal
 

@@ -1,7 +1,6 @@
 use native.Mathlib.Omega.{arith}
 use mathlib.Core.Path.{sym}
 use Rattle.meaning_laws.specs.Counts.{changed-round}
-use borrow.Author.Rules.{rules}
 use Rattle.memory_counts.proofs.change.Goals as goal
 
 pub returns : goal.returns

@@ -7,7 +7,6 @@ use Rattle.memory.specs.Memory.{card_of}
 use Rattle.memory.proofs.Trees.{branches-length}
 use Rattle.memory_trees.proofs.Others.{one-within}
 use Rattle.memory_counts.proofs.Counting.{count-then, place_kept}
-use borrow.Author.Rules.{rules}
 use Rattle.memory_counts.proofs.change_branch.Goals as goal
 
 pub overflow_sub-others : goal.overflow_sub-others

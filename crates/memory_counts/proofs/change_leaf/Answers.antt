@@ -3,7 +3,6 @@ use Rattle.meaning.specs.Card.{tree_at, with_leaf}
 use Rattle.meaning.specs.Events.{recounted}
 use Rattle.memory.specs.Memory.{card_of}
 use Rattle.memory_counts.proofs.Counting.{place_kept}
-use borrow.Author.Rules.{rules}
 use Rattle.memory_counts.proofs.change_leaf.Goals as goal
 
 pub returns : goal.returns

@@ -5,7 +5,6 @@ use Rattle.meaning.specs.Events.{recounted}
 use Rattle.memory.specs.Memory.{card_of}
 use Rattle.memory.proofs.Trees.{branches-length}
 use Rattle.memory_counts.proofs.Counting.{count-first, place_kept, with_none, with-one}
-use borrow.Author.Rules.{rules}
 use Rattle.memory_counts.proofs.first_branch.Goals as goal
 
 pub returns : goal.returns

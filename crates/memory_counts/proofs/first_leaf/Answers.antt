@@ -4,7 +4,6 @@ use Rattle.meaning.specs.Card.{tree_at, with_leaf}
 use Rattle.meaning.specs.Events.{recounted}
 use Rattle.memory.specs.Memory.{card_of}
 use Rattle.memory_counts.proofs.Counting.{place_kept, with_none, with-leaf}
-use borrow.Author.Rules.{rules}
 use Rattle.memory_counts.proofs.first_leaf.Goals as goal
 
 pub returns : goal.returns

@@ -1,4 +1,3 @@
-use borrow.Author.Rules.{rules}
 use Rattle.memory_counts.proofs.its_root.Goals as goal
 
 pub returns : goal.returns

@@ -2,17 +2,9 @@ use Prim.Native.Nat.{◌+◌, ◌*◌}
 use native.Mathlib.Omega.{arith}
 use mathlib.Core.Path.{refl, sym, ◌∙◌}
 use lib.ListN.{length}
-use borrow.Author.Rules.{rules}
 use Rattle.memory.specs.Sizes.{name_space}
 use Rattle.memory_counts.proofs.Counting.{may-not-of}
-use Rattle.meaning.specs.Lists.{never}
 use Rattle.memory_counts.proofs.may_be_of.Goals as goal
-
-pub returns-then-n-lt4 : goal.returns-then-n-lt4
-returns-then-n-lt4 c = λ z. absurd (never (sym z))
-
-pub returns-then-n-gt-ROOT_LIMIT : goal.returns-then-n-gt-ROOT_LIMIT
-returns-then-n-gt-ROOT_LIMIT c = λ z. absurd (never (sym z))
 
 pub returns : goal.returns
 returns c =

@@ -1,7 +1,6 @@
 use native.Mathlib.Omega.{arith}
 use Rattle.memory.proofs.Memory.{routes-length}
 use Rattle.memory_counts.proofs.Counting.{counted-there, counted-nowhere}
-use borrow.Author.Rules.{rules}
 use Rattle.memory_counts.proofs.recount.Goals as goal
 
 pub returns-then-k-route_count : goal.returns-then-k-route_count

@@ -1,5 +1,4 @@
 use Rattle.memory.proofs.Parts.{placed}
-use borrow.Author.Rules.{rules}
 use Rattle.memory_rows.proofs.enter_tree.Goals as goal
 
 pub returns : goal.returns

@@ -1,5 +1,4 @@
 use Rattle.memory_rows.proofs.Lower.{name-lowered}
-use borrow.Author.Rules.{rules}
 use Rattle.memory_rows.proofs.lower_name.Goals as goal
 
 pub returns : goal.returns

@@ -1,7 +1,6 @@
 use native.Mathlib.Omega.{arith}
 use mathlib.Core.Path.{sym, ◌∙◌}
 use Rattle.memory_rows.proofs.Lower.{own-inside, own-named, lower-carried, lower-cleared}
-use borrow.Author.Rules.{rules}
 use Rattle.memory_rows.proofs.lower_one.Goals as goal
 
 pub overflow_add-k-then-own_counts : goal.overflow_add-k-then-own_counts

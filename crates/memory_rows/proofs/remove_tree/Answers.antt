@@ -2,7 +2,6 @@ use native.Mathlib.Omega.{arith}
 use mathlib.Core.Path.{◌∙◌}
 use lib.ListN.{length-set}
 use Rattle.memory_rows.proofs.Rows.{remove-tree}
-use borrow.Author.Rules.{rules}
 use Rattle.memory_rows.proofs.remove_tree.Goals as goal
 
 pub shape_of-numbers : goal.shape_of-numbers

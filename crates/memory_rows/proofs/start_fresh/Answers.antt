@@ -1,7 +1,6 @@
 use native.Mathlib.Omega.{arith}
 use lib.ListN.{length-set}
 use Rattle.memory_rows.proofs.Rows.{start-fresh}
-use borrow.Author.Rules.{rules}
 use Rattle.memory_rows.proofs.start_fresh.Goals as goal
 
 pub bounds-numbers-3 : goal.bounds-numbers-3
