@@ -33,11 +33,8 @@ pub fn end_branches(numbers: &mut [u64], names: &[u8], n: usize)
     ensures { let c = card_of numbers.old names.now in card_of numbers.new names.now
         ≡ with_routes (recounted_without n c.trees c.routes) (with_trees (branches_without n c.trees) c) }
 {
-    let k = memory::tree_count(numbers);
-    let mut i = 0;
-    while i < k {
+    for i in 0..memory::tree_count(numbers) {
         end_branch(numbers, names, i, n);
-        i += 1;
     }
 }
 
@@ -52,10 +49,7 @@ fn is_of(numbers: &[u64], p: usize, n: u64) -> bool
         return false;
     }
     let u = numbers[MARK_COLUMN + p] % 256;
-    if u == n {
-        return true;
-    }
-    u == NEIGHBOURS + n
+    u == n || u == NEIGHBOURS + n
 }
 
 fn free_one(numbers: &mut [u64], p: usize, n: u64)
@@ -84,11 +78,8 @@ fn free_word(numbers: &mut [u64], w: usize, n: u64)
     if is_whole(numbers, w) {
         return;
     }
-    let end = w * 64 + 64;
-    let mut p = w * 64;
-    while p < end {
+    for p in w * 64..w * 64 + 64 {
         free_one(numbers, p, n);
-        p += 1;
     }
 }
 
@@ -98,10 +89,8 @@ pub fn free_labels(numbers: &mut [u64], n: u64)
     ensures { (os : List ℕ) → (let c = card_of numbers.old os in card_of numbers.new os
         ≡ with_trees (labels_without n c c.trees) (with_labels (uses_without n c.labels) c)) }
 {
-    let mut w = 0;
-    while w < LABEL_COUNT / 64 {
+    for w in 0..LABEL_COUNT / 64 {
         free_word(numbers, w, n);
-        w += 1;
     }
 }
 
@@ -124,9 +113,7 @@ pub fn end_routes(numbers: &mut [u64], names: &mut [u8], n: u64)
     requires { Numbers numbers.old × Names names.old }
     ensures { let c = card_of numbers.old names.old in card_of numbers.new names.new ≡ with_routes (routes_without n c.routes) c }
 {
-    let mut k = memory::route_count(numbers);
-    while 0 < k {
-        k -= 1;
+    for k in (0..memory::route_count(numbers)).rev() {
         end_route(numbers, names, k, n);
     }
 }

@@ -1,4 +1,3 @@
-use borrow.Author.Rules.{rules}
 use mathlib.Core.Path.{sym, ◌∙◌}
 use Rattle.memory.specs.Memory.{card_of}
 use Rattle.event_parted.proofs.Branches.{none-there}

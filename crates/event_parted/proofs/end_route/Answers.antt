@@ -1,5 +1,4 @@
 use Rattle.event_parted.proofs.Routes.{less-gone, less-stays}
-use borrow.Author.Rules.{rules}
 use Rattle.event_parted.proofs.end_route.Goals as goal
 
 pub returns-then-route_via-n : goal.returns-then-route_via-n

@@ -1,24 +1,16 @@
 use native.Mathlib.Omega.{arith}
-use mathlib.Core.Path.{◌≡◌, refl, ◌∙◌}
-use lib.ListN.{length}
+use mathlib.Core.Path.{refl, ◌∙◌}
 use Rattle.memory.proofs.Memory.{route_count-le}
-use Rattle.event_parted.proofs.Routes.{Going, going-none, going_more, going-all}
-use borrow.Author.Rules.{rules}
+use Rattle.event_parted.proofs.Routes.{going-none, going_more, going-all}
 use Rattle.event_parted.proofs.end_routes.Goals as goal
 
 pub loop-k-init : goal.loop-k-init
 loop-k-init c = (refl, refl, going-none _ _ _ _ c.route_count-k.ensures.0)
 
-pub overflow_sub-k : goal.overflow_sub-k
-overflow_sub-k c = omega arith
-
 pub end_route-requires : goal.end_route-requires
 end_route-requires c =
     let v = c.loop-k.invariant in
     (v.0 ∙ c.requires.0, v.1 ∙ c.requires.1, omega (arith, v.2.0), omega (arith, v.2.0, route_count-le c.loop-k.numbers))
-
-pub loop-k-smaller : goal.loop-k-smaller
-loop-k-smaller c = omega arith
 
 pub loop-k-preserved : goal.loop-k-preserved
 loop-k-preserved c =

@@ -1,6 +1,5 @@
 use mathlib.Core.Path.{sym, ◌∙◌}
 use Rattle.event_parted.proofs.Labels.{freed-this, freed-other}
-use borrow.Author.Rules.{rules}
 use Rattle.event_parted.proofs.free_one.Goals as goal
 
 pub returns-then-is_of : goal.returns-then-is_of

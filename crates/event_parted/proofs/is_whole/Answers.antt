@@ -1,7 +1,6 @@
 use native.Mathlib.Omega.{arith}
 use borrow.Author.Tests.{eqb-true}
 use Rattle.memory.proofs.Labels.{word-free}
-use borrow.Author.Rules.{rules}
 use Rattle.event_parted.proofs.is_whole.Goals as goal
 
 pub returns : goal.returns

@@ -1,5 +1,4 @@
 use Rattle.event_parted.proofs.Routes.{all-gone}
-use borrow.Author.Rules.{rules}
 use Rattle.event_parted.proofs.part_from.Goals as goal
 
 pub returns : goal.returns
