@@ -35,9 +35,10 @@ pub fn relabel_size(numbers: &[u64], names: &[u8], i: usize, u: u64) -> usize
     ensures { let c = card_of numbers.now names.now in (result ≡ relabel_size c (tree_at i c) u) × (result ≤ 2 * record_limit) }
 {
     if memory_trees::held_for(numbers, i) == u {
-        return 0;
+        0
+    } else {
+        move_size(numbers, names, i, u)
     }
-    move_size(numbers, names, i, u)
 }
 
 // 12: no label is free for the tree at place i, which is to hold one for u.
