@@ -20,26 +20,19 @@ pub struct Written {
 
 // ---- one tree
 
-fn give_up(
-    numbers: &mut [u64],
-    names: &[u8],
-    i: usize,
-    out: &mut [u8],
-    at: usize,
-    id: u32,
-) -> Written
+fn give_up(numbers: &mut [u64], names: &[u8], i: usize, out: &mut [u8], from: Written) -> Written
     requires { let c = card_of numbers.old names.now in Numbers numbers.old × Names names.now × ((tree_at i c).label ≡ 0 → ⊥)
-        × (at + record_size (tree_at i c).name ≤ length out.old) × StandsAt numbers.old i }
-    ensures { let c = card_of numbers.old names.now in Wrote (give_up i c) id at out.old out.new (card_of numbers.new names.now) result.at result.id
+        × (from.at + record_size (tree_at i c).name ≤ length out.old) × StandsAt numbers.old i }
+    ensures { let c = card_of numbers.old names.now in Wrote (give_up i c) from.id from.at out.old out.new (card_of numbers.new names.now) result.at result.id
         × (free_labels (card_of numbers.new names.now) ≡ free_labels c) }
 {
     let to = memory_trees::held_for(numbers, i);
     let label = memory_trees::tree_label(numbers, i);
     let name = memory_trees::tree_name(names, i);
-    let end = at + wire_writer::record_size(name);
-    let next = wire_writer::send(id, out, at, to, 0x0402, label, name);
+    let at = from.at + wire_writer::record_size(name);
+    let id = wire_writer::send(from.id, out, from.at, to, 0x0402, label, name);
     memory_changes::end_label(numbers, i);
-    Written { at: end, id: next }
+    Written { at, id }
 }
 
 pub fn let_go(
@@ -54,10 +47,12 @@ pub fn let_go(
     ensures { let c = card_of numbers.old names.now in Wrote (let_go i c) id at out.old out.new (card_of numbers.new names.now) result.at result.id
         × (free_labels (card_of numbers.new names.now) ≡ free_labels c) }
 {
+    let from = Written { at, id };
     if memory_trees::tree_label(numbers, i) == 0 {
-        return Written { at, id };
+        from
+    } else {
+        give_up(numbers, names, i, out, from)
     }
-    give_up(numbers, names, i, out, at, id)
 }
 
 fn give(
@@ -66,23 +61,22 @@ fn give(
     i: usize,
     u: u64,
     out: &mut [u8],
-    at: usize,
-    id: u32,
+    from: Written,
 ) -> Written
     requires { let c = card_of numbers.old names.old in Numbers numbers.old × Names names.old × (u < neighbour_count)
         × (0 < free_labels c)
-        × (at + record_size (tree_at i c).name ≤ length out.old) × StandsAt numbers.old i }
-    ensures { let c = card_of numbers.old names.old in Wrote (give i u c) id at out.old out.new (card_of numbers.new names.new) result.at result.id
+        × (from.at + record_size (tree_at i c).name ≤ length out.old) × StandsAt numbers.old i }
+    ensures { let c = card_of numbers.old names.old in Wrote (give i u c) from.id from.at out.old out.new (card_of numbers.new names.new) result.at result.id
         × (free_labels (card_of numbers.new names.new) + 1 ≡ free_labels c) }
 {
     let p = memory_free::next_free(numbers);
     let label = memory::base(numbers) + p as u64;
     let name = memory_trees::tree_name(names, i);
-    let end = at + wire_writer::record_size(name);
-    let next = wire_writer::send(id, out, at, u, 0x0400, label, name);
+    let at = from.at + wire_writer::record_size(name);
+    let id = wire_writer::send(from.id, out, from.at, u, 0x0400, label, name);
     memory_marks::map_label(numbers, names, p, i, u);
     memory::set_turn(numbers, p + 1);
-    Written { at: end, id: next }
+    Written { at, id }
 }
 
 pub fn take_up(
@@ -100,10 +94,12 @@ pub fn take_up(
     ensures { let c = card_of numbers.old names.old in Wrote (take_up i u c) id at out.old out.new (card_of numbers.new names.new) result.at result.id
         × (free_labels (card_of numbers.new names.new) + need_move u ≡ free_labels c) }
 {
+    let from = Written { at, id };
     if u == NOBODY {
-        return Written { at, id };
+        from
+    } else {
+        give(numbers, names, i, u, out, from)
     }
-    give(numbers, names, i, u, out, at, id)
 }
 
 // What is handed back is made anew: a copy of both numbers at once would wait for the two that were just written.
@@ -145,7 +141,8 @@ pub fn relabel(
     ensures { Wrote (relabel i u (card_of numbers.old names.old)) id at out.old out.new (card_of numbers.new names.new) result.at result.id }
 {
     if memory_trees::held_for(numbers, i) == u {
-        return Written { at, id };
+        Written { at, id }
+    } else {
+        move_label(numbers, names, i, u, out, at, id)
     }
-    move_label(numbers, names, i, u, out, at, id)
 }

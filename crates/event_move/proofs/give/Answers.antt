@@ -5,8 +5,8 @@ use Rattle.event_move.proofs.Steps.{free-place, gave}
 use borrow.Author.Rules.{rules}
 use Rattle.event_move.proofs.give.Goals as goal
 
-pub send-next-requires : goal.send-next-requires
-send-next-requires c =
+pub send-id-requires : goal.send-id-requires
+send-id-requires c =
     (omega (arith, ap length (c.tree_name-name.ensures.0 _ c.requires.5.0), c.requires.4), omega arith)
 
 pub map_label-requires : goal.map_label-requires
@@ -16,4 +16,4 @@ map_label-requires c =
 
 pub returns : goal.returns
 returns c =
-    rw c.record_size.ensures (gave c.args.i c.args.u _ _ c.args.id c.args.at _ _ _ _ c.args.names.now _ _ _ _ c.base.ensures.0 c.requires.3 (c.next_free-p.ensures.0 _) (c.tree_name-name.ensures.0 _ c.requires.5.0) c.send-next.ensures.0 c.send-next.ensures.1 c.map_label.ensures (c.set_turn.ensures _))
+    rw c.record_size.ensures (gave c.args.i c.args.u _ _ c.args.from.id c.args.from.at _ _ _ _ c.args.names.now _ _ _ _ c.base.ensures.0 c.requires.3 (c.next_free-p.ensures.0 _) (c.tree_name-name.ensures.0 _ c.requires.5.0) c.send-id.ensures.0 c.send-id.ensures.1 c.map_label.ensures (c.set_turn.ensures _))

@@ -5,8 +5,8 @@ use Rattle.event_move.proofs.Steps.{gave-up}
 use borrow.Author.Rules.{rules}
 use Rattle.event_move.proofs.give_up.Goals as goal
 
-pub send-next-requires : goal.send-next-requires
-send-next-requires c =
+pub send-id-requires : goal.send-id-requires
+send-id-requires c =
     (omega (arith, ap length (c.tree_name-name.ensures.0 _ c.requires.4.0), c.requires.3), omega arith)
 
 pub end_label-requires : goal.end_label-requires
@@ -15,4 +15,4 @@ end_label-requires c =
 
 pub returns : goal.returns
 returns c =
-    rw c.record_size.ensures (gave-up c.args.i c.args.id c.args.at _ _ _ _ _ c.args.names.now _ _ _ c.requires.4.0 c.requires.2 (c.held_for-to.ensures.0 _) (c.tree_label-label.ensures _) (c.tree_name-name.ensures.0 _ c.requires.4.0) c.send-next.ensures.0 c.send-next.ensures.1 (c.end_label.ensures _))
+    rw c.record_size.ensures (gave-up c.args.i c.args.from.id c.args.from.at _ _ _ _ _ c.args.names.now _ _ _ c.requires.4.0 c.requires.2 (c.held_for-to.ensures.0 _) (c.tree_label-label.ensures _) (c.tree_name-name.ensures.0 _ c.requires.4.0) c.send-id.ensures.0 c.send-id.ensures.1 (c.end_label.ensures _))

@@ -15,8 +15,8 @@ give_up-requires c =
     let ne : (tree_at c.args.i (card_of c.args.numbers.now c.args.names.now)).label ≡ 0 → ⊥ = λ z. c.if-tree_label-eq0.false (c.tree_label.ensures _ ∙ z) in
     (c.requires.0, c.requires.1, ne, omega (arith, c.requires.2, let-go-room c.args.id c.args.i (card_of c.args.numbers.now c.args.names.now) ne), c.requires.3)
 
-pub returns : goal.returns
-returns c =
+pub returns-else-tree_label-eq0 : goal.returns-else-tree_label-eq0
+returns-else-tree_label-eq0 c =
     let the-if1 = c.if-tree_label-eq0 in
     let the-tree-label = c.tree_label in
     let the-give-up = c.give_up in

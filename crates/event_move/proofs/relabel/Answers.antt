@@ -20,8 +20,8 @@ move_label-requires c =
     let ne : held_for card (tree_at c.args.i card) ≡ c.args.u → ⊥ = λ z. c.if-held_for-u.false (the-held-for.ensures.0 _ ∙ z) in
     (c.requires.0, c.requires.1, c.requires.2, c.requires.3, omega (arith, c.requires.4, need-other _ _ _ ne), omega (arith, c.requires.5, resize-some _ _ _ ne), c.requires.6)
 
-pub returns : goal.returns
-returns c =
+pub returns-else-held_for-u : goal.returns-else-held_for-u
+returns-else-held_for-u c =
     let the-if1 = c.if-held_for-u in
     let the-held-for = c.held_for in
     let the-move-label = c.move_label in

@@ -16,8 +16,8 @@ give-requires c =
     let card : Card = card_of c.args.numbers.now c.args.names.now in
     (c.requires.0, c.requires.1, omega (arith, c.requires.2, c.requires.3, ne), omega (arith, c.requires.4, need-one c.args.u ne), omega (arith, c.requires.5, take-up-room c.args.i c.args.u card c.args.id ne), c.requires.6)
 
-pub returns : goal.returns
-returns c =
+pub returns-else-u-eq-NOBODY : goal.returns-else-u-eq-NOBODY
+returns-else-u-eq-NOBODY c =
     let the-if1 = c.if-u-eq-NOBODY in
     let the-give = c.give in
     let ne = the-if1.false in
