@@ -164,7 +164,10 @@ pub fn route_core(
         *answer = 6;
         return 0;
     }
-    event_route::change_route(numbers, names, root, to, out, answer)
+    refusals::tell(
+        event_route::change_route(numbers, names, root, to, out),
+        answer,
+    )
 }
 
 pub fn route<'a>(
@@ -198,7 +201,7 @@ pub fn lost_core(
         *answer = 1;
         return 0;
     }
-    event_lost::lose(numbers, names, gone as usize, out, answer)
+    refusals::tell(event_lost::lose(numbers, names, gone as usize, out), answer)
 }
 
 pub fn lost<'a>(

@@ -13,10 +13,12 @@ ghost use Rattle.memory.specs.Memory.{card_of, StandsAt};
 ghost use Rattle.event_holder.specs.Move.{Wrote};
 ghost use Rattle.event_tree.specs.End.{Ended};
 ghost use Rattle.event_lost.specs.Lost.{lost_to, loss_all};
+ghost use Rattle.refusals.specs.Refusals.{answer_of, count_of};
 
 use event_move::Written;
 use meaning::{RECORD_BESIDE, RECORD_LIMIT};
 use memory::NOBODY;
+use refusals::Refusal;
 
 // ---- how much it writes
 
@@ -46,10 +48,8 @@ fn loss_size(numbers: &[u64], names: &[u8], n: usize) -> usize
 {
     let k = memory::tree_count(numbers);
     let mut sum = 0;
-    let mut i = 0;
-    while i < k {
+    for i in 0..k {
         sum += loss_of(numbers, names, i, n);
-        i += 1;
     }
     sum
 }
@@ -68,25 +68,18 @@ fn is_short(numbers: &[u64], names: &[u8], n: usize, room: usize) -> bool
 // ---- labels that lead nowhere
 
 // The tree at place i gives up its label where it has no leaf, and no branch but that of the neighbour that the label is mapped to.
-fn shed_one(
-    numbers: &mut [u64],
-    names: &[u8],
-    i: usize,
-    out: &mut [u8],
-    at: usize,
-    id: u32,
-) -> Written
-    requires { Numbers numbers.old × Names names.now × (at + length (records id (shed i (card_of numbers.old names.now)).sent) ≤ length out.old) × StandsAt numbers.old i }
-    ensures { Wrote (shed i (card_of numbers.old names.now)) id at out.old out.new (card_of numbers.new names.now) result.at result.id }
+fn shed_one(numbers: &mut [u64], names: &[u8], i: usize, out: &mut [u8], from: Written) -> Written
+    requires { Numbers numbers.old × Names names.now × (from.at + length (records from.id (shed i (card_of numbers.old names.now)).sent) ≤ length out.old) × StandsAt numbers.old i }
+    ensures { Wrote (shed i (card_of numbers.old names.now)) from.id from.at out.old out.new (card_of numbers.new names.now) result.at result.id }
 {
     let u = memory_trees::held_for(numbers, i);
     if u == NOBODY {
-        return Written { at, id };
+        return from;
     }
     if event_holder::holder(numbers, i, u) == NOBODY {
-        return event_move::let_go(numbers, names, i, out, at, id);
+        return event_move::let_go(numbers, names, i, out, from.at, from.id);
     }
-    Written { at, id }
+    from
 }
 
 // All trees, oldest first.
@@ -96,16 +89,11 @@ fn shed_all(numbers: &mut [u64], names: &[u8], out: &mut [u8], id: u32) -> Writt
     ensures { let c = card_of numbers.old names.now in Wrote (shed_from (length c.trees) 0 c) id 0 out.old out.new (card_of numbers.new names.now) result.at result.id }
 {
     let k = memory::tree_count(numbers);
-    let mut at = 0;
-    let mut next = id;
-    let mut i = 0;
-    while i < k {
-        let w = shed_one(numbers, names, i, out, at, next);
-        at = w.at;
-        next = w.id;
-        i += 1;
+    let mut last = Written { at: 0, id };
+    for i in 0..k {
+        last = shed_one(numbers, names, i, out, last);
     }
-    Written { at, id: next }
+    last
 }
 
 // ---- empty trees
@@ -116,7 +104,6 @@ fn sweep_one(numbers: &mut [u64], names: &mut [u8], i: usize)
 {
     if memory_counts::is_empty(numbers, i) {
         memory_rows::remove_tree(numbers, names, i);
-        return;
     }
 }
 
@@ -125,9 +112,7 @@ fn sweep(numbers: &mut [u64], names: &mut [u8])
     requires { Numbers numbers.old × Names names.old }
     ensures { let c = card_of numbers.old names.old in card_of numbers.new names.new ≡ swept_below (length c.trees) c }
 {
-    let mut i = memory::tree_count(numbers);
-    while 0 < i {
-        i -= 1;
+    for i in (0..memory::tree_count(numbers)).rev() {
         sweep_one(numbers, names, i);
     }
 }
@@ -141,11 +126,9 @@ fn part(numbers: &mut [u64], names: &mut [u8], n: usize, out: &mut [u8]) -> usiz
     let id = memory::next_id(numbers);
     event_parted::part_from(numbers, names, n);
     let w = shed_all(numbers, names, out, id);
-    let next = w.id;
-    let end = w.at;
     sweep(numbers, names);
-    memory::set_next_id(numbers, next);
-    end
+    memory::set_next_id(numbers, w.id);
+    w.at
 }
 
 // Neighbour n is lost.
@@ -154,16 +137,13 @@ pub fn lose(
     names: &mut [u8],
     n: usize,
     out: &mut [u8],
-    answer: &mut u32,
-) -> usize
+) -> Result<usize, Refusal>
     requires { Numbers numbers.old × Names names.old × (n < neighbour_count) }
     ensures { let c = card_of numbers.old names.old in Does (finish (length out.old) c (part c n))
-        answer.new result out.old out.new (card_of numbers.new names.new) }
+        (answer_of result) (count_of result) out.old out.new (card_of numbers.new names.new) }
 {
     if is_short(numbers, names, n, out.len()) {
-        *answer = 16;
-        return 0;
+        return Err(Refusal::NoRoom);
     }
-    *answer = 0;
-    part(numbers, names, n, out)
+    Ok(part(numbers, names, n, out))
 }

@@ -9,10 +9,12 @@ ghost use Rattle.meaning.specs.Events.{labels_short, need_one, need_all, move_on
 ghost use Rattle.memory.specs.Sizes.{Numbers, Names};
 ghost use Rattle.memory.specs.Memory.{card_of, StandsAt};
 ghost use Rattle.event_holder.specs.Move.{Wrote, size_one, size_all};
+ghost use Rattle.refusals.specs.Refusals.{answer_of};
 
 use event_move::Written;
 use meaning::RECORD_LIMIT;
 use memory::NOBODY;
+use refusals::Refusal;
 
 // What a move takes: how many free labels, and how many octets its records have.
 #[derive(Clone, Copy)]
@@ -50,12 +52,10 @@ pub fn take_all(numbers: &[u64], names: &[u8], root: &[u8], u: u64) -> Takes
     let n = memory::tree_count(numbers);
     let mut labels = 0;
     let mut octets = 0;
-    let mut i = 0;
-    while i < n {
+    for i in 0..n {
         let t = take_one(numbers, names, i, root, u);
         labels += t.labels;
         octets += t.octets;
-        i += 1;
     }
     Takes { labels, octets }
 }
@@ -65,8 +65,7 @@ pub fn need_all(numbers: &[u64], names: &[u8], root: &[u8], u: u64) -> usize
     requires { Numbers numbers.now × Names names.now }
     ensures { (result ≡ need_all root.now u (card_of numbers.now names.now)) × (result ≤ tree_limit) }
 {
-    let t = take_all(numbers, names, root, u);
-    t.labels
+    take_all(numbers, names, root, u).labels
 }
 
 // Whether there are labels and room for a move of as many trees as stand: then none of them need be looked at.
@@ -82,19 +81,27 @@ fn is_plenty(numbers: &[u64], room: usize) -> bool
 }
 
 // 12 and 16 for a move of all trees of a root.
-pub fn move_refusal(numbers: &[u64], names: &[u8], root: &[u8], u: u64, room: usize) -> u32
+pub fn check_moves(
+    numbers: &[u64],
+    names: &[u8],
+    root: &[u8],
+    u: u64,
+    room: usize,
+) -> Result<(), Refusal>
     requires { Numbers numbers.now × Names names.now }
-    ensures { let c = card_of numbers.now names.now in result ≡ 12 when labels_short c (need_all root.now u c) else 16 when ltb room (size_all root.now u c) else 0 }
+    ensures { let c = card_of numbers.now names.now in answer_of result ≡ 12 when labels_short c (need_all root.now u c) else 16 when ltb room (size_all root.now u c) else 0 }
 {
     if is_plenty(numbers, room) {
-        return 0;
+        return Ok(());
     }
     let t = take_all(numbers, names, root, u);
-    let octets = t.octets;
     if memory_free::labels_short(numbers, t.labels) {
-        return 12;
+        return Err(Refusal::LabelsShort);
     }
-    if room < octets { 16 } else { 0 }
+    if room < t.octets {
+        return Err(Refusal::NoRoom);
+    }
+    Ok(())
 }
 
 fn move_one(
@@ -104,21 +111,20 @@ fn move_one(
     root: &[u8],
     u: u64,
     out: &mut [u8],
-    at: usize,
-    id: u32,
+    from: Written,
 ) -> Written
     requires { let c = card_of numbers.old names.old in Numbers numbers.old × Names names.old × (u ≤ nobody) × (u ≡ this_node → ⊥)
         × (need_one root.now u (tree_at i c) ≤ free_labels c)
-        × (at + length (records id (move_one root.now u i c).sent) ≤ length out.old) × StandsAt numbers.old i }
-    ensures { let c = card_of numbers.old names.old in Wrote (move_one root.now u i c) id at out.old out.new (card_of numbers.new names.new) result.at result.id
+        × (from.at + length (records from.id (move_one root.now u i c).sent) ≤ length out.old) × StandsAt numbers.old i }
+    ensures { let c = card_of numbers.old names.old in Wrote (move_one root.now u i c) from.id from.at out.old out.new (card_of numbers.new names.new) result.at result.id
         × (free_labels (card_of numbers.new names.new) + need_one root.now u (tree_at i c) ≡ free_labels c) }
 {
-    let ours = memory_counts::is_of_root(names, i, root);
-    if ours {
+    if memory_counts::is_of_root(names, i, root) {
         let h = event_holder::holder(numbers, i, u);
-        return event_move::move_label(numbers, names, i, h, out, at, id);
+        event_move::move_label(numbers, names, i, h, out, from.at, from.id)
+    } else {
+        from
     }
-    Written { at, id }
 }
 
 // All trees of a root, oldest first.
@@ -136,14 +142,9 @@ pub fn move_all(
     ensures { Wrote (move_all root.now u (card_of numbers.old names.old)) id 0 out.old out.new (card_of numbers.new names.new) result.at result.id }
 {
     let n = memory::tree_count(numbers);
-    let mut at = 0;
-    let mut next = id;
-    let mut i = 0;
-    while i < n {
-        let w = move_one(numbers, names, i, root, u, out, at, next);
-        at = w.at;
-        next = w.id;
-        i += 1;
+    let mut last = Written { at: 0, id };
+    for i in 0..n {
+        last = move_one(numbers, names, i, root, u, out, last);
     }
-    Written { at, id: next }
+    last
 }

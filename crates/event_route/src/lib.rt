@@ -12,20 +12,19 @@ ghost use Rattle.memory.specs.Memory.{card_of};
 ghost use Rattle.event_holder.specs.Move.{size_all};
 ghost use Rattle.event_tree.specs.End.{Ended};
 ghost use Rattle.event_route.specs.Order.{labels_few, routes_to, moved_to, route_order};
+ghost use Rattle.refusals.specs.Refusals.{answer_of, count_of};
 
 use meaning::ROUTE_LIMIT;
 use memory::{NEIGHBOURS, NO_ROUTE};
 use memory_counts::Counts;
+use refusals::Refusal;
 
 // 15, for a root whose route was `old` and is to be another.
 fn routes_full(numbers: &[u64], old: u64) -> bool
     requires { Numbers numbers.now }
     ensures { (os : List ℕ) → result ≡ (eqb old no_route && leb route_limit (length (card_of numbers.now os).routes)) }
 {
-    if old == NO_ROUTE {
-        return ROUTE_LIMIT <= memory::route_count(numbers);
-    }
-    false
+    old == NO_ROUTE && ROUTE_LIMIT <= memory::route_count(numbers)
 }
 
 // The counts of the root's entry, whose place is k; for a new one they are worked out.
@@ -43,67 +42,58 @@ fn entry_counts(numbers: &[u64], names: &[u8], k: usize, root: &[u8]) -> Counts
 }
 
 // 12 at once, without a walk: the trees that are not lone are more than the free labels, and each needs one whatever neighbour is the upstream.
-fn surely_short(numbers: &[u64], via: u64, standing: u64, lone: u64) -> bool
+fn surely_short(numbers: &[u64], via: u64, counts: Counts) -> bool
     requires { Numbers numbers.now }
-    ensures { (os : List ℕ) → result ≡ (ltb via neighbour_count && ltb (free_labels (card_of numbers.now os) + lone) standing) }
+    ensures { (os : List ℕ) → result ≡ (ltb via neighbour_count && ltb (free_labels (card_of numbers.now os) + counts.lone) counts.standing) }
 {
     if NEIGHBOURS <= via {
         return false;
     }
-    if standing <= lone {
+    if counts.standing <= counts.lone {
         return false;
     }
-    memory_free::labels_short(numbers, (standing - lone) as usize)
+    memory_free::labels_short(numbers, (counts.standing - counts.lone) as usize)
 }
 
 // 15, 12 and 16 for a route that is another than the old one. Behind the counts the labels are asked once more, so that no order runs out
 // of them, whatever the counts are.
-fn route_refusal(
+fn check_route(
     numbers: &[u64],
     names: &[u8],
     root: &[u8],
     old: u64,
     via: u64,
     u: u64,
-    standing: u64,
-    lone: u64,
+    counts: Counts,
     room: usize,
-) -> u32
+) -> Result<(), Refusal>
     requires { let c = card_of numbers.now names.now in Numbers numbers.now × Names names.now × (u ≡ upstream via) × (route_of root.now c ≡ via → ⊥)
-        × (standing ≡ (entry_of root.now c).standing) × (lone ≡ (entry_of root.now c).lone) × (old ≡ route_of root.now c) }
-    ensures { let c = card_of numbers.now names.now in result ≡ 15 when routes_full c root.now via else 12 when labels_few c root.now via
+        × (counts.standing ≡ (entry_of root.now c).standing) × (counts.lone ≡ (entry_of root.now c).lone) × (old ≡ route_of root.now c) }
+    ensures { let c = card_of numbers.now names.now in answer_of result ≡ 15 when routes_full c root.now via else 12 when labels_few c root.now via
         else 16 when ltb room (size_all root.now (upstream via) c) else 0 }
 {
     if routes_full(numbers, old) {
-        return 15;
+        return Err(Refusal::RootsFull);
     }
-    if surely_short(numbers, via, standing, lone) {
-        return 12;
+    if surely_short(numbers, via, counts) {
+        return Err(Refusal::LabelsShort);
     }
-    event_roots::move_refusal(numbers, names, root, u, room)
+    event_roots::check_moves(numbers, names, root, u, room)
 }
 
 // The root's entry, whose place is i: anew, or gone where there is no route.
-fn set_route(
-    numbers: &mut [u64],
-    names: &mut [u8],
-    i: usize,
-    root: &[u8],
-    via: u64,
-    standing: u64,
-    lone: u64,
-)
+fn set_route(numbers: &mut [u64], names: &mut [u8], i: usize, root: &[u8], via: u64, counts: Counts)
     requires { let c = card_of numbers.old names.old in Numbers numbers.old × Names names.old × (length root.now ≤ root_limit)
         × (route_place root.now c ≡ length c.routes → (via ≡ no_route → ⊥) × (length c.routes < route_limit))
-        × (via ≤ no_route) × (standing < 256) × (lone < 256) × (i ≡ route_place root.now c) × (i ≤ length c.routes) }
+        × (via ≤ no_route) × (counts.standing < 256) × (counts.lone < 256) × (i ≡ route_place root.now c) × (i ≤ length c.routes) }
     ensures { let c = card_of numbers.old names.old in (card_of numbers.new names.new)
-        ≡ with_routes (routes_to c (record { root = root.entry.now; via = via; standing = standing; lone = lone })) c }
+        ≡ with_routes (routes_to c (record { root = root.entry.now; via = via; standing = counts.standing; lone = counts.lone })) c }
 {
     if via == NO_ROUTE {
         memory_routes::remove_route(numbers, names, i);
-        return;
+    } else {
+        memory_routes::enter_route(numbers, names, i, root, via, counts.standing, counts.lone);
     }
-    memory_routes::enter_route(numbers, names, i, root, via, standing, lone);
 }
 
 fn re_route(
@@ -113,20 +103,18 @@ fn re_route(
     root: &[u8],
     via: u64,
     u: u64,
-    standing: u64,
-    lone: u64,
+    counts: Counts,
     out: &mut [u8],
 ) -> usize
     requires { let c = card_of numbers.old names.old in Numbers numbers.old × Names names.old × (length root.now ≤ root_limit) × (u ≡ upstream via) × (u ≤ nobody) × (u ≡ this_node → ⊥)
         × (route_place root.now c ≡ length c.routes → (via ≡ no_route → ⊥) × (length c.routes < route_limit))
         × (need_all root.now u c ≤ free_labels c) × (size_all root.now u c ≤ length out.old)
-        × (via ≤ no_route) × (standing ≡ (entry_of root.now c).standing) × (lone ≡ (entry_of root.now c).lone) × (standing < 256) × (lone < 256) × (i ≡ route_place root.now c) × (i ≤ length c.routes) }
+        × (via ≤ no_route) × (counts.standing ≡ (entry_of root.now c).standing) × (counts.lone ≡ (entry_of root.now c).lone) × (counts.standing < 256) × (counts.lone < 256) × (i ≡ route_place root.now c) × (i ≤ length c.routes) }
     ensures { let c = card_of numbers.old names.old in Ended (moved_to c root.now via) c.next 0 out.old out.new (card_of numbers.new names.new) result }
 {
     let w = event_roots::move_all(numbers, names, root, u, out, memory::next_id(numbers));
-    let next = w.id;
-    set_route(numbers, names, i, root, via, standing, lone);
-    memory::set_next_id(numbers, next);
+    set_route(numbers, names, i, root, via, counts);
+    memory::set_next_id(numbers, w.id);
     w.at
 }
 
@@ -137,27 +125,18 @@ pub fn change_route(
     root: &[u8],
     via: u64,
     out: &mut [u8],
-    answer: &mut u32,
-) -> usize
+) -> Result<usize, Refusal>
     requires { Numbers numbers.old × Names names.old × (length root.now ≤ root_limit) × (via ≤ no_route) }
     ensures { let c = card_of numbers.old names.old in Does (finish (length out.old) c (route_order c root.now via))
-        answer.new result out.old out.new (card_of numbers.new names.new) }
+        (answer_of result) (count_of result) out.old out.new (card_of numbers.new names.new) }
 {
     let i = memory_routes::route_place(numbers, names, root);
     let old = memory_routes::route_at(numbers, i);
     if old == via {
-        *answer = 0;
-        return 0;
+        return Ok(0);
     }
     let u = event_holder::upstream_via(via);
-    let e = entry_counts(numbers, names, i, root);
-    let standing = e.standing;
-    let lone = e.lone;
-    let refusal = route_refusal(numbers, names, root, old, via, u, standing, lone, out.len());
-    if refusal != 0 {
-        *answer = refusal;
-        return 0;
-    }
-    *answer = 0;
-    re_route(numbers, names, i, root, via, u, standing, lone, out)
+    let counts = entry_counts(numbers, names, i, root);
+    check_route(numbers, names, root, old, via, u, counts, out.len())?;
+    Ok(re_route(numbers, names, i, root, via, u, counts, out))
 }

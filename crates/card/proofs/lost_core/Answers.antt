@@ -9,4 +9,4 @@ pub returns : goal.returns
 returns c =
     let the-if1 = c.if-gone-gt15 in
     let the-lose = c.lose in
-    rw (← (lost-is _ _ the-if1.false _)) the-lose.ensures
+    rw (c.tell.ensures.answer, c.tell.ensures.count, ← (lost-is _ _ the-if1.false _)) the-lose.ensures

@@ -24,4 +24,4 @@ returns c =
     let the-not-root = c.not_root in
     let the-if2 = c.if-not_root in
     let the-change-route = c.change_route in
-    rw (← (route-is _ _ _ the-if1.false (sym the-not-root.ensures ∙ the-if2.false) _)) the-change-route.ensures
+    rw (c.tell.ensures.answer, c.tell.ensures.count, ← (route-is _ _ _ the-if1.false (sym the-not-root.ensures ∙ the-if2.false) _)) the-change-route.ensures

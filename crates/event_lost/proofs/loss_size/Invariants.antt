@@ -1,4 +1,4 @@
-use Prim.Native.Nat.{◌*◌, ◌-◌, ◌≤◌}
+use Prim.Native.Nat.{◌*◌, ◌≤◌}
 use native.Mathlib.Omega.{arith}
 use mathlib.Core.Path.{◌≡◌, sym}
 use Rattle.meaning.specs.Wire.{record_limit}
@@ -12,7 +12,4 @@ use borrow.Author.Rules.{rules}
 use Rattle.event_lost.proofs.loss_size.Given as goal
 
 abbrev pub invariant-loop-i : goal.invariant-loop-i
-invariant-loop-i l = (l.i ≤ l.k) × (l.sum ≤ l.i * record_limit) × (l.sum ≡ sum_from (loss_size l.n (card_of l.numbers l.names)) l.i 0 (card_of l.numbers l.names))
-
-abbrev pub decreases-loop-i : goal.decreases-loop-i
-decreases-loop-i l = l.k - l.i
+invariant-loop-i l = (l.sum ≤ l.i * record_limit) × (l.sum ≡ sum_from (loss_size l.n (card_of l.numbers l.names)) l.i 0 (card_of l.numbers l.names))

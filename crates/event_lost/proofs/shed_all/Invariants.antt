@@ -8,7 +8,4 @@ use borrow.Author.Rules.{rules}
 use Rattle.event_lost.proofs.shed_all.Given as goal
 
 abbrev pub invariant-loop-i : goal.invariant-loop-i
-invariant-loop-i l = (l.i ≤ l.k) × (length l.numbers ≡ length l.initial.numbers) × (length l.out ≡ length l.initial.out) × Shedding l.id l.names l.initial.numbers l.initial.out l.i l.numbers l.out l.at l.next
-
-abbrev pub decreases-loop-i : goal.decreases-loop-i
-decreases-loop-i l = l.k - l.i
+invariant-loop-i l = (length l.numbers ≡ length l.initial.numbers) × (length l.out ≡ length l.initial.out) × Shedding l.id l.names l.initial.numbers l.initial.out l.i l.numbers l.out l.last.at l.last.id

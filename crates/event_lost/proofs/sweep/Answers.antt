@@ -9,16 +9,10 @@ use Rattle.event_lost.proofs.sweep.Goals as goal
 pub loop-i-init : goal.loop-i-init
 loop-i-init c = (refl, refl, sweeping-none _ _ _ c.tree_count-i.ensures.0)
 
-pub overflow_sub-i : goal.overflow_sub-i
-overflow_sub-i c = omega arith
-
 pub sweep_one-requires : goal.sweep_one-requires
 sweep_one-requires c =
     let v = c.loop-i.invariant in
     (v.0 ∙ c.requires.0, v.1 ∙ c.requires.1, (omega (arith, v.2.0), omega (arith, v.2.0, tree_count-le c.loop-i.numbers)))
-
-pub loop-i-smaller : goal.loop-i-smaller
-loop-i-smaller c = omega arith
 
 pub loop-i-preserved : goal.loop-i-preserved
 loop-i-preserved c =

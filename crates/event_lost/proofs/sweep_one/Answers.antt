@@ -9,5 +9,5 @@ returns-then-is_empty c =
     let the-remove-tree = c.remove_tree in
     swept-goes _ _ _ (the-is-empty.ensures _) the-if1.true _ the-remove-tree.ensures
 
-pub returns : goal.returns
-returns c = swept-stays _ _ _ (c.is_empty.ensures _) c.if-is_empty.false
+pub returns-else-is_empty : goal.returns-else-is_empty
+returns-else-is_empty c = swept-stays _ _ _ (c.is_empty.ensures _) c.if-is_empty.false

@@ -11,7 +11,7 @@ use Prim.Native.Nat.{◌*◌, ◌-◌, ◌≤◌}
 use Rattle.event_roots.proofs.take_all.Goals as goal
 
 pub loop-i-init : goal.loop-i-init
-loop-i-init c = (omega arith, omega arith, omega arith, sym (sum-none _ _), sym (sum-none _ _))
+loop-i-init c = (omega arith, omega arith, sym (sum-none _ _), sym (sum-none _ _))
 
 pub take_one-t-requires : goal.take_one-t-requires
 take_one-t-requires c =
@@ -22,11 +22,11 @@ loop-i-preserved c =
     let the-loop = c.loop-i in
     let t = c.take_one-t.ensures in
     let v = the-loop.invariant in
-    (omega (arith, t.2), omega (arith, t.2), omega (arith, t.3), sum-next _ _ _ _ _ v.3 t.0, sum-next _ _ _ _ _ v.4 t.1)
+    (omega (arith, t.2), omega (arith, t.3), sum-next _ _ _ _ _ v.2 t.0, sum-next _ _ _ _ _ v.3 t.1)
 
 pub returns : goal.returns
 unfolding need_all size_all
 returns c =
     let v = c.loop-i.invariant in
     let many = c.tree_count-n.ensures.0 in
-    (sum_done _ _ _ _ _ _ many v.0 c.loop-i-test.false v.3, sum_done _ _ _ _ _ _ many v.0 c.loop-i-test.false v.4, omega (arith, v.1), omega (arith, v.2))
+    (sum_done _ _ _ _ _ _ many c.loop-i.auto.i-end c.loop-i-test.false v.2, sum_done _ _ _ _ _ _ many c.loop-i.auto.i-end c.loop-i-test.false v.3, omega (arith, v.0), omega (arith, v.1))

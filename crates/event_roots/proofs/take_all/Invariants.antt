@@ -7,12 +7,9 @@ use Rattle.meaning.specs.Wire.{record_limit}
 use borrow.Author.Rules.{rules}
 use mathlib.Core.Path.{◌≡◌, sym}
 use native.Mathlib.Omega.{arith}
-use Prim.Native.Nat.{◌*◌, ◌-◌, ◌≤◌}
+use Prim.Native.Nat.{◌*◌, ◌≤◌}
 use Rattle.event_roots.proofs.take_all.Given as goal
 
 abbrev pub invariant-loop-i : goal.invariant-loop-i
-invariant-loop-i l = (l.i ≤ l.n) × (l.labels ≤ l.i) × (l.octets ≤ l.i * (2 * record_limit))
+invariant-loop-i l = (l.labels ≤ l.i) × (l.octets ≤ l.i * (2 * record_limit))
     × (l.labels ≡ sum_from (need_one l.root l.u) l.i 0 (card_of l.numbers l.names)) × (l.octets ≡ sum_from (size_one l.root l.u) l.i 0 (card_of l.numbers l.names))
-
-abbrev pub decreases-loop-i : goal.decreases-loop-i
-decreases-loop-i l = l.n - l.i

@@ -22,8 +22,8 @@ enter_route-requires c =
     let most = rw routes-length at c.requires.8 in
     (search rules, search rules, search rules, c.requires.7, (λ h. room-for-it c.args.numbers.now c.args.names.now c.args.root.now c.args.i c.args.via c.requires.7 most c.requires.3 h), omega (arith, c.requires.4), c.requires.5, c.requires.6)
 
-pub returns : goal.returns
-returns c =
+pub returns-else-via-eq-NO_ROUTE : goal.returns-else-via-eq-NO_ROUTE
+returns-else-via-eq-NO_ROUTE c =
     let the-enter-route = c.enter_route in
     let the-if1 = c.if-via-eq-NO_ROUTE in
     the-enter-route.ensures ∙ put_is _ _ the-if1.false

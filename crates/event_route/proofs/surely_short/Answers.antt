@@ -5,11 +5,11 @@ use borrow.Author.Rules.{rules}
 use Rattle.event_route.proofs.surely_short.Goals as goal
 
 pub returns-then-via-ge-NEIGHBOURS : goal.returns-then-via-ge-NEIGHBOURS
-returns-then-via-ge-NEIGHBOURS c = λ os. surely-far (card_of c.args.numbers.now os) c.args.via c.args.standing c.args.lone c.if-via-ge-NEIGHBOURS.true
+returns-then-via-ge-NEIGHBOURS c = λ os. surely-far (card_of c.args.numbers.now os) c.args.via c.args.counts.standing c.args.counts.lone c.if-via-ge-NEIGHBOURS.true
 
-pub returns-then-standing-lone : goal.returns-then-standing-lone
-returns-then-standing-lone c = λ os. surely-none (card_of c.args.numbers.now os) c.args.via c.args.standing c.args.lone c.if-standing-lone.true
+pub returns-then-counts : goal.returns-then-counts
+returns-then-counts c = λ os. surely-none (card_of c.args.numbers.now os) c.args.via c.args.counts.standing c.args.counts.lone c.if-counts.true
 
 pub returns : goal.returns
 returns c =
-    λ os. surely-some (card_of c.args.numbers.now os) c.args.via c.args.standing c.args.lone _ (omega arith) (omega arith) (c.labels_short.ensures os)
+    λ os. surely-some (card_of c.args.numbers.now os) c.args.via c.args.counts.standing c.args.counts.lone _ (omega arith) (omega arith) (c.labels_short.ensures os)
