@@ -83,7 +83,7 @@ pub fn join_core(
         *answer = refusal;
         return 0;
     }
-    event_join::join(numbers, names, element, out, answer)
+    refusals::tell(event_join::join(numbers, names, element, out), answer)
 }
 
 pub fn join<'a>(
@@ -115,7 +115,7 @@ pub fn leave_core(
         *answer = refusal;
         return 0;
     }
-    event_leave::leave(numbers, names, element, out, answer)
+    refusals::tell(event_leave::leave(numbers, names, element, out), answer)
 }
 
 pub fn leave<'a>(

@@ -1,5 +1,5 @@
 -- What becomes of a tree that does not stand, by the cases of the code. Assumes nothing.
-use Prim.Native.Nat.{ℕ, zero, ◌+◌, ◌*◌, ◌≤◌, ◌<◌, zero-le}
+use Prim.Native.Nat.{ℕ, ◌+◌, ◌*◌, ◌≤◌, ◌<◌, zero-le}
 use native.Mathlib.Omega.{arith}
 use mathlib.Core.Path.{◌≡◌, refl, sym, ap, ap₂, ◌∙◌, subst}
 use mathlib.Core.Bool.{Bool, true, false}
@@ -176,7 +176,7 @@ module _ (c : Card) (t : Tree) (i u : ℕ) (ei : i ≡ tree_place t.name c) (h :
       → (s' : List ℕ) (e : Card) (end : ℕ) → Ended (take_up i u larger) c.next 0 s s' e end → Does (finish (length s) c (become c [] t)) 0 end s s' e
   new-done k l m s' e end w = rw (taken-new k l) (does-ended c _ _ s s' e end (rw (larger-size c.next) m) w)
 
--- ---- a new tree, by the number that `new_refusal` gives
+-- ---- a new tree, by the number that `check_new` gives
 
 -- how the code tests them
 module _ (c : Card) (u size room n : ℕ) (e : n ≡ length c.trees) where

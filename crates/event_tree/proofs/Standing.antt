@@ -129,7 +129,7 @@ module _ (c : Card) (first : List Sent) (t : Tree) (i u : ℕ) (S : Standing c t
   enough-labels : labels_short c (need c (tree_at i c) u) ≡ false → need changed (tree_at i changed) u ≤ free_labels changed
   enough-labels e = rw changed-need (unfold free_labels recounted with_routes with_trees in ltb-false _ _ (unfold labels_short free_labels in e))
 
-  -- by the number that `standing_refusal` gives
+  -- by the number that `check_standing` gives
   module _ (size r : ℕ) (es : size ≡ length (records c.next first))
       (er : r ≡ 12 when labels_short c (need c (tree_at i c) u) else 16 when ltb (length s) (size + relabel_size c (tree_at i c) u) else 0) where
     pub standing-refused : (r ≡ 0 → ⊥) → Does (finish (length s) c (become c first t)) r 0 s s c

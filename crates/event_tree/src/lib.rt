@@ -6,6 +6,7 @@ ghost use Rattle.meaning.specs.Octets.{◌when◌else◌};
 ghost use Rattle.meaning.specs.Wire.{root_in, records, record_limit};
 ghost use Rattle.meaning.specs.Card.{tree_at, route_place, with_branch, with_leaf, bare, free_labels, tree_limit, neighbour_count, this_node, nobody};
 ghost use Rattle.meaning.specs.Events.{relabel, take_up, need_move, need, labels_short, holder_of};
+ghost use Rattle.refusals.specs.Refusals.{answer_of};
 ghost use Rattle.memory.specs.Sizes.{Numbers, Names};
 ghost use Rattle.memory.specs.Memory.{card_of, StandsAt};
 ghost use Rattle.event_holder.specs.Move.{relabel_size};
@@ -13,6 +14,7 @@ ghost use Rattle.event_tree.specs.End.{Ended, then_cut};
 
 use meaning::TREE_LIMIT;
 use memory::{NO_NEIGHBOUR, NOBODY};
+use refusals::Refusal;
 
 // ---- for whom it is to hold a label
 
@@ -40,52 +42,50 @@ pub fn new_holder(numbers: &[u64], k: usize, n: usize) -> u64
     ensures { ((os a : List ℕ) (l : ℕ) → (let c = card_of numbers.now os in k ≡ route_place (root_in a) c → 0 < l → result ≡ holder_of c (with_branch n l (bare a)))) × (result ≤ nobody) × (result ≡ this_node → ⊥) }
 {
     let u = event_holder::upstream_at(numbers, k);
-    if u == n as u64 {
-        return NOBODY;
-    }
-    u
+    if u == n as u64 { NOBODY } else { u }
 }
 
 // ---- what refuses it
 
-// 12 and 16 for the tree at place i, which is to hold a label for u; `first` octets are written before its own records.
-pub fn standing_refusal(
+// LabelsShort and NoRoom for the tree at place i, which is to hold a label for u; `first` octets are written before its own records.
+pub fn check_standing(
     numbers: &[u64],
     names: &[u8],
     i: usize,
     u: u64,
     first: usize,
     room: usize,
-) -> u32
+) -> Result<(), Refusal>
     requires { Numbers numbers.now × Names names.now × (first ≤ record_limit) × StandsAt numbers.now i }
-    ensures { let c = card_of numbers.now names.now in result ≡ 12 when labels_short c (need c (tree_at i c) u)
+    ensures { let c = card_of numbers.now names.now in answer_of result ≡ 12 when labels_short c (need c (tree_at i c) u)
         else 16 when ltb room (first + relabel_size c (tree_at i c) u) else 0 }
 {
     if event_holder::no_label_for(numbers, i, u) {
-        return 12;
+        Err(Refusal::LabelsShort)
+    } else if room < first + event_holder::relabel_size(numbers, names, i, u) {
+        Err(Refusal::NoRoom)
+    } else {
+        Ok(())
     }
-    if room < first + event_holder::relabel_size(numbers, names, i, u) {
-        return 16;
-    }
-    0
 }
 
-// 11, 12 and 16 for a new tree that is to hold a label for u.
-pub fn new_refusal(numbers: &[u64], u: u64, size: usize, room: usize) -> u32
+// TreesFull, LabelsShort and NoRoom for a new tree that is to hold a label for u.
+pub fn check_new(numbers: &[u64], u: u64, size: usize, room: usize) -> Result<(), Refusal>
     requires { Numbers numbers.now }
-    ensures { (os : List ℕ) → (let c = card_of numbers.now os in result ≡ 11 when leb tree_limit (length c.trees)
+    ensures { (os : List ℕ) → (let c = card_of numbers.now os in answer_of result ≡ 11 when leb tree_limit (length c.trees)
         else 12 when ltb (free_labels c) (need_move u) else 16 when ltb room (need_move u * size) else 0) }
 {
     if TREE_LIMIT <= memory::tree_count(numbers) {
-        return 11;
+        Err(Refusal::TreesFull)
+    } else if u == NOBODY {
+        Ok(())
+    } else if memory_free::none_free(numbers) {
+        Err(Refusal::LabelsShort)
+    } else if room < size {
+        Err(Refusal::NoRoom)
+    } else {
+        Ok(())
     }
-    if u == NOBODY {
-        return 0;
-    }
-    if memory_free::none_free(numbers) {
-        return 12;
-    }
-    if room < size { 16 } else { 0 }
 }
 
 // ---- how it ends
@@ -111,8 +111,6 @@ pub fn settle(
     let end = w.at;
     if empty {
         memory_rows::remove_tree(numbers, names, i);
-        memory::set_next_id(numbers, next);
-        return end;
     }
     memory::set_next_id(numbers, next);
     end

@@ -6,10 +6,12 @@ ghost use Rattle.meaning.specs.Wire.{name_limit, least_label};
 ghost use Rattle.meaning.specs.Card.{tree_at, tree_place, with_branch, is_empty, neighbour_count};
 ghost use Rattle.meaning.specs.Events.{finish, less_branch, on_withdraw, on_release};
 ghost use Rattle.meaning.specs.Calls.{Does};
+ghost use Rattle.refusals.specs.Refusals.{answer_of, count_of};
 ghost use Rattle.memory.specs.Sizes.{Numbers, Names};
 ghost use Rattle.memory.specs.Memory.{card_of, tree_count, StandsAt};
 
 use memory::NO_NEIGHBOUR;
+use refusals::Refusal;
 
 // What a Withdraw of a label from neighbour n leaves of the tree at place i: its branch there, and whether it is empty.
 fn less_branch(numbers: &[u64], i: usize, n: usize, label: u64) -> u64
@@ -24,10 +26,8 @@ fn less_empty(numbers: &[u64], i: usize, n: usize, left: u64) -> bool
     requires { Numbers numbers.now × (n < neighbour_count) × StandsAt numbers.now i }
     ensures { (os : List ℕ) → result ≡ is_empty (with_branch n left (tree_at i (card_of numbers.now os))) }
 {
-    if memory_trees::is_leaf(numbers, i) {
-        return false;
-    }
-    !memory_trees::any_branch(numbers, i, n, left, NO_NEIGHBOUR)
+    !memory_trees::is_leaf(numbers, i)
+        && !memory_trees::any_branch(numbers, i, n, left, NO_NEIGHBOUR)
 }
 
 // A Withdraw for the tree at place i: the Release goes first.
@@ -38,12 +38,11 @@ fn withdraw_standing(
     n: usize,
     label: u64,
     out: &mut [u8],
-    answer: &mut u32,
-) -> usize
+) -> Result<usize, Refusal>
     requires { let c = card_of numbers.old names.old in Numbers numbers.old × Names names.old × (n < neighbour_count)
         × (i ≡ tree_place (tree_at i c).name c) × StandsAt numbers.old i }
     ensures { let c = card_of numbers.old names.old in Does (finish (length out.old) c (on_withdraw c n (tree_at i c).name label))
-        answer.new result out.old out.new (card_of numbers.new names.new) }
+        (answer_of result) (count_of result) out.old out.new (card_of numbers.new names.new) }
 {
     let left = less_branch(numbers, i, n, label);
     let empty = less_empty(numbers, i, n, left);
@@ -51,11 +50,7 @@ fn withdraw_standing(
     let u = event_tree::branch_holder(numbers, i, k, n, left);
     let name = memory_trees::tree_name(names, i);
     let first = wire_writer::record_size(name);
-    let refusal = event_tree::standing_refusal(numbers, names, i, u, first, out.len());
-    if refusal != 0 {
-        *answer = refusal;
-        return 0;
-    }
+    event_tree::check_standing(numbers, names, i, u, first, out.len())?;
     let id = wire_writer::send(
         memory::next_id(numbers),
         out,
@@ -66,8 +61,7 @@ fn withdraw_standing(
         name,
     );
     memory_counts::change_branch(numbers, i, k, n, left);
-    *answer = 0;
-    event_tree::settle(numbers, names, i, u, empty, out, first, id)
+    Ok(event_tree::settle(numbers, names, i, u, empty, out, first, id))
 }
 
 // A Withdraw for a tree that does not stand is answered all the same.
@@ -78,16 +72,14 @@ fn withdraw_unknown(
     name: &[u8],
     label: u64,
     out: &mut [u8],
-    answer: &mut u32,
-) -> usize
+) -> Result<usize, Refusal>
     requires { Numbers numbers.old × Names names.now × (n < neighbour_count) × (least_label ≤ label) × (length name.now ≤ name_limit) × (tree_place name.now (card_of numbers.old names.now) ≡ tree_count numbers.old) }
     ensures { let c = card_of numbers.old names.now in Does (finish (length out.old) c (on_withdraw c n name.now label))
-        answer.new result out.old out.new (card_of numbers.new names.now) }
+        (answer_of result) (count_of result) out.old out.new (card_of numbers.new names.now) }
 {
     let size = wire_writer::record_size(name);
     if out.len() < size {
-        *answer = 16;
-        return 0;
+        return Err(Refusal::NoRoom);
     }
     let next = wire_writer::send(
         memory::next_id(numbers),
@@ -99,8 +91,7 @@ fn withdraw_unknown(
         name,
     );
     memory::set_next_id(numbers, next);
-    *answer = 0;
-    size
+    Ok(size)
 }
 
 pub fn withdraw(
@@ -110,17 +101,17 @@ pub fn withdraw(
     name: &[u8],
     label: u64,
     out: &mut [u8],
-    answer: &mut u32,
-) -> usize
+) -> Result<usize, Refusal>
     requires { Numbers numbers.old × Names names.old × (n < neighbour_count) × (least_label ≤ label) × (length name.now ≤ name_limit) }
     ensures { let c = card_of numbers.old names.old in Does (finish (length out.old) c (on_withdraw c n name.now label))
-        answer.new result out.old out.new (card_of numbers.new names.new) }
+        (answer_of result) (count_of result) out.old out.new (card_of numbers.new names.new) }
 {
     let i = memory_trees::tree_place(numbers, names, name);
     if i < memory::tree_count(numbers) {
-        return withdraw_standing(numbers, names, i, n, label, out, answer);
+        withdraw_standing(numbers, names, i, n, label, out)
+    } else {
+        withdraw_unknown(numbers, names, n, name, label, out)
     }
-    withdraw_unknown(numbers, names, n, name, label, out, answer)
 }
 
 pub fn release(
@@ -129,16 +120,15 @@ pub fn release(
     n: usize,
     name: &[u8],
     label: u64,
-    answer: &mut u32,
-)
+) -> Result<(), Refusal>
     requires { Numbers numbers.old × Names names.now × (n < neighbour_count) }
     ensures { let c = card_of numbers.old names.now in ((s : List ℕ) → Does (finish (length s) c (on_release c n name.now label))
-        answer.new 0 s s (card_of numbers.new names.now)) }
+        (answer_of result) 0 s s (card_of numbers.new names.now)) }
 {
     if memory_labels::is_awaited(numbers, names, n as u64, name, label) {
         memory_free::free_label(numbers, label);
-        *answer = 0;
-        return;
+        Ok(())
+    } else {
+        Err(Refusal::NotAwaited)
     }
-    *answer = 13;
 }

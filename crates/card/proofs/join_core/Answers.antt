@@ -18,4 +18,4 @@ returns c =
     let the-element-refusal = c.element_refusal-refusal in
     let the-if1 = c.if-refusal-ne0 in
     let the-join = c.join in
-    rw (← (join_is _ _ (sym the-element-refusal.ensures ∙ the-if1.false) _)) the-join.ensures
+    rw (c.tell.ensures.answer, c.tell.ensures.count, ← (join_is _ _ (sym the-element-refusal.ensures ∙ the-if1.false) _)) the-join.ensures

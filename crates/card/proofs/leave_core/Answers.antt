@@ -11,4 +11,4 @@ returns c =
     let the-element-refusal = c.element_refusal-refusal in
     let the-if1 = c.if-refusal-ne0 in
     let the-leave = c.leave in
-    rw (← (leave-is _ _ (sym the-element-refusal.ensures ∙ the-if1.false) _)) the-leave.ensures
+    rw (c.tell.ensures.answer, c.tell.ensures.count, ← (leave-is _ _ (sym the-element-refusal.ensures ∙ the-if1.false) _)) the-leave.ensures

@@ -2,7 +2,7 @@ use native.Mathlib.Omega.{arith}
 use Rattle.memory.specs.Memory.{card_of}
 use Rattle.card_messages.proofs.Messages.{does-same, says-mapping, says-withdraw, says-release, says_nothing}
 use Rattle.event_tree.proofs.Ends.{does-refused}
-use borrow.Author.Rules.{rules}
+use Rattle.std.proofs.lemmas.Result.{err_from_is_err_and}
 use Rattle.card_messages.proofs.on_message.Goals as goal
 
 pub returns-then-kind-eq1024 : goal.returns-then-kind-eq1024
@@ -18,8 +18,13 @@ returns-then-kind-eq1026 c =
 
 pub returns-then-kind-eq1027 : goal.returns-then-kind-eq1027
 returns-then-kind-eq1027 c =
-    let the-release = c.release in
-    does-same _ _ _ _ _ _ _ _ _ (says-release (card_of c.args.numbers.now c.args.names.now) c.args.n (record { kind = c.args.kind; name = c.args.name.now; label = c.args.label }) (λ e. omega (arith, e)) (λ e. omega (arith, e)) (omega arith)) (the-release.ensures _)
+    does-same _ _ _ _ _ _ _ _ _ (says-release (card_of c.args.numbers.now c.args.names.now) c.args.n (record { kind = c.args.kind; name = c.args.name.now; label = c.args.label }) (λ e. omega (arith, e)) (λ e. omega (arith, e)) (omega arith)) (c.in_ok-release.ensures _)
+
+pub returns-in_err-release : goal.returns-in_err-release
+returns-in_err-release c =
+    let p = err_from_is_err_and c.from_residual.result c.from_residual.ensures.1 in
+    rw (p.1, p.2)
+    (does-same _ _ _ _ _ _ _ _ _ (says-release (card_of c.args.numbers.now c.args.names.now) c.args.n (record { kind = c.args.kind; name = c.args.name.now; label = c.args.label }) (λ e. omega (arith, e)) (λ e. omega (arith, e)) (omega arith)) (c.in_err-release.ensures _))
 
 pub returns : goal.returns
 returns c =

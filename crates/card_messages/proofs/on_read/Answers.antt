@@ -42,4 +42,4 @@ returns-in-Says c =
     let the-read-message = c.read_message in
     let the-on-message = c.on_message in
     let says = subst (Reads c.args.message.now) the-kind.is the-read-message.ensures in
-    does-same _ _ _ _ _ _ _ _ _ (read-says _ _ _ _ says.0 says.1) the-on-message.ensures
+    rw (c.tell.ensures.answer, c.tell.ensures.count) (does-same _ _ _ _ _ _ _ _ _ (read-says _ _ _ _ says.0 says.1) the-on-message.ensures)

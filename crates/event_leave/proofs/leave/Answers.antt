@@ -29,7 +29,7 @@ returns-then-i-tree_count c =
     let within : the-tree-place.result < length card.trees = rw trees-length inside in
     rw (at_name card c.args.name.now _ the-tree-place.ensures.0 within) at the-leave-standing.ensures
 
-pub returns : goal.returns
-returns c =
+pub returns-else-i-tree_count : goal.returns-else-i-tree_count
+returns-else-i-tree_count c =
     let the-tree-place = c.tree_place-i in
     leave-unknown (card_of c.args.numbers.now c.args.names.now) c.args.name.now (omega (arith, the-tree-place.ensures, c.tree_count.ensures, c.if-i-tree_count.false, trees-length c.args.numbers.now c.args.names.now)) (zero-free _ _) _

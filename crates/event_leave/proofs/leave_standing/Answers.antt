@@ -1,8 +1,7 @@
-use borrow.Author.Tests.{not-false, not-true}
-use Rattle.event_leave.proofs.Leaves.{leave-leaf, leave-leafless, left-standing, leaf-gone}
+use Rattle.event_leave.proofs.Leaves.{first_of, second-of, leave-leaf, leave-leafless, left-standing, leaf-gone}
 use Rattle.event_tree.proofs.Ends.{no-records}
 use Rattle.event_tree.proofs.Standing.{standing-refused, standing-taken, standing-ends, settle-ready}
-use mathlib.Core.Path.{sym, ◌∙◌}
+use mathlib.Core.Path.{refl, sym, ◌∙◌}
 use mathlib.Core.List.{[]}
 use Prim.Native.Nat.{◌<◌}
 use lib.ListN.{length}
@@ -10,8 +9,21 @@ use Rattle.meaning.specs.Card.{tree_at}
 use Rattle.memory.specs.Memory.{card_of}
 use Rattle.memory.proofs.Memory.{trees-length}
 use Rattle.memory.proofs.Trees.{branches-length}
+use Rattle.refusals.proofs.Numbers.{number-not-0}
+use Rattle.std.proofs.lemmas.Result.{err_from_is_err_and}
 use borrow.Author.Rules.{rules}
 use Rattle.event_leave.proofs.leave_standing.Goals as goal
+
+pub returns-then-no_label_for : goal.returns-then-no_label_for
+returns-then-no_label_for c =
+    let the-leaf-holder = c.leaf_holder-u in
+    let the-its-root = c.its_root-k in
+    let the-is-leaf = c.is_leaf in
+    let the-if1 = c.if-not-is_leaf in
+    let card = (card_of c.args.numbers.now c.args.names.now) in
+    let within : c.args.i < length card.trees = rw trees-length c.requires.3.0 in
+    let S = left-standing card c.args.i c.requires.2 within _ (the-leaf-holder.ensures.0 _ the-its-root.ensures.0) in
+    leave-leafless card _ c.args.i _ c.requires.2 S (sym (the-is-leaf.ensures _) ∙ the-if1.true) _ _ (first_of 12 14 (sym (c.no_label_for.ensures _) ∙ c.if-no_label_for.true))
 
 pub returns-then-not-is_leaf : goal.returns-then-not-is_leaf
 returns-then-not-is_leaf c =
@@ -22,10 +34,10 @@ returns-then-not-is_leaf c =
     let card = (card_of c.args.numbers.now c.args.names.now) in
     let within : c.args.i < length card.trees = rw trees-length c.requires.3.0 in
     let S = left-standing card c.args.i c.requires.2 within _ (the-leaf-holder.ensures.0 _ the-its-root.ensures.0) in
-    leave-leafless card _ c.args.i _ c.requires.2 S (sym (the-is-leaf.ensures _) ∙ the-if1.true) _ _ (c.leafless_refusal.ensures _)
+    leave-leafless card _ c.args.i _ c.requires.2 S (sym (the-is-leaf.ensures _) ∙ the-if1.true) _ _ (second-of 12 14 (sym (c.no_label_for.ensures _) ∙ c.if-no_label_for.false))
 
-pub returns-then-refusal-ne0 : goal.returns-then-refusal-ne0
-returns-then-refusal-ne0 c =
+pub returns-in_err-check_standing : goal.returns-in_err-check_standing
+returns-in_err-check_standing c =
     let the-any-branch = c.any_branch-empty in
     let the-leaf-holder = c.leaf_holder-u in
     let the-its-root = c.its_root-k in
@@ -35,22 +47,22 @@ returns-then-refusal-ne0 c =
     let within : c.args.i < length card.trees = rw trees-length c.requires.3.0 in
     let none = leaf-gone (tree_at c.args.i card) _ (branches-length _ _ _ c.requires.3.0) (the-any-branch.ensures _) in
     let S = left-standing card c.args.i c.requires.2 within _ (the-leaf-holder.ensures.0 _ the-its-root.ensures.0) in
-    rw (leave-leaf card _ c.args.i c.requires.2 within (sym (the-is-leaf.ensures _) ∙ the-if1.false))
-    (standing-refused card [] _ _ _ S _ 0 _ (no-records _) c.standing_refusal-refusal.ensures c.if-refusal-ne0.true)
+    let p = err_from_is_err_and c.from_residual.result c.from_residual.ensures.1 in
+    rw (p.1, p.2, leave-leaf card _ c.args.i c.requires.2 within (sym (the-is-leaf.ensures _) ∙ the-if1.false))
+    (standing-refused card [] _ _ _ S _ 0 _ (no-records _) c.in_err-check_standing.ensures (number-not-0 _))
 
 pub settle-requires : goal.settle-requires
 settle-requires c =
     let the-any-branch = c.any_branch-empty in
     let the-leaf-holder = c.leaf_holder-u in
     let the-its-root = c.its_root-k in
-    let the-standing-refusal = c.standing_refusal-refusal in
-    let the-if2 = c.if-refusal-ne0 in
+    let the-check-standing = c.in_ok-check_standing in
     let the-change-leaf = c.change_leaf in
     let card = (card_of c.args.numbers.now c.args.names.now) in
     let within : c.args.i < length card.trees = rw trees-length c.requires.3.0 in
     let none = leaf-gone (tree_at c.args.i card) _ (branches-length _ _ _ c.requires.3.0) (the-any-branch.ensures _) in
     let S = left-standing card c.args.i c.requires.2 within _ (the-leaf-holder.ensures.0 _ the-its-root.ensures.0) in
-    let R = settle-ready card [] _ _ _ S c.args.out.now 0 _ (no-records _) the-standing-refusal.ensures the-if2.false _ _ (the-change-leaf.ensures _ the-its-root.ensures.0) in
+    let R = settle-ready card [] _ _ _ S c.args.out.now 0 _ (no-records _) the-check-standing.ensures refl _ _ (the-change-leaf.ensures _ the-its-root.ensures.0) in
     (search rules, search rules, search rules, search rules, R.1, R.2, (R.0, search rules))
 
 pub returns : goal.returns
@@ -60,8 +72,7 @@ returns c =
     let the-its-root = c.its_root-k in
     let the-is-leaf = c.is_leaf in
     let the-if1 = c.if-not-is_leaf in
-    let the-standing-refusal = c.standing_refusal-refusal in
-    let the-if2 = c.if-refusal-ne0 in
+    let the-check-standing = c.in_ok-check_standing in
     let the-next-id = c.next_id-id in
     let the-change-leaf = c.change_leaf in
     let the-settle = c.settle in
@@ -70,5 +81,5 @@ returns c =
     let none = leaf-gone (tree_at c.args.i card) _ (branches-length _ _ _ c.requires.3.0) (the-any-branch.ensures _) in
     let S = left-standing card c.args.i c.requires.2 within _ (the-leaf-holder.ensures.0 _ the-its-root.ensures.0) in
     rw (leave-leaf card _ c.args.i c.requires.2 within (sym (the-is-leaf.ensures _) ∙ the-if1.false))
-    (standing-taken card [] _ _ _ S c.args.out.now 0 _ (no-records _) the-standing-refusal.ensures the-if2.false _ _ _
+    (standing-taken card [] _ _ _ S c.args.out.now 0 _ (no-records _) the-check-standing.ensures refl _ _ _
     (standing-ends card [] _ _ _ S c.args.out.now _ _ _ _ _ _ (the-next-id.ensures _) (the-change-leaf.ensures _ the-its-root.ensures.0) none the-settle.ensures))

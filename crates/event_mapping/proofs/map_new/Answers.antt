@@ -6,30 +6,32 @@ use native.Mathlib.Omega.{arith}
 use Rattle.meaning.specs.Card.{with_branch}
 use Rattle.memory.specs.Memory.{card_of}
 use Rattle.memory.proofs.Memory.{trees-length}
+use Rattle.refusals.proofs.Numbers.{number-not-0}
+use Rattle.std.proofs.lemmas.Result.{err_from_is_err_and}
 use borrow.Author.Rules.{rules}
 use Rattle.event_mapping.proofs.map_new.Goals as goal
 
-pub returns-then-refusal-ne0 : goal.returns-then-refusal-ne0
-returns-then-refusal-ne0 c =
+pub returns-in_err-check_new : goal.returns-in_err-check_new
+returns-in_err-check_new c =
     let the-new-holder = c.new_holder-u in
     let the-root-place = c.root_place-k in
     let the-record-size = c.record_size in
     let card = (card_of c.args.numbers.now c.args.names.now) in
     let last = c.requires.5 ∙ sym (trees-length _ _) in
     let N = mapped-new card c.args.name.now _ _ refl last (zero-free _ _) c.args.n c.args.label c.requires.2 (omega (arith, c.requires.3)) (the-new-holder.ensures.0 _ _ c.args.label the-root-place.ensures.0 (omega (arith, c.requires.3))) in
-    rw (← (mapping-new card c.args.name.now _ refl last c.args.n c.args.label)) (new-refused card _ c.args.name.now _ _ N c.args.out.now _ _ the-record-size.ensures (c.new_refusal-refusal.ensures _) c.if-refusal-ne0.true)
+    let p = err_from_is_err_and c.from_residual.result c.from_residual.ensures.1 in
+    rw (p.1, p.2, ← (mapping-new card c.args.name.now _ refl last c.args.n c.args.label)) (new-refused card _ c.args.name.now _ _ N c.args.out.now _ _ the-record-size.ensures (c.in_err-check_new.ensures _) (number-not-0 _))
 
 pub enter_tree-requires : goal.enter_tree-requires
 enter_tree-requires c =
     let the-new-holder = c.new_holder-u in
     let the-root-place = c.root_place-k in
     let the-record-size = c.record_size in
-    let the-new-refusal = c.new_refusal-refusal in
-    let the-if1 = c.if-refusal-ne0 in
+    let the-check-new = c.in_ok-check_new in
     let card = (card_of c.args.numbers.now c.args.names.now) in
     let last = c.requires.5 ∙ sym (trees-length _ _) in
     let N = mapped-new card c.args.name.now _ _ refl last (zero-free _ _) c.args.n c.args.label c.requires.2 (omega (arith, c.requires.3)) (the-new-holder.ensures.0 _ _ c.args.label the-root-place.ensures.0 (omega (arith, c.requires.3))) in
-    let few = few-trees-stand card _ c.args.name.now _ _ N c.args.out.now _ _ the-record-size.ensures (the-new-refusal.ensures _) the-if1.false in
+    let few = few-trees-stand card _ c.args.name.now _ _ N c.args.out.now _ _ the-record-size.ensures (the-check-new.ensures _) refl in
     (search rules, search rules, rw trees-length at few, search rules)
 
 pub first_branch-requires : goal.first_branch-requires
@@ -37,14 +39,13 @@ first_branch-requires c =
     let the-new-holder = c.new_holder-u in
     let the-root-place = c.root_place-k in
     let the-record-size = c.record_size in
-    let the-new-refusal = c.new_refusal-refusal in
-    let the-if1 = c.if-refusal-ne0 in
+    let the-check-new = c.in_ok-check_new in
     let the-enter-tree = c.enter_tree in
     let the-tree-count = c.tree_count-place in
     let card = (card_of c.args.numbers.now c.args.names.now) in
     let last = c.requires.5 ∙ sym (trees-length _ _) in
     let N = mapped-new card c.args.name.now _ _ refl last (zero-free _ _) c.args.n c.args.label c.requires.2 (omega (arith, c.requires.3)) (the-new-holder.ensures.0 _ _ c.args.label the-root-place.ensures.0 (omega (arith, c.requires.3))) in
-    let few = few-trees-stand card _ c.args.name.now _ _ N c.args.out.now _ _ the-record-size.ensures (the-new-refusal.ensures _) the-if1.false in
+    let few = few-trees-stand card _ c.args.name.now _ _ N c.args.out.now _ _ the-record-size.ensures (the-check-new.ensures _) refl in
     let grown-by-one = count-is _ _ _ the-enter-tree.ensures ∙ snoc-length card c.args.name.now in
     let n = the-tree-count.ensures.0 ∙ sym (trees-length _ c.args.names.now) in
     (search rules, search rules, omega (arith, c.requires.3), (omega (arith, grown-by-one, n), omega (arith, few, n)))
@@ -57,16 +58,15 @@ grow-requires c =
     let the-first-branch = c.first_branch in
     let the-enter-tree = c.enter_tree in
     let the-record-size = c.record_size in
-    let the-new-refusal = c.new_refusal-refusal in
-    let the-if1 = c.if-refusal-ne0 in
+    let the-check-new = c.in_ok-check_new in
     let card = (card_of c.args.numbers.now c.args.names.now) in
     let here = the-tree-count.ensures.0 ∙ sym c.requires.5 in
     let last = the-tree-count.ensures.0 ∙ sym (trees-length _ _) in
     let N = mapped-new card c.args.name.now _ _ here last (zero-free _ _) c.args.n c.args.label c.requires.2 (omega (arith, c.requires.3)) (the-new-holder.ensures.0 _ _ c.args.label the-root-place.ensures.0 (omega (arith, c.requires.3))) in
     let its = new-bare card _ c.args.name.now _ last the-enter-tree.ensures in
     let changed = the-first-branch.ensures _ its.0 its.1 (new-place card _ c.args.name.now _ _ last the-enter-tree.ensures the-root-place.ensures.0) ∙ entered-changed card _ c.args.name.now _ (with_branch c.args.n c.args.label) last the-enter-tree.ensures in
-    let R = grow-ready card _ c.args.name.now _ _ N c.args.out.now _ _ the-record-size.ensures (the-new-refusal.ensures _) the-if1.false _ _ _ changed in
-    let few = few-trees-stand card _ c.args.name.now _ _ N c.args.out.now _ _ the-record-size.ensures (the-new-refusal.ensures _) the-if1.false in
+    let R = grow-ready card _ c.args.name.now _ _ N c.args.out.now _ _ the-record-size.ensures (the-check-new.ensures _) refl _ _ _ changed in
+    let few = few-trees-stand card _ c.args.name.now _ _ N c.args.out.now _ _ the-record-size.ensures (the-check-new.ensures _) refl in
     (search rules, search rules, search rules, search rules, R.1, R.2, (R.0, omega (arith, few, last)))
 
 pub returns : goal.returns
@@ -77,8 +77,7 @@ returns c =
     let the-first-branch = c.first_branch in
     let the-enter-tree = c.enter_tree in
     let the-record-size = c.record_size in
-    let the-new-refusal = c.new_refusal-refusal in
-    let the-if1 = c.if-refusal-ne0 in
+    let the-check-new = c.in_ok-check_new in
     let the-next-id = c.next_id-id in
     let the-grow = c.grow in
     let card = (card_of c.args.numbers.now c.args.names.now) in
@@ -87,4 +86,4 @@ returns c =
     let N = mapped-new card c.args.name.now _ _ here last (zero-free _ _) c.args.n c.args.label c.requires.2 (omega (arith, c.requires.3)) (the-new-holder.ensures.0 _ _ c.args.label the-root-place.ensures.0 (omega (arith, c.requires.3))) in
     let its = new-bare card _ c.args.name.now _ last the-enter-tree.ensures in
     let changed = the-first-branch.ensures _ its.0 its.1 (new-place card _ c.args.name.now _ _ last the-enter-tree.ensures the-root-place.ensures.0) ∙ entered-changed card _ c.args.name.now _ (with_branch c.args.n c.args.label) last the-enter-tree.ensures in
-    rw (← (mapping-new card c.args.name.now _ here last c.args.n c.args.label)) (grown-done card _ c.args.name.now _ _ N c.args.out.now _ _ the-record-size.ensures (the-new-refusal.ensures _) the-if1.false _ _ _ _ _ (the-next-id.ensures _) changed the-grow.ensures)
+    rw (← (mapping-new card c.args.name.now _ here last c.args.n c.args.label)) (grown-done card _ c.args.name.now _ _ N c.args.out.now _ _ the-record-size.ensures (the-check-new.ensures _) refl _ _ _ _ _ (the-next-id.ensures _) changed the-grow.ensures)

@@ -1,5 +1,4 @@
 use mathlib.Core.List.{[]}
-use borrow.Author.Rules.{rules}
 use Rattle.meaning.specs.Card.{tree_at}
 use Rattle.memory.specs.Memory.{card_of}
 use Rattle.event_tree.proofs.Upstream.{branch_held, held-range}

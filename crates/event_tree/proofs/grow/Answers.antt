@@ -1,5 +1,4 @@
 use Rattle.event_tree.proofs.Ends.{ended_is}
-use borrow.Author.Rules.{rules}
 use Rattle.event_tree.proofs.grow.Goals as goal
 
 pub returns : goal.returns

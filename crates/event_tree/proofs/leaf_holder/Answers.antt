@@ -1,5 +1,4 @@
 use mathlib.Core.List.{[]}
-use borrow.Author.Rules.{rules}
 use Rattle.meaning.specs.Card.{tree_at}
 use Rattle.memory.specs.Memory.{card_of}
 use Rattle.memory.proofs.Trees.{branches-length}

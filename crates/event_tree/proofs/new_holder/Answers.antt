@@ -8,7 +8,7 @@ returns-then-u-n c =
     let up = c.upstream_at-u.ensures in
     ((λ os a l e some. new-held (card_of c.args.numbers.now os) a c.args.n l _ c.requires.1 some (up.0 os _ e) c.if-u-n.true), search rules, search rules)
 
-pub returns : goal.returns
-returns c =
+pub returns-else-u-n : goal.returns-else-u-n
+returns-else-u-n c =
     let up = c.upstream_at-u.ensures in
     ((λ os a l e some. new-led (card_of c.args.numbers.now os) a c.args.n l _ c.requires.1 some (up.0 os _ e) c.if-u-n.false), up.1, up.2)

@@ -1,5 +1,4 @@
 use Rattle.event_withdraw.proofs.Withdrawn.{less-gone, less-kept}
-use borrow.Author.Rules.{rules}
 use Rattle.event_withdraw.proofs.less_branch.Goals as goal
 
 pub returns-then-b-label : goal.returns-then-b-label

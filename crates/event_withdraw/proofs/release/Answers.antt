@@ -12,5 +12,5 @@ returns-then-is_awaited c =
     let the-if1 = c.if-is_awaited in
     λ s. release-taken _ _ _ _ _ s (sym the-is-awaited.ensures.0 ∙ the-if1.true) (c.free_label.ensures _)
 
-pub returns : goal.returns
-returns c = λ s. release-none _ _ _ _ s (sym c.is_awaited.ensures.0 ∙ c.if-is_awaited.false)
+pub returns-else-is_awaited : goal.returns-else-is_awaited
+returns-else-is_awaited c = λ s. release-none _ _ _ _ s (sym c.is_awaited.ensures.0 ∙ c.if-is_awaited.false)

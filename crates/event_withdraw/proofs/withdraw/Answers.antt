@@ -27,8 +27,3 @@ returns-then-i-tree_count c =
     let inside : the-tree-place.result < tree_count c.args.numbers.now = rw the-tree-count.ensures.0 at the-if1.true in
     let within : the-tree-place.result < length card.trees = rw trees-length inside in
     rw (at_name card c.args.name.now _ the-tree-place.ensures.0 within) at the-withdraw-standing.ensures
-
-pub returns : goal.returns
-returns c =
-    let the-withdraw-unknown = c.withdraw_unknown in
-    the-withdraw-unknown.ensures

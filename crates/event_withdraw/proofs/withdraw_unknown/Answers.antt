@@ -4,7 +4,6 @@ use Rattle.memory.specs.Memory.{card_of}
 use Rattle.memory.proofs.Memory.{trees-length}
 use Rattle.event_tree.proofs.Found.{zero-free}
 use Rattle.event_withdraw.proofs.Withdrawn.{unknown-room, unknown-done}
-use borrow.Author.Rules.{rules}
 use Rattle.event_withdraw.proofs.withdraw_unknown.Goals as goal
 
 pub returns-then-out-size : goal.returns-then-out-size

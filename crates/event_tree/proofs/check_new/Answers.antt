@@ -2,8 +2,7 @@ use Rattle.memory.specs.Memory.{card_of}
 use mathlib.Core.Path.{sym, ◌∙◌}
 use Rattle.memory.proofs.Memory.{trees-length}
 use Rattle.event_tree.proofs.Newcomer.{many-trees, none_needed, none_free, no_room, all-fits}
-use borrow.Author.Rules.{rules}
-use Rattle.event_tree.proofs.new_refusal.Goals as goal
+use Rattle.event_tree.proofs.check_new.Goals as goal
 
 pub returns-then-tree_count-ge-TREE_LIMIT : goal.returns-then-tree_count-ge-TREE_LIMIT
 returns-then-tree_count-ge-TREE_LIMIT c = λ os. many-trees (card_of c.args.numbers.now os) c.args.u c.args.size c.args.room _ (c.tree_count.ensures.0 ∙ sym (trees-length _ os)) c.if-tree_count-ge-TREE_LIMIT.true
