@@ -10,9 +10,11 @@ ghost use Rattle.meaning.specs.Card.{label_count, tree_at, tree_limit};
 ghost use Rattle.memory.specs.Sizes.{Numbers, Names};
 ghost use Rattle.memory.specs.Memory.{card_of, base_in, tree_count, label_in, label_name};
 ghost use Rattle.save_texts.specs.Laid.{laid};
+ghost use Rattle.refusals.specs.Refusals.{answer_of, count_of};
 
 use meaning::{LABEL_COUNT, ROUTE_SIZE, SPACED_NAME, TREE_BESIDE, USE_BESIDE};
 use memory::{NUMBER_COUNT, OCTET_COUNT};
+use refusals::Refusal;
 
 // ---- how many octets a record takes
 
@@ -44,12 +46,10 @@ fn put_routes(numbers: &[u64], names: &[u8], out: &mut [u8], from: usize) -> usi
 {
     let n = memory::route_count(numbers);
     let mut at = from;
-    let mut i = 0;
-    while i < n {
+    for i in 0..n {
         let e = at + ROUTE_SIZE;
         save_records::put_route_record(numbers, names, i, &mut out[at..e]);
         at = e;
-        i += 1;
     }
     at
 }
@@ -64,12 +64,10 @@ fn put_trees(numbers: &[u64], names: &[u8], second: bool, out: &mut [u8], from: 
 {
     let n = memory::tree_count(numbers);
     let mut at = from;
-    let mut i = 0;
-    while i < n {
+    for i in 0..n {
         let e = at + tree_size(names, second, i);
         save_records::put_tree_record(numbers, names, second, i, &mut out[at..e]);
         at = e;
-        i += 1;
     }
     at
 }
@@ -105,10 +103,8 @@ fn put_labels(numbers: &[u64], names: &[u8], second: bool, out: &mut [u8], from:
         × (result ≡ from + length (uses_saved (form_of second) (base_in numbers.now) c.labels)) }
 {
     let mut at = from;
-    let mut p = 0;
-    while p < LABEL_COUNT {
+    for p in 0..LABEL_COUNT {
         at = put_label(numbers, names, second, p, out, at);
-        p += 1;
     }
     at
 }
@@ -124,10 +120,8 @@ fn trees_size(numbers: &[u64], names: &[u8], second: bool) -> usize
         return n * (TREE_BESIDE + SPACED_NAME);
     }
     let mut total = 0;
-    let mut i = 0;
-    while i < n {
+    for i in 0..n {
         total += tree_size(names, second, i);
-        i += 1;
     }
     total
 }
@@ -159,10 +153,8 @@ fn labels_size(numbers: &[u64], names: &[u8], second: bool) -> usize
         return spaced_labels_size(numbers);
     }
     let mut total = 0;
-    let mut p = 0;
-    while p < LABEL_COUNT {
+    for p in 0..LABEL_COUNT {
         total += label_size(numbers, names, second, p);
-        p += 1;
     }
     total
 }
@@ -193,6 +185,26 @@ pub fn write_save(numbers: &[u64], names: &[u8], second: bool, out: &mut [u8]) -
 
 // ---- the call: `second` says that the save is of the new form
 
+// The save at the front of the output, and how many octets it has. Where it is refused the output stays.
+pub fn save_into(
+    numbers: &[u64],
+    names: &[u8],
+    second: bool,
+    out: &mut [u8],
+) -> Result<usize, Refusal>
+    requires { Numbers numbers.now × Names names.now }
+    ensures { let c = card_of numbers.now names.now in
+        Does (save (form_of second) (length out.old) c) (answer_of result) (count_of result) out.old out.new c }
+{
+    if !save_spaces::fits_save(numbers, names, second) {
+        return Err(Refusal::BadSave);
+    }
+    if out.len() < saved_size(numbers, names, second) {
+        return Err(Refusal::NoRoom);
+    }
+    Ok(write_save(numbers, names, second, out))
+}
+
 pub fn save_core(
     numbers: &[u64; NUMBER_COUNT],
     names: &[u8; OCTET_COUNT],
@@ -203,16 +215,7 @@ pub fn save_core(
     ensures { let c = card_of numbers.now names.now in
         Does (save (form_of second) (length out.old) c) answer.new result out.old out.new c }
 {
-    if !save_spaces::fits_save(numbers, names, second) {
-        *answer = 19;
-        return 0;
-    }
-    if out.len() < saved_size(numbers, names, second) {
-        *answer = 16;
-        return 0;
-    }
-    *answer = 0;
-    write_save(numbers, names, second, out)
+    refusals::tell(save_into(numbers, names, second, out), answer)
 }
 
 pub fn save<'a>(

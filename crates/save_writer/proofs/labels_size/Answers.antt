@@ -20,17 +20,17 @@ returns-then-not-second c =
     (labels-old _ _ _ _ c.if-not-second.true (k.0 a.names.now), omega (arith, k.1))
 
 pub loop-p-init : goal.loop-p-init
-loop-p-init c = (omega arith, sum-none _, omega arith)
+loop-p-init c = (sum-none _, omega arith)
 
 pub loop-p-preserved : goal.loop-p-preserved
 loop-p-preserved c =
     let a = c.args in
     let l = c.loop-p in
     let k = c.label_size-total.ensures in
-    (omega arith, sum_more (label_row (form_of a.second) a.numbers.now a.names.now) _ _ _ l.invariant.1 k.0, omega (arith, l.invariant.2, k.1))
+    (sum_more (label_row (form_of a.second) a.numbers.now a.names.now) _ _ _ l.invariant.0 k.0, omega (arith, l.invariant.1, k.1))
 
 pub returns : goal.returns
 returns c =
     let a = c.args in
     let l = c.loop-p in
-    (sum_done (label_row (form_of a.second) a.numbers.now a.names.now) l.p label_count _ _ (labels-rows (form_of a.second) a.numbers.now a.names.now) l.invariant.0 (omega arith) l.invariant.1, omega (arith, l.invariant.2, l.invariant.0))
+    (sum_done (label_row (form_of a.second) a.numbers.now a.names.now) l.p label_count _ _ (labels-rows (form_of a.second) a.numbers.now a.names.now) (omega arith) (omega arith) l.invariant.0, omega (arith, l.invariant.1))

@@ -14,7 +14,4 @@ use mathlib.Core.Bool.{not}
 use Rattle.save_writer.proofs.labels_size.Given as goal
 
 abbrev pub invariant-loop-p : goal.invariant-loop-p
-invariant-loop-p l = (l.p ≤ label_count) × (l.total ≡ length (joined l.p (label_row (form_of l.second) l.numbers l.names))) × (l.total ≤ l.p * (use_beside + name_most new))
-
-abbrev pub decreases-loop-p : goal.decreases-loop-p
-decreases-loop-p l = label_count - l.p
+invariant-loop-p l = (l.total ≡ length (joined l.p (label_row (form_of l.second) l.numbers l.names))) × (l.total ≤ l.p * (use_beside + name_most new))

@@ -10,6 +10,3 @@ use Rattle.save_writer.proofs.put_labels.Given as goal
 
 abbrev pub invariant-loop-p : goal.invariant-loop-p
 invariant-loop-p l = Rows (label_row (form_of l.second) l.numbers l.names) 256 l.from l.initial.out l.p l.at l.out
-
-abbrev pub decreases-loop-p : goal.decreases-loop-p
-decreases-loop-p l = label_count - l.p

@@ -11,6 +11,3 @@ use Rattle.save_writer.proofs.put_routes.Given as goal
 
 abbrev pub invariant-loop-i : goal.invariant-loop-i
 invariant-loop-i l = Rows (route_row l.numbers l.names) (route_count l.numbers) l.from l.initial.out l.i l.at l.out
-
-abbrev pub decreases-loop-i : goal.decreases-loop-i
-decreases-loop-i l = l.n - l.i

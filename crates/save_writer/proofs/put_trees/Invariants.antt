@@ -12,6 +12,3 @@ use Rattle.save_writer.proofs.put_trees.Given as goal
 
 abbrev pub invariant-loop-i : goal.invariant-loop-i
 invariant-loop-i l = Rows (tree_row (form_of l.second) l.numbers l.names) (tree_count l.numbers) l.from l.initial.out l.i l.at l.out
-
-abbrev pub decreases-loop-i : goal.decreases-loop-i
-decreases-loop-i l = l.n - l.i

@@ -19,7 +19,7 @@ returns-then-not-second c =
     (spaced-trees _ _ _ _ c.if-not-second.true n.0, omega (arith, n.1))
 
 pub loop-i-init : goal.loop-i-init
-loop-i-init c = (omega arith, sum-none _, omega arith)
+loop-i-init c = (sum-none _, omega arith)
 
 pub tree_size-total-requires : goal.tree_size-total-requires
 tree_size-total-requires c = (search rules, omega arith)
@@ -30,11 +30,11 @@ loop-i-preserved c =
     let l = c.loop-i in
     let lt : l.i < tree_count a.numbers.now = omega (arith, c.tree_count-n.ensures.0) in
     let k = c.tree_size-total.ensures in
-    (omega arith, sum_more (tree_row (form_of a.second) a.numbers.now a.names.now) _ _ _ l.invariant.1 (k.0 a.numbers.now lt ∙ sym (tree-size (form_of a.second) a.numbers.now a.names.now l.i lt)), omega (arith, l.invariant.2, k.1))
+    (sum_more (tree_row (form_of a.second) a.numbers.now a.names.now) _ _ _ l.invariant.0 (k.0 a.numbers.now lt ∙ sym (tree-size (form_of a.second) a.numbers.now a.names.now l.i lt)), omega (arith, l.invariant.1, k.1))
 
 pub returns : goal.returns
 returns c =
     let a = c.args in
     let l = c.loop-i in
     let n = c.tree_count-n.ensures in
-    (sum_done (tree_row (form_of a.second) a.numbers.now a.names.now) l.i (tree_count a.numbers.now) _ _ (trees-rows (form_of a.second) a.numbers.now a.names.now) (omega (arith, n.0, l.invariant.0)) (omega (arith, n.0)) l.invariant.1, omega (arith, l.invariant.2, l.invariant.0, n.1))
+    (sum_done (tree_row (form_of a.second) a.numbers.now a.names.now) l.i (tree_count a.numbers.now) _ _ (trees-rows (form_of a.second) a.numbers.now a.names.now) (omega (arith, n.0)) (omega (arith, n.0)) l.invariant.0, omega (arith, l.invariant.1, n.1))

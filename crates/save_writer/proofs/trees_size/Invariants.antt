@@ -14,7 +14,4 @@ use mathlib.Core.Bool.{not}
 use Rattle.save_writer.proofs.trees_size.Given as goal
 
 abbrev pub invariant-loop-i : goal.invariant-loop-i
-invariant-loop-i l = (l.i ≤ l.n) × (l.total ≡ length (joined l.i (tree_row (form_of l.second) l.numbers l.names))) × (l.total ≤ l.i * (tree_beside + name_most new))
-
-abbrev pub decreases-loop-i : goal.decreases-loop-i
-decreases-loop-i l = l.n - l.i
+invariant-loop-i l = (l.total ≡ length (joined l.i (tree_row (form_of l.second) l.numbers l.names))) × (l.total ≤ l.i * (tree_beside + name_most new))
