@@ -2,7 +2,6 @@
 use Rattle.save_writer.proofs.Saved.{label-none, use-sized}
 use mathlib.Core.Path.{sym, ◌∙◌}
 use native.Mathlib.Omega.{arith}
-use borrow.Author.Rules.{rules}
 use Rattle.save_writer.proofs.label_size.Goals as goal
 
 pub returns-then-is_free : goal.returns-then-is_free

@@ -1,16 +1,10 @@
 -- `save_writer::labels_size` meets its contract: in the new form the invariant is that the sum is that of p labels. Assumes nothing.
-use borrow.Author.Rules.{rules}
-use borrow.Author.Tests.{not-true}
 use Rattle.save_records.proofs.Rows.{joined}
 use Rattle.meaning_save.specs.Save.{new, form_of, use_beside, name_most}
-use Rattle.meaning.specs.Card.{label_count}
 use lib.ListN.{length}
-use Prim.Native.Nat.{◌+◌, ◌*◌, ◌-◌, ◌≤◌}
-use Rattle.save_writer.proofs.Saved.{label_row, labels-rows, sum-none, sum_more, sum_done, labels-old}
+use Prim.Native.Nat.{◌+◌, ◌*◌, ◌≤◌}
+use Rattle.save_writer.proofs.Saved.{label_row}
 use mathlib.Core.Path.{◌≡◌}
-use native.Mathlib.Omega.{arith}
-use mathlib.Core.Path.{ap}
-use mathlib.Core.Bool.{not}
 use Rattle.save_writer.proofs.labels_size.Given as goal
 
 abbrev pub invariant-loop-p : goal.invariant-loop-p

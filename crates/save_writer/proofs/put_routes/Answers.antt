@@ -1,12 +1,12 @@
 -- `save_writer::put_routes` meets its contract: the invariant is that i rows stand. Assumes nothing.
-use Prim.Native.Nat.{◌-◌, ◌<◌}
+use Prim.Native.Nat.{◌<◌}
 use native.Mathlib.Omega.{arith}
 use borrow.Author.Rules.{rules}
 use Rattle.meaning_save.specs.Save.{route_size}
 use Rattle.memory.specs.Memory.{route_count, route_in}
-use Rattle.save_records.proofs.Rows.{Rows, rows_none, rows-room, rows-lent, rows-done}
+use Rattle.save_records.proofs.Rows.{rows_none, rows-room, rows-lent, rows-done}
 use Rattle.meaning_laws.specs.SaveFields.{route-length}
-use Rattle.save_writer.proofs.Saved.{route_row, routes-lot}
+use Rattle.save_writer.proofs.Saved.{routes-lot}
 use Rattle.save_writer.proofs.put_routes.Goals as goal
 
 pub loop-i-init : goal.loop-i-init

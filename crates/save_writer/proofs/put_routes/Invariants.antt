@@ -1,12 +1,7 @@
 -- `save_writer::put_routes` meets its contract: the invariant is that i rows stand. Assumes nothing.
-use Prim.Native.Nat.{◌-◌, ◌<◌}
-use native.Mathlib.Omega.{arith}
-use borrow.Author.Rules.{rules}
-use Rattle.meaning_save.specs.Save.{route_size}
-use Rattle.memory.specs.Memory.{route_count, route_in}
-use Rattle.save_records.proofs.Rows.{Rows, rows_none, rows-room, rows-lent, rows-done}
-use Rattle.meaning_laws.specs.SaveFields.{route-length}
-use Rattle.save_writer.proofs.Saved.{route_row, routes-lot}
+use Rattle.memory.specs.Memory.{route_count}
+use Rattle.save_records.proofs.Rows.{Rows}
+use Rattle.save_writer.proofs.Saved.{route_row}
 use Rattle.save_writer.proofs.put_routes.Given as goal
 
 abbrev pub invariant-loop-i : goal.invariant-loop-i

@@ -1,13 +1,8 @@
 -- `save_writer::put_trees` meets its contract: the invariant is that i rows stand. Assumes nothing.
-use borrow.Author.Rules.{rules}
-use Rattle.save_records.proofs.Rows.{Rows, rows_none, rows-room, rows-lent, rows-done}
-use Rattle.memory.proofs.Memory.{tree-at}
+use Rattle.save_records.proofs.Rows.{Rows}
 use Rattle.memory.specs.Memory.{tree_count}
-use Rattle.meaning_save.specs.Save.{form_of, tree_saved}
-use Prim.Native.Nat.{◌-◌, ◌<◌}
-use Rattle.save_writer.proofs.Saved.{tree_row, trees-lot, tree-size}
-use mathlib.Core.Path.{sym, ap, ◌∙◌}
-use native.Mathlib.Omega.{arith}
+use Rattle.meaning_save.specs.Save.{form_of}
+use Rattle.save_writer.proofs.Saved.{tree_row}
 use Rattle.save_writer.proofs.put_trees.Given as goal
 
 abbrev pub invariant-loop-i : goal.invariant-loop-i

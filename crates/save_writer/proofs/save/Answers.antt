@@ -1,7 +1,6 @@
 -- `save_writer::save` meets its contract: the part that is handed back is exactly what the core wrote. Assumes nothing.
 use mathlib.Core.Path.{refl}
 use Rattle.meaning_laws.specs.Handed.{handed, handed-count}
-use borrow.Author.Rules.{rules}
 use Rattle.save_writer.proofs.save.Goals as goal
 
 pub slice_bounds-result-end : goal.slice_bounds-result-end

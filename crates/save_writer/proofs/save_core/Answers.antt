@@ -1,5 +1,4 @@
 -- `save_writer::save_core` meets its contract: the caller is told what `save_into` did. Assumes nothing.
-use borrow.Author.Rules.{rules}
 use Rattle.save_writer.proofs.save_core.Goals as goal
 
 pub returns : goal.returns

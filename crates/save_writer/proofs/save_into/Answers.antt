@@ -1,12 +1,9 @@
 -- `save_writer::save_into` meets its contract: 19 where a name has no space, 16 where the save is longer than the output, and else what `write_save` does. Assumes nothing.
 use native.Mathlib.Omega.{arith}
 use mathlib.Core.Path.{sym, ◌∙◌}
-use borrow.Author.Tests.{not-true, not-false}
 use Rattle.memory.specs.Memory.{card_of}
 use Rattle.save_writer.proofs.Saved.{does-long, does-short, does-save}
 use borrow.Author.Rules.{rules}
-use mathlib.Core.Path.{ap}
-use mathlib.Core.Bool.{not}
 use Rattle.save_writer.proofs.save_into.Goals as goal
 
 pub returns-then-not-fits_save : goal.returns-then-not-fits_save

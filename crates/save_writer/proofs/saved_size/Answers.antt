@@ -1,7 +1,6 @@
 -- `save_writer::saved_size` meets its contract: the sum of the sizes of all records. Assumes nothing.
 use Rattle.save_writer.proofs.Saved.{saved-size}
 use native.Mathlib.Omega.{arith}
-use borrow.Author.Rules.{rules}
 use Rattle.save_writer.proofs.saved_size.Goals as goal
 
 pub returns : goal.returns

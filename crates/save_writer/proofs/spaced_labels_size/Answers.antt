@@ -1,7 +1,6 @@
 -- `save_writer::spaced_labels_size` meets its contract: so many labels are not free, and each record has one size. Assumes nothing.
 use Rattle.save_writer.proofs.Saved.{spaced-labels}
 use native.Mathlib.Omega.{arith}
-use borrow.Author.Rules.{rules}
 use Rattle.save_writer.proofs.spaced_labels_size.Goals as goal
 
 pub returns : goal.returns

@@ -4,7 +4,6 @@ use Rattle.meaning_save.specs.Save.{use_beside}
 use Prim.Native.Nat.{ℕ, ◌+◌}
 use mathlib.Core.Path.{ap, ◌∙◌}
 use native.Mathlib.Omega.{arith}
-use borrow.Author.Rules.{rules}
 use Rattle.save_writer.proofs.use_size.Goals as goal
 
 pub returns : goal.returns
