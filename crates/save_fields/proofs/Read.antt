@@ -6,7 +6,7 @@ use mathlib.Core.Path.{◌≡◌, refl, sym, ap, ap₂, ◌∙◌}
 use mathlib.Core.Bool.{Bool, true, false}
 use mathlib.Core.List.{List, [], ◌∷◌, ◌++◌, append_assoc}
 use lib.ListN.{length, take, drop, get_or, length-append, length-take, length-drop, drop_of_length-le}
-use lib.Seq.{get_or-take, take-take, take_all, take-length, take_at, drop-drop, get_or-drop, length-take-le}
+use lib.Seq.{take-take, take_all, take-length, take_at, drop-drop, get_or-drop, length-take-le}
 use lib.Dec.{eqb, ltb}
 use borrow.Author.Tests.{ltb-true, ltb-false}
 use Rattle.meaning.specs.Octets.{pick, two, two_at, four_at}
@@ -27,15 +27,6 @@ module _ (o : List ℕ) (at : ℕ) where
   four-drop i =
       let e : at + (i + 2) ≡ at + i + 2 = omega arith in
       ap₂ (λ (x y : ℕ). x * 65536 + y) (two-there o at i) (two-there o at (i + 2) ∙ ap (two_at o) e)
-
--- four octets by themselves
-pub four-part : (o : List ℕ) (at : ℕ) → four_at (take (at + 4 - at) (drop at o)) 0 ≡ four_at o at
-unfolding four_at two_at
-four-part o at =
-    let n : at + 4 - at ≡ 4 = omega arith in
-    let here : at + 0 ≡ at = omega arith in
-    rw (n, get_or-take 4 (drop at o) 0 0 (omega arith), get_or-take 4 (drop at o) 1 0 (omega arith), get_or-take 4 (drop at o) 2 0 (omega arith), get_or-take 4 (drop at o) 3 0 (omega arith))
-    (four-drop o at 0 ∙ ap (four_at o) here)
 
 -- ---- octets in a space
 

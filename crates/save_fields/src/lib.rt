@@ -5,26 +5,16 @@ ghost use Rattle.std.specs.Prelude.{◌≡◌, [], ◌∷◌, ◌++◌, ◌+◌,
 ghost use Rattle.meaning.specs.Octets.{pick, two, four_at};
 ghost use Rattle.meaning.specs.Wire.{name_limit, root_limit};
 ghost use Rattle.meaning_save.specs.Save.{old, new, form_of, spaced_in, name_in, extent, saved_opaque};
-ghost use Rattle.memory.specs.Memory.{up_to, Placed};
+ghost use Rattle.memory.specs.Memory.{Placed};
 
 use meaning::{NAME_LIMIT, ROOT_LIMIT, SAVED_OPAQUE, SAVED_ROOT_SPACE, SPACED_NAME};
 
-fn at_most(n: usize, k: usize) -> usize
-    ensures { (result ≡ up_to k n) × (result ≤ k) }
-{
-    if n < k { n } else { k }
-}
-
-// The number of four octets at a place. Where they are all there they are read at once.
+// The number of four octets at a place.
 pub fn four_at(octets: &[u8], at: usize) -> u64
     requires { at + 4 < 18446744073709551616 }
     ensures { (result ≡ four_at octets.now at) × (result < 4294967296) }
 {
-    let e = at + 4;
-    if octets.len() < e {
-        return octets::four_at(octets, at);
-    }
-    octets::four_at(&octets[at..e], 0)
+    octets::four_at(octets, at)
 }
 
 // The octets that stand in a space of n, with their number before them.
@@ -36,7 +26,7 @@ pub fn spaced(octets: &[u8], at: usize, n: usize) -> &[u8]
     }
     let k = octets::at(octets, at) as usize;
     let s = at + 1;
-    let e = s + at_most(at_most(k, n), octets.len() - s);
+    let e = s + k.min(n).min(octets.len() - s);
     &octets[s..e]
 }
 

@@ -1,7 +1,6 @@
 -- `save_fields::extent_at` meets its contract, in either form. Assumes nothing.
 use Rattle.save_fields.proofs.Read.{extent-new, extent-old}
 use native.Mathlib.Omega.{arith}
-use borrow.Author.Rules.{rules}
 use Rattle.save_fields.proofs.extent_at.Goals as goal
 
 pub returns-then-second : goal.returns-then-second

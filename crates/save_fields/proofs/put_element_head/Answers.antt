@@ -1,4 +1,3 @@
-use borrow.Author.Rules.{rules}
 use Rattle.save_fields.proofs.Read.{head-put}
 use Rattle.save_fields.proofs.put_element_head.Goals as goal
 

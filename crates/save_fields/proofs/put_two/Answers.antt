@@ -1,6 +1,5 @@
 use native.Mathlib.Omega.{arith}
 use mathlib.Core.Path.{sym, ◌∙◌}
-use borrow.Author.Rules.{rules}
 use Rattle.save_fields.proofs.Read.{two-small}
 use Rattle.save_fields.proofs.put_two.Goals as goal
 

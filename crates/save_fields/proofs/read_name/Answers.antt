@@ -1,6 +1,5 @@
 -- `save_fields::read_name` meets its contract, in either form. Assumes nothing.
 use Rattle.save_fields.proofs.Read.{name_new, name-old}
-use borrow.Author.Rules.{rules}
 use Rattle.save_fields.proofs.read_name.Goals as goal
 
 pub returns-then-second : goal.returns-then-second

@@ -1,6 +1,5 @@
 use native.Mathlib.Omega.{arith}
 use mathlib.Core.Path.{refl, ◌∙◌}
-use borrow.Author.Rules.{rules}
 use Rattle.save_fields.proofs.Read.{name-put, name_in_lem}
 use Rattle.save_fields.proofs.read_spaces.Goals as goal
 

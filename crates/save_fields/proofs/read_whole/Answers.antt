@@ -1,6 +1,5 @@
 -- `save_fields::read_whole` meets its contract. Assumes nothing.
 use Rattle.save_fields.proofs.Read.{whole_in}
-use borrow.Author.Rules.{rules}
 use Rattle.save_fields.proofs.read_whole.Goals as goal
 
 pub returns : goal.returns
