@@ -29,10 +29,8 @@ fn read_routes(octets: &[u8], at: usize, n: usize, numbers: &mut [u64], names: &
     requires { Numbers numbers.old × Names names.old × (n ≤ route_limit) × (at < 65536) × ((card_of numbers.old names.old).routes ≡ []) }
     ensures { card_of numbers.new names.new ≡ with_routes (routes_read n (drop at octets.now)) (card_of numbers.old names.old) }
 {
-    let mut i = 0;
-    while i < n {
+    for i in 0..n {
         read_route(octets, at + i * ROUTE_SIZE, numbers, names);
-        i += 1;
     }
 }
 
@@ -44,11 +42,9 @@ fn lay_branches(octets: &[u8], at: usize, numbers: &mut [u64], i: usize)
     ensures { (os : List ℕ) → (let c = card_of numbers.old os in
         card_of numbers.new os ≡ with_trees (set c.trees i (with_branches (fours_in neighbour_count (drop at octets.now)) (tree_at i c))) c) }
 {
-    let mut n = 0;
-    while n < NEIGHBOUR_COUNT {
+    for n in 0..NEIGHBOUR_COUNT {
         let label = octets::four_at(octets, at + n * 4);
         memory_changes::set_branch(numbers, i, n, label);
-        n += 1;
     }
 }
 
@@ -111,12 +107,10 @@ fn read_trees(
         × (drop result octets.now ≡ trees_end (form_of second) n (drop from octets.now)) × (result ≤ from + n * (tree_beside + 256)) }
 {
     let mut at = from;
-    let mut i = 0;
-    while i < n {
+    for i in 0..n {
         let e = save_fields::extent_at(octets, at + 3, second);
         read_tree(octets, at, second, e, numbers, names);
         at = at + (TREE_BESIDE + e);
-        i += 1;
     }
     at
 }

@@ -1,4 +1,3 @@
-use borrow.Author.Rules.{rules}
 use Rattle.save_rows.proofs.enter_name.Goals as goal
 
 pub returns : goal.returns

@@ -6,7 +6,6 @@ use lib.ListN.{take, drop}
 use Rattle.meaning.specs.Card.{neighbour_count}
 use Rattle.meaning_save.specs.Save.{fours_in}
 use Rattle.save_rows.proofs.Rows.{fours-within}
-use borrow.Author.Rules.{rules}
 use Rattle.save_rows.proofs.read_branches.Goals as goal
 
 pub returns-then-e-octets : goal.returns-then-e-octets

@@ -1,4 +1,3 @@
-use borrow.Author.Rules.{rules}
 use Rattle.save_rows.proofs.Rows.{route-read}
 use Rattle.save_rows.proofs.read_route.Goals as goal
 

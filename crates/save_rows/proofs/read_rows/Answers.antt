@@ -2,7 +2,6 @@
 use Rattle.save_rows.proofs.Rows.{head-empty, still-empty, rows_whole}
 use mathlib.Core.Path.{◌∙◌}
 use native.Mathlib.Omega.{arith}
-use borrow.Author.Rules.{rules}
 use Rattle.save_rows.proofs.read_rows.Goals as goal
 
 pub read_routes-requires : goal.read_routes-requires

@@ -6,7 +6,6 @@ use lib.Dec.{eqb}
 use mathlib.Core.Path.{sym, ap, ◌∙◌}
 use mathlib.Core.Bool.{not}
 use native.Mathlib.Omega.{arith}
-use borrow.Author.Rules.{rules}
 use Rattle.save_rows.proofs.read_tree.Goals as goal
 
 pub set_leaf-requires : goal.set_leaf-requires
