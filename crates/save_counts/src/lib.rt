@@ -47,12 +47,10 @@ pub fn work_out_all(numbers: &mut [u64], names: &[u8]) -> bool
         × (result ≡ true → card_of numbers.new names.now ≡ counted c) }
 {
     let n = memory::tree_count(numbers);
-    let mut i = 0;
-    while i < n {
+    for i in 0..n {
         if !count_tree(numbers, names, i) {
             return false;
         }
-        i += 1;
     }
     true
 }

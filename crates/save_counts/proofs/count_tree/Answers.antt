@@ -1,4 +1,3 @@
-use borrow.Author.Rules.{rules}
 use Rattle.save_counts.proofs.Entries.{nothing-stands, nothing-lone}
 use Rattle.save_counts.proofs.count_tree.Goals as goal
 

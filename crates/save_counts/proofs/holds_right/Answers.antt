@@ -1,6 +1,5 @@
 use mathlib.Core.Path.{refl}
 use Rattle.save_rules_rows.proofs.RowRules.{holds}
-use borrow.Author.Rules.{rules}
 use Rattle.save_counts.proofs.holds_right.Goals as goal
 
 pub returns : goal.returns
