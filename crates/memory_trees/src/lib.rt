@@ -69,7 +69,9 @@ pub fn branches(numbers: &[u64], i: usize) -> [u64; NEIGHBOUR_COUNT]
 {
     let a = BRANCH_COLUMN + i * ROW_WIDTH;
     let mut all = [0; NEIGHBOUR_COUNT];
-    all.copy_from_slice(&numbers[a..a + NEIGHBOUR_COUNT]);
+    for n in 0..NEIGHBOUR_COUNT {
+        all[n] = numbers[a + n];
+    }
     all
 }
 
