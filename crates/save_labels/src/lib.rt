@@ -19,19 +19,13 @@ use save_tags::HINT_COUNT;
 
 // ---- labels in use
 
-// The place of a label in the block: 0 also where it lies before the block.
-fn place_of(label: u64, base: u64) -> u64
-    ensures { result ≡ label - base }
-{
-    if label < base { 0 } else { label - base }
-}
-
 fn read_use(octets: &[u8], at: usize, second: bool, numbers: &mut [u64], names: &mut [u8])
     requires { Numbers numbers.old × Names names.old × (at < 1000000000) × Unlabelled (card_of numbers.old names.old) }
     ensures { let c = card_of numbers.old names.old in
         card_of numbers.new names.new ≡ with_labels (set c.labels (four_at (drop at octets.now) 3 - c.base) (use_read (form_of second) (drop at octets.now))) c }
 {
-    let p = place_of(octets::four_at(octets, at + 3), memory::base(numbers));
+    let label = octets::four_at(octets, at + 3);
+    let p = label.saturating_sub(memory::base(numbers));
     if LABELS <= p {
         return;
     }
@@ -61,12 +55,10 @@ fn read_uses(
         card_of numbers.new names.new ≡ with_labels (uses_read (form_of second) c.base n (drop from octets.now) c.labels) c }
 {
     let mut at = from;
-    let mut i = 0;
-    while i < n {
+    for _ in 0..n {
         read_use(octets, at, second, numbers, names);
         let e = save_fields::extent_at(octets, at + 9, second);
         at = at + (USE_BESIDE + e);
-        i += 1;
     }
 }
 
@@ -107,10 +99,8 @@ fn label_trees(numbers: &mut [u64], names: &[u8])
     save_tags::tree_tags(numbers, names, &mut tags);
     let mut hints = [0u8; HINT_COUNT];
     save_tags::tree_hints(numbers, &tags, &mut hints);
-    let mut p = 0;
-    while p < LABEL_COUNT {
+    for p in 0..LABEL_COUNT {
         give_label(numbers, names, &tags, &hints, p);
-        p += 1;
     }
 }
 
@@ -121,12 +111,10 @@ fn above_used(numbers: &[u64]) -> usize
     requires { Numbers numbers.now }
     ensures { (os : List ℕ) → label_before (base_in numbers.now) result ≡ highest_used (base_in numbers.now) (card_of numbers.now os).labels }
 {
-    let mut p = LABEL_COUNT;
-    while 0 < p {
-        if !memory_labels::is_free(numbers, p - 1) {
-            return p;
+    for p in (0..LABEL_COUNT).rev() {
+        if !memory_labels::is_free(numbers, p) {
+            return p + 1;
         }
-        p -= 1;
     }
     0
 }

@@ -1,7 +1,6 @@
 -- `save_labels::give_label` meets its contract: the tree of the label's name alone is changed, if any. Assumes nothing.
 use mathlib.Core.Path.{sym, ◌∙◌}
 use native.Mathlib.Omega.{arith}
-use borrow.Author.Rules.{rules}
 use Rattle.save_labels.proofs.Labels.{given-none, given_out, given-before, given-now, none_has}
 use Rattle.save_labels.proofs.give_label.Goals as goal
 

@@ -1,30 +1,27 @@
 -- `save_labels::label_trees` meets its contract: the invariant is that the trees carry what the first p labels give them. Assumes nothing.
-use Prim.Native.Nat.{◌-◌, ◌≤◌}
 use native.Mathlib.Omega.{arith}
-use mathlib.Core.Path.{◌≡◌, refl, ◌∙◌}
-use lib.ListN.{length}
+use mathlib.Core.Path.{refl, ◌∙◌}
 use borrow.Author.Rules.{rules}
-use Rattle.meaning.specs.Card.{label_count}
-use Rattle.save_labels.proofs.Labels.{Labelled, labelled-none, labelled-many, labelled-once, labelled-alone, labelled-more, labelled-all}
+use Rattle.save_labels.proofs.Labels.{labelled-none, labelled-many, labelled-once, labelled-alone, labelled-more, labelled-all}
 use Rattle.save_labels.proofs.label_trees.Goals as goal
 
 pub loop-p-init : goal.loop-p-init
 loop-p-init c =
-    (omega arith, refl, labelled-none _ _ c.requires.2)
+    (refl, labelled-none _ _ c.requires.2)
 
 pub give_label-requires : goal.give_label-requires
 give_label-requires c =
     let the-tree-tags = c.tree_tags in
     let l = c.loop-p in
     let h = c.loop-p-test.true in
-    let many = labelled-many c.args.numbers.now c.args.names.now l.p _ l.invariant.2 in (
-      l.invariant.1 ∙ c.requires.0,
+    let many = labelled-many c.args.numbers.now c.args.names.now l.p _ l.invariant.1 in (
+      l.invariant.0 ∙ c.requires.0,
       c.requires.1,
       search rules,
       (λ j k. the-tree-tags.ensures j (omega (arith, many))),
       h,
-      labelled-once c.args.numbers.now c.args.names.now l.p _ l.invariant.2 c.requires.3,
-      labelled-alone c.args.numbers.now c.args.names.now l.p _ l.invariant.2 h,
+      labelled-once c.args.numbers.now c.args.names.now l.p _ l.invariant.1 c.requires.3,
+      labelled-alone c.args.numbers.now c.args.names.now l.p _ l.invariant.1 h,
       search rules,
     )
 
@@ -32,11 +29,11 @@ pub loop-p-preserved : goal.loop-p-preserved
 loop-p-preserved c =
     let the-loop-test = c.loop-p-test in
     let l = c.loop-p in
-    (omega arith, c.numbers-1.given ∙ l.invariant.1, labelled-more c.args.numbers.now c.args.names.now l.p _ l.invariant.2 the-loop-test.true _ c.give_label.ensures)
+    (c.numbers-1.given ∙ l.invariant.0, labelled-more c.args.numbers.now c.args.names.now l.p _ l.invariant.1 the-loop-test.true _ c.give_label.ensures)
 
 pub shape_of-numbers : goal.shape_of-numbers
-shape_of-numbers c = c.loop-p.invariant.1
+shape_of-numbers c = c.loop-p.invariant.0
 
 pub returns : goal.returns
 returns c =
-    labelled-all c.args.numbers.now c.args.names.now c.loop-p.p _ c.loop-p-test.false c.loop-p.invariant.2
+    labelled-all c.args.numbers.now c.args.names.now c.loop-p.p _ c.loop-p-test.false c.loop-p.invariant.1

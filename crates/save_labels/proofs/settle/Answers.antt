@@ -1,6 +1,5 @@
 -- `save_labels::settle` meets its contract: the last label given is set by its turn. Assumes nothing.
 use Rattle.save_labels.proofs.Labels.{settled_is}
-use borrow.Author.Rules.{rules}
 use Rattle.save_labels.proofs.settle.Goals as goal
 
 pub returns : goal.returns

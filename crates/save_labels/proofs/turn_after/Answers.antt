@@ -1,11 +1,7 @@
 -- `save_labels::turn_after` meets its contract, in either form. Assumes nothing.
 use Rattle.save_labels.proofs.Labels.{turn-old, turn-none, turn-some}
-use borrow.Author.Tests.{not-true, not-false}
 use mathlib.Core.Path.{◌∙◌}
 use native.Mathlib.Omega.{arith}
-use borrow.Author.Rules.{rules}
-use mathlib.Core.Path.{ap}
-use mathlib.Core.Bool.{not}
 use Rattle.save_labels.proofs.turn_after.Goals as goal
 
 pub returns-then-not-second : goal.returns-then-not-second
