@@ -1,7 +1,7 @@
 // Whether octets are laid out as a save is, in either form: record by record, field by field. Nothing is written for it.
 #![tactic(auto)]
 
-ghost use Rattle.std.specs.Prelude.{◌≡◌, true, false, ◌+◌, ◌*◌, ◌≤◌, ◌<◌, length, drop};
+ghost use Rattle.std.specs.Prelude.{◌≡◌, true, false, ◌+◌, ◌*◌, ◌≤◌, ◌<◌, length, drop, MatchOption};
 ghost use Rattle.meaning.specs.Octets.{four_at};
 ghost use Rattle.meaning_save.specs.Save.{old, form_of, saved_opaque, spaced_name, extent, trees_end, use_beside};
 ghost use Rattle.save_written.specs.Written.{marked_as, space_written, name_written, label_written, route_written, tree_written, use_written, head_written, routes_written, trees_written, uses_written, rows_written, written};
@@ -44,10 +44,7 @@ fn is_two_spaces(octets: &[u8], at: usize) -> bool
     if (k != 4) & (k != ROOT_LIMIT) {
         return false;
     }
-    if !is_space(octets, at, ROOT_LIMIT) {
-        return false;
-    }
-    is_space(octets, at + SAVED_ROOT_SPACE, SAVED_OPAQUE)
+    is_space(octets, at, ROOT_LIMIT) && is_space(octets, at + SAVED_ROOT_SPACE, SAVED_OPAQUE)
 }
 
 fn is_name(octets: &[u8], at: usize, second: bool) -> bool
@@ -69,10 +66,7 @@ fn is_route(octets: &[u8], at: usize) -> bool
     if octets.len() < at + ROUTE_SIZE {
         return false;
     }
-    if !is_marked(octets, at, 2) {
-        return false;
-    }
-    is_space(octets, at + 4, ROOT_LIMIT)
+    is_marked(octets, at, 2) && is_space(octets, at + 4, ROOT_LIMIT)
 }
 
 // n routes from a place on.
@@ -81,13 +75,11 @@ fn routes_written(octets: &[u8], from: usize, n: usize) -> bool
     ensures { result ≡ routes_written n (drop from octets.now) }
 {
     let mut at = from;
-    let mut left = n;
-    while 0 < left {
+    for _ in 0..n {
         if !is_route(octets, at) {
             return false;
         }
-        at = at + ROUTE_SIZE;
-        left -= 1;
+        at += ROUTE_SIZE;
     }
     true
 }
@@ -102,33 +94,26 @@ fn is_tree(octets: &[u8], at: usize, second: bool, e: usize) -> bool
     if octets.len() < at + (TREE_BESIDE + e) {
         return false;
     }
-    if !is_marked(octets, at, save_forms::tree_kind(second)) {
-        return false;
-    }
-    if 1 < octets[at + (3 + e)] {
-        return false;
-    }
-    is_name(octets, at + 3, second)
+    is_marked(octets, at, save_forms::tree_kind(second))
+        && octets[at + (3 + e)] <= 1
+        && is_name(octets, at + 3, second)
 }
 
-// The place behind n trees, the first of which stands at a place other than 0; 0 where they are not so written.
-fn behind_trees(octets: &[u8], from: usize, second: bool, n: usize) -> usize
-    requires { (0 < from) × (from < 65536) × (n < 256) }
-    ensures { (result ≡ 0 → trees_written (form_of second) n (drop from octets.now) ≡ false)
-        × (0 < result → (trees_written (form_of second) n (drop from octets.now) ≡ true) × (drop result octets.now ≡ trees_end (form_of second) n (drop from octets.now)))
-        × (result < 200000) }
+// The place behind n trees; none where they are not so written.
+fn behind_trees(octets: &[u8], from: usize, second: bool, n: usize) -> Option<usize>
+    requires { (from < 65536) × (n < 256) }
+    ensures { MatchOption result (trees_written (form_of second) n (drop from octets.now) ≡ false)
+        (λ at. (trees_written (form_of second) n (drop from octets.now) ≡ true) × (drop at octets.now ≡ trees_end (form_of second) n (drop from octets.now)) × (at < 200000)) }
 {
     let mut at = from;
-    let mut left = n;
-    while 0 < left {
+    for _ in 0..n {
         let e = save_fields::extent_at(octets, at + 3, second);
         if !is_tree(octets, at, second, e) {
-            return 0;
+            return None;
         }
-        at = at + (TREE_BESIDE + e);
-        left -= 1;
+        at += TREE_BESIDE + e;
     }
-    at
+    Some(at)
 }
 
 // ---- labels in use
@@ -159,13 +144,9 @@ fn is_use(octets: &[u8], at: usize, second: bool, e: usize, base: u64, least: u6
     if octets.len() < at + (USE_BESIDE + e) {
         return false;
     }
-    if !is_marked(octets, at, save_forms::use_kind(second)) {
-        return false;
-    }
-    if !is_label(octets, at, base, least, l) {
-        return false;
-    }
-    is_name(octets, at + 9, second)
+    is_marked(octets, at, save_forms::use_kind(second))
+        && is_label(octets, at, base, least, l)
+        && is_name(octets, at + 9, second)
 }
 
 // n labels from a place on, by rising number, and nothing behind them.
@@ -175,16 +156,14 @@ fn uses_written(octets: &[u8], from: usize, second: bool, base: u64, n: usize) -
 {
     let mut at = from;
     let mut least = base;
-    let mut left = n;
-    while 0 < left {
+    for _ in 0..n {
         let e = save_fields::extent_at(octets, at + 9, second);
         let l = octets::four_at(octets, at + 3);
         if !is_use(octets, at, second, e, base, least, l) {
             return false;
         }
         least = l + 1;
-        at = at + (USE_BESIDE + e);
-        left -= 1;
+        at += USE_BESIDE + e;
     }
     octets.len() <= at
 }
@@ -194,25 +173,22 @@ fn uses_written(octets: &[u8], from: usize, second: bool, base: u64, n: usize) -
 fn is_head(octets: &[u8], second: bool) -> bool
     ensures { result ≡ head_written (form_of second) octets.now }
 {
-    if octets.len() < save_forms::head_size(second) {
-        return false;
-    }
-    is_marked(octets, 0, save_forms::head_kind(second))
+    save_forms::head_size(second) <= octets.len()
+        && is_marked(octets, 0, save_forms::head_kind(second))
 }
 
 // Trees from a place on, and behind them the labels that the head counts.
 fn rows_written(octets: &[u8], from: usize, second: bool) -> bool
-    requires { (0 < from) × (from < 65536) }
+    requires { from < 65536 }
     ensures { result ≡ rows_written (form_of second) (drop from octets.now) octets.now }
 {
     let trees = octets::at(octets, 12) as usize;
-    let at = behind_trees(octets, from, second, trees);
-    if at == 0 {
-        return false;
-    }
     let base = octets::four_at(octets, 3);
     let labels = octets::two_at(octets, 13) as usize;
-    uses_written(octets, at, second, base, labels)
+    match behind_trees(octets, from, second, trees) {
+        Some(at) => uses_written(octets, at, second, base, labels),
+        None => false,
+    }
 }
 
 // Whether the octets are laid out as a save is.
@@ -224,8 +200,5 @@ pub fn is_written(octets: &[u8], second: bool) -> bool
     }
     let head = save_forms::head_size(second);
     let routes = octets::at(octets, 11) as usize;
-    if !routes_written(octets, head, routes) {
-        return false;
-    }
-    rows_written(octets, head + routes * ROUTE_SIZE, second)
+    routes_written(octets, head, routes) && rows_written(octets, head + routes * ROUTE_SIZE, second)
 }

@@ -2,7 +2,6 @@
 use Prim.Native.Nat.{◌+◌}
 use native.Mathlib.Omega.{arith}
 use Rattle.save_written.proofs.Steps.{label-low, label-high, label-stateless, label-there}
-use borrow.Author.Rules.{rules}
 use Rattle.save_written.proofs.is_label.Goals as goal
 
 pub returns-then-l-least : goal.returns-then-l-least

@@ -1,7 +1,6 @@
 -- `save_written::is_marked` meets its contract. Assumes nothing.
 use native.Mathlib.Omega.{arith}
 use Rattle.save_written.proofs.Places.{mark-there}
-use borrow.Author.Rules.{rules}
 use Rattle.save_written.proofs.is_marked.Goals as goal
 
 pub returns : goal.returns

@@ -4,7 +4,6 @@ use native.Mathlib.Omega.{arith}
 use lib.ListN.{get_or}
 use mathlib.Core.Path.{refl}
 use Rattle.save_written.proofs.Places.{space-full, space-zeros}
-use borrow.Author.Rules.{rules}
 use Rattle.save_written.proofs.is_space.Goals as goal
 
 pub overflow_cast-k : goal.overflow_cast-k

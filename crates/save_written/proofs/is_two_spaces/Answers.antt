@@ -1,11 +1,7 @@
 -- `save_written::is_two_spaces` meets its contract. Assumes nothing.
 use native.Mathlib.Omega.{arith}
 use mathlib.Core.Path.{refl, sym, ◌∙◌}
-use borrow.Author.Tests.{not-true, not-false}
 use Rattle.save_written.proofs.Places.{no_address, no-root, root-and-value}
-use borrow.Author.Rules.{rules}
-use mathlib.Core.Path.{ap}
-use mathlib.Core.Bool.{not}
 use Rattle.save_written.proofs.is_two_spaces.Goals as goal
 
 pub overflow_cast-k : goal.overflow_cast-k
@@ -16,12 +12,12 @@ returns-then-k c =
     let a = c.args in
     no_address a.octets.now a.at _ (omega arith) refl c.if-k.true
 
-pub returns-then-not-is_space : goal.returns-then-not-is_space
-returns-then-not-is_space c =
+pub returns-then-is_space : goal.returns-then-is_space
+returns-then-is_space c =
     let a = c.args in
-    no-root a.octets.now a.at _ (omega arith) refl c.if-k.false (sym c.is_space.ensures ∙ c.if-not-is_space.true)
+    root-and-value a.octets.now a.at _ (omega arith) refl c.if-k.false (sym c.is_space.ensures ∙ c.if-is_space.true) _ c.is_space-then-is_space.ensures
 
-pub returns : goal.returns
-returns c =
+pub returns-else-is_space : goal.returns-else-is_space
+returns-else-is_space c =
     let a = c.args in
-    root-and-value a.octets.now a.at _ (omega arith) refl c.if-k.false (sym c.is_space.ensures ∙ c.if-not-is_space.false) _ c.is_space-2.ensures
+    c.if-is_space.false ∙ no-root a.octets.now a.at _ (omega arith) refl c.if-k.false (sym c.is_space.ensures ∙ c.if-is_space.false)

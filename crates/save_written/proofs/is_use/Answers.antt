@@ -1,41 +1,35 @@
 -- `save_written::is_use` meets its contract. Assumes nothing.
 use native.Mathlib.Omega.{arith}
 use mathlib.Core.Path.{sym, ◌∙◌}
-use borrow.Author.Tests.{not-true, not-false}
 use Rattle.save_written.proofs.Places.{marked-so}
 use Rattle.save_written.proofs.Steps.{use-few, use-unmarked, use-no-label, use-stands}
-use borrow.Author.Rules.{rules}
-use mathlib.Core.Path.{ap}
-use mathlib.Core.Bool.{not}
+use Rattle.meaning.specs.Lists.{never}
 use Rattle.save_written.proofs.is_use.Goals as goal
+use Rattle.save_written.proofs.is_use.Goals.{then-is_marked, else-is_marked}
 
 pub returns-then-octets-at : goal.returns-then-octets-at
 returns-then-octets-at c =
     let a = c.args in
     use-few a.octets.now a.at _ a.base a.least a.e c.requires.1 c.if-octets-at.true
 
-pub returns-then-not-is_marked : goal.returns-then-not-is_marked
-returns-then-not-is_marked c =
+pub returns-then-is_label : goal.returns-then-is_label
+returns-then-is_label c =
     let known = c.shared_slice_known-1 in
     let a = c.args in
-    use-unmarked a.octets.now a.at _ a.base a.least a.e c.requires.1 (λ i. omega (arith, known.given i)) c.if-octets-at.false
-    (marked-so a.octets.now a.at _ _ _ _ c.use_kind.ensures c.is_marked.ensures c.if-not-is_marked.true)
+    elim c.if-is_marked.branch [
+      | then-is_marked w ↦ use-stands a.octets.now a.at _ a.base a.least a.e c.requires.1 (λ i. omega (arith, known.given i)) c.if-octets-at.false
+          (marked-so a.octets.now a.at _ _ _ _ c.use_kind.ensures c.is_marked.ensures w.if-is_marked.true) (sym w.is_label.ensures ∙ sym w.value-is ∙ c.if-is_label.true) _ c.is_name.ensures
+      | else-is_marked w ↦ absurd (never (sym w.if-is_marked.false ∙ sym w.value-is ∙ c.if-is_label.true))
+    ]
 
-pub returns-then-not-is_label : goal.returns-then-not-is_label
-returns-then-not-is_label c =
+pub returns-else-is_label : goal.returns-else-is_label
+returns-else-is_label c =
     let known = c.shared_slice_known-1 in
-    let the-if1 = c.if-octets-at in
-    let the-kind = c.use_kind in
     let a = c.args in
-    use-no-label a.octets.now a.at _ a.base a.least a.e c.requires.1 (λ i. omega (arith, known.given i)) the-if1.false
-    (marked-so a.octets.now a.at _ _ _ _ the-kind.ensures c.is_marked.ensures c.if-not-is_marked.false) (sym c.is_label.ensures ∙ c.if-not-is_label.true)
-
-pub returns : goal.returns
-returns c =
-    let known = c.shared_slice_known-1 in
-    let the-if1 = c.if-octets-at in
-    let the-kind = c.use_kind in
-    let the-mark = c.is_marked in
-    let a = c.args in
-    use-stands a.octets.now a.at _ a.base a.least a.e c.requires.1 (λ i. omega (arith, known.given i)) the-if1.false
-    (marked-so a.octets.now a.at _ _ _ _ the-kind.ensures the-mark.ensures c.if-not-is_marked.false) (sym c.is_label.ensures ∙ c.if-not-is_label.false) _ c.is_name.ensures
+    c.if-is_label.false
+    ∙ elim c.if-is_marked.branch [
+      | then-is_marked w ↦ use-no-label a.octets.now a.at _ a.base a.least a.e c.requires.1 (λ i. omega (arith, known.given i)) c.if-octets-at.false
+          (marked-so a.octets.now a.at _ _ _ _ c.use_kind.ensures c.is_marked.ensures w.if-is_marked.true) (sym w.is_label.ensures ∙ sym w.value-is ∙ c.if-is_label.false)
+      | else-is_marked w ↦ use-unmarked a.octets.now a.at _ a.base a.least a.e c.requires.1 (λ i. omega (arith, known.given i)) c.if-octets-at.false
+          (marked-so a.octets.now a.at _ _ _ _ c.use_kind.ensures c.is_marked.ensures w.if-is_marked.false)
+    ]
