@@ -47,10 +47,7 @@ fn is_last(octets: &[u8], second: bool) -> bool
     if last == 0 {
         return true;
     }
-    if last < base {
-        return false;
-    }
-    last < base + LABELS
+    base <= last && last < base + LABELS
 }
 
 // The table in the octets, into memory that held anything. False where the octets can be no save: then a name or a root stands twice, a tree

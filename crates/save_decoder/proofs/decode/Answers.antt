@@ -1,12 +1,8 @@
 -- `save_decoder::decode` meets its contract: what the head cannot say, a name or a root that stands twice, and a tree that
 -- holds no label for whom it is to, are no save. Assumes nothing.
 use Rattle.save_decoder.proofs.Head.{names-not, roots-not, held-not, read-once}
-use borrow.Author.Tests.{not-true, not-false}
 use mathlib.Core.Path.{sym, ◌∙◌}
-use borrow.Author.Rules.{rules}
 use Rattle.meaning.specs.Lists.{never}
-use mathlib.Core.Path.{ap}
-use mathlib.Core.Bool.{not}
 use Rattle.save_decoder.proofs.decode.Goals as goal
 
 pub returns-then-not-is_head : goal.returns-then-not-is_head

@@ -1,6 +1,5 @@
 use native.Mathlib.Omega.{arith}
 use borrow.Author.Tests.{leb-true, leb-false}
-use borrow.Author.Rules.{rules}
 use Rattle.meaning.specs.Card.{tree_limit}
 use Rattle.save_decoder.proofs.Head.{no-save}
 use Rattle.meaning.specs.Lists.{never}
