@@ -6,6 +6,9 @@ use mathlib.Core.Path.{◌≡◌, refl, sym, ap, ◌∙◌}
 use mathlib.Core.List.{List, [], ◌∷◌, ◌++◌, append_assoc}
 use lib.ListN.{length, take, drop, length-append}
 use lib.Seq.{take-suc, take_at}
+use Rattle.std.specs.Prelude.{Bool, true, false, Option, Some, None}
+use Rattle.std.specs.declared.result.Result.{Result}
+use Rattle.std.specs.declared.result.Result.TheVariants.{Ok, Err}
 use Rattle.meaning.specs.Lists.{append-nil}
 use Rattle.meaning.specs.Card.{Card, route_limit}
 use Rattle.meaning.specs.Calls.{over}
@@ -19,9 +22,8 @@ use Rattle.meaning_plan.specs.Plan as Plan
 use Rattle.meaning_plan.specs.Plan.{Move}
 use Rattle.meaning_plan.specs.PlanOctets.{entry_size, list_of, list_in, list_length, list_back, planned_octets, checked_octets}
 use Rattle.plan_check.specs.Verdict.{verdict_of}
-use Rattle.plan_check.specs.declared.Verdict.{Verdict}
+use Rattle.refusals.specs.declared.Refusal.{Refusal}
 use Rattle.plan_make.specs.Plan.{plan_of, list_made, entries_of, Readable}
-use Rattle.plan_make.specs.declared.Planned.{Planned}
 use Rattle.bench_replies.specs.PlanText.{said_line, move_text, moves_text, moves_line, plan_line, verdict_line}
 use Rattle.bench_words.proofs.Words.{front-is}
 
@@ -52,37 +54,37 @@ moves_more ms i m a =
 no_way : {X : Type 0} → ◌≡◌ {A = ℕ} 0 1 → X
 no_way z = absurd (omega arith)
 
-pub vet-refused : (p : Plan.Verdict) (v : Verdict) (n : ℕ) → v ≡ verdict_of p → v ≡ Verdict.Refused n → count_line (ascii "vet") n ≡ verdict_line p
+pub vet-refused : (p : Plan.Verdict) (n : ℕ) → ◌≡◌ {A = Result Bool ℕ} (Err n) (verdict_of p) → count_line (ascii "vet") n ≡ verdict_line p
 unfolding verdict_of verdict_line
-vet-refused (Plan.refusal k) v n e h = let z : n ≡ k = cc in ap (count_line (ascii "vet")) z
-vet-refused Plan.rejected v n e h = no_way cc
-vet-refused Plan.accepted v n e h = no_way cc
+vet-refused (Plan.refusal k) n e = let z : n ≡ k = cc in ap (count_line (ascii "vet")) z
+vet-refused Plan.rejected n e = no_way cc
+vet-refused Plan.accepted n e = no_way cc
 
-pub vet-rejected : (p : Plan.Verdict) (v : Verdict) → v ≡ verdict_of p → v ≡ Verdict.Rejected → said_line (ascii "vet") (ascii "rejected") ≡ verdict_line p
+pub vet-rejected : (p : Plan.Verdict) → ◌≡◌ {A = Result Bool ℕ} (Ok false) (verdict_of p) → said_line (ascii "vet") (ascii "rejected") ≡ verdict_line p
 unfolding verdict_of verdict_line
-vet-rejected (Plan.refusal k) v e h = no_way cc
-vet-rejected Plan.rejected v e h = refl
-vet-rejected Plan.accepted v e h = no_way cc
+vet-rejected (Plan.refusal k) e = no_way cc
+vet-rejected Plan.rejected e = refl
+vet-rejected Plan.accepted e = no_way cc
 
-pub vet-accepted : (p : Plan.Verdict) (v : Verdict) → v ≡ verdict_of p → v ≡ Verdict.Accepted → count_line (ascii "vet") 0 ≡ verdict_line p
+pub vet-accepted : (p : Plan.Verdict) → ◌≡◌ {A = Result Bool ℕ} (Ok true) (verdict_of p) → count_line (ascii "vet") 0 ≡ verdict_line p
 unfolding verdict_of verdict_line
-vet-accepted (Plan.refusal k) v e h = no_way cc
-vet-accepted Plan.rejected v e h = no_way cc
-vet-accepted Plan.accepted v e h = refl
+vet-accepted (Plan.refusal k) e = no_way cc
+vet-accepted Plan.rejected e = no_way cc
+vet-accepted Plan.accepted e = refl
 
 -- ---- the plan
 
-pub plan-refused : (p : Plan.Plan) (v : Planned) (n : ℕ) → v ≡ plan_of p → v ≡ Planned.Refused n → count_line (ascii "plan") n ≡ plan_line p
+pub plan-refused : (p : Plan.Plan) (n : ℕ) → ◌≡◌ {A = Result (Option ℕ) ℕ} (Err n) (plan_of p) → count_line (ascii "plan") n ≡ plan_line p
 unfolding plan_of plan_line
-plan-refused (Plan.refused k) v n e h = let z : n ≡ k = cc in ap (count_line (ascii "plan")) z
-plan-refused Plan.none v n e h = no_way cc
-plan-refused (Plan.listed ms) v n e h = no_way cc
+plan-refused (Plan.refused k) n e = let z : n ≡ k = cc in ap (count_line (ascii "plan")) z
+plan-refused Plan.none n e = no_way cc
+plan-refused (Plan.listed ms) n e = no_way cc
 
-pub plan-none : (p : Plan.Plan) (v : Planned) → v ≡ plan_of p → v ≡ Planned.None → said_line (ascii "plan") (ascii "none") ≡ plan_line p
+pub plan-none : (p : Plan.Plan) → ◌≡◌ {A = Result (Option ℕ) ℕ} (Ok None) (plan_of p) → said_line (ascii "plan") (ascii "none") ≡ plan_line p
 unfolding plan_of plan_line
-plan-none (Plan.refused k) v e h = no_way cc
-plan-none Plan.none v e h = refl
-plan-none (Plan.listed ms) v e h = no_way cc
+plan-none (Plan.refused k) e = no_way cc
+plan-none Plan.none e = refl
+plan-none (Plan.listed ms) e = no_way cc
 
 front-over : (o b : List ℕ) (n : ℕ) → length o ≡ n → take n (over o b) ≡ o
 unfolding over
@@ -93,27 +95,27 @@ unfolding over
 over-long o b = omega (arith, length-append o (drop (length o) b))
 
 -- the list holds its entries
-pub plan-within : (p : Plan.Plan) (v : Planned) (k : ℕ) (before after : List ℕ) → v ≡ plan_of p → v ≡ Planned.Listed k → after ≡ over (list_made p) before → k * entry_size ≤ length after
+pub plan-within : (p : Plan.Plan) (k : ℕ) (before after : List ℕ) → ◌≡◌ {A = Result (Option ℕ) ℕ} (Ok (Some k)) (plan_of p) → after ≡ over (list_made p) before → k * entry_size ≤ length after
 unfolding plan_of list_made
-plan-within (Plan.refused n) v k b a e h w = no_way cc
-plan-within Plan.none v k b a e h w = no_way cc
-plan-within (Plan.listed ms) v k b a e h w =
+plan-within (Plan.refused n) k b a e w = no_way cc
+plan-within Plan.none k b a e w = no_way cc
+plan-within (Plan.listed ms) k b a e w =
     let z : k ≡ length ms = cc in
     rw w (omega (arith, over-long (list_of ms) b, list_length ms))
 
-pub plan-listed : (p : Plan.Plan) (v : Planned) (k : ℕ) (before after : List ℕ) → v ≡ plan_of p → v ≡ Planned.Listed k → Readable p → after ≡ over (list_made p) before → moves_line (list_in (take (k * entry_size - 0) (drop 0 after))) ≡ plan_line p
+pub plan-listed : (p : Plan.Plan) (k : ℕ) (before after : List ℕ) → ◌≡◌ {A = Result (Option ℕ) ℕ} (Ok (Some k)) (plan_of p) → Readable p → after ≡ over (list_made p) before → moves_line (list_in (take (k * entry_size - 0) (drop 0 after))) ≡ plan_line p
 unfolding plan_of list_made plan_line Readable
-plan-listed (Plan.refused n) v k b a e h r w = no_way cc
-plan-listed Plan.none v k b a e h r w = no_way cc
-plan-listed (Plan.listed ms) v k b a e h r w =
+plan-listed (Plan.refused n) k b a e r w = no_way cc
+plan-listed Plan.none k b a e r w = no_way cc
+plan-listed (Plan.listed ms) k b a e r w =
     let z : k ≡ length ms = cc in
     let l : length (list_of ms) ≡ k * entry_size - 0 = list_length ms ∙ omega arith in
     ap moves_line (ap (λ (o : List ℕ). list_in (take (k * entry_size - 0) o)) w ∙ ap list_in (front-over (list_of ms) b (k * entry_size - 0) l) ∙ list_back ms r)
 
 -- how many octets a listed plan's entries have
-pub plan-few : (v : Planned) (k : ℕ) → v ≡ Planned.Listed k → entries_of v ≤ route_limit → k ≤ route_limit
+pub plan-few : (k : ℕ) → entries_of {E = Refusal} (Ok (Some k)) ≤ route_limit → k ≤ route_limit
 unfolding entries_of
-plan-few v k e h = rw e at h
+plan-few k e = e
 
 -- ---- replies: the sets, and a list, are front-is to the front of some space
 

@@ -15,8 +15,6 @@ ghost use Rattle.bench_replies.specs.PlanText.{said_line, move_text, move_space,
 use bench_orders::Order;
 use meaning_plan::{ENTRY_SIZE, LIST_LIMIT};
 use memory::{NUMBER_COUNT, OCTET_COUNT};
-use plan_check::Verdict;
-use plan_make::Planned;
 
 // ---- the entries of a list
 
@@ -38,12 +36,9 @@ fn add_moves(text: &mut [u8], from: usize, list: &[u8]) -> usize
     ensures adds { Adds (moves_text (list_in list.now)) text.old text.new from result }
     ensures upper_bound { result ≤ from + moves_space }
 {
-    let k = list.len() / ENTRY_SIZE;
     let mut at = from;
-    let mut i = 0;
-    while i < k {
+    for i in 0..list.len() / ENTRY_SIZE {
         at = add_move(text, at, list, i * ENTRY_SIZE);
-        i += 1;
     }
     at
 }
@@ -87,12 +82,12 @@ fn put_plan(
 {
     let mut list = [0u8; LIST_LIMIT];
     match plan_make::plan(numbers, names, n, sets, &mut list) {
-        Planned::Refused(number) => bench_lines::put_count(text, b"plan", number as u64),
-        Planned::None => put_said(text, b"plan", b"none"),
-        Planned::Listed(k) => {
+        Ok(Some(k)) => {
             let e = k * ENTRY_SIZE;
             put_moves(text, &list[0..e])
         }
+        Ok(None) => put_said(text, b"plan", b"none"),
+        Err(refusal) => bench_lines::put_count(text, b"plan", u64::from(refusal.number())),
     }
 }
 
@@ -110,9 +105,9 @@ fn put_verdict(
     ensures upper_bound { result ≤ text_space }
 {
     match plan_check::check_list(numbers, names, n, sets, list) {
-        Verdict::Refused(number) => bench_lines::put_count(text, b"vet", number as u64),
-        Verdict::Rejected => put_said(text, b"vet", b"rejected"),
-        Verdict::Accepted => bench_lines::put_count(text, b"vet", 0),
+        Ok(true) => bench_lines::put_count(text, b"vet", 0),
+        Ok(false) => put_said(text, b"vet", b"rejected"),
+        Err(refusal) => bench_lines::put_count(text, b"vet", u64::from(refusal.number())),
     }
 }
 

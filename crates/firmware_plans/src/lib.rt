@@ -12,8 +12,6 @@ ghost use Rattle.firmware_plans.specs.Answers.{is_accepted, check_answer, is_lis
 
 use meaning_plan::LIST_LIMIT;
 use memory::{NUMBER_COUNT, OCTET_COUNT};
-use plan_check::Verdict;
-use plan_make::Planned;
 
 pub fn card_check_list(
     numbers: &[u64; NUMBER_COUNT],
@@ -27,14 +25,12 @@ pub fn card_check_list(
         (result ≡ is_accepted v) × (answer.new ≡ check_answer v) }
 {
     *answer = 0;
-    let verdict = plan_check::check_list(numbers, names, neighbour, sets, list);
-    match verdict {
-        Verdict::Refused(number) => {
-            *answer = number;
+    match plan_check::check_list(numbers, names, neighbour, sets, list) {
+        Ok(is_accepted) => is_accepted,
+        Err(refusal) => {
+            *answer = refusal.number();
             false
         }
-        Verdict::Rejected => false,
-        Verdict::Accepted => true,
     }
 }
 
@@ -52,16 +48,15 @@ pub fn card_plan(
 {
     *entries = 0;
     *answer = 0;
-    let planned = plan_make::plan(numbers, names, neighbour, sets, list);
-    match planned {
-        Planned::Refused(number) => {
-            *answer = number;
-            false
-        }
-        Planned::None => false,
-        Planned::Listed(count) => {
+    match plan_make::plan(numbers, names, neighbour, sets, list) {
+        Ok(Some(count)) => {
             *entries = count;
             true
+        }
+        Ok(None) => false,
+        Err(refusal) => {
+            *answer = refusal.number();
+            false
         }
     }
 }

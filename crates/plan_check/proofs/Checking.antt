@@ -1,25 +1,29 @@
 -- What the loops over sets and entries know, and what the tests of one of them say. Assumes nothing.
-use Prim.Native.Nat.{ℕ, suc, ◌+◌, ◌*◌, ◌/◌, ◌%◌, ◌^◌, ◌≤◌, ◌<◌}
+use Prim.Native.Nat.{ℕ, suc, ◌+◌, ◌*◌, ◌/◌, ◌≤◌, ◌<◌}
 use native.Mathlib.Numerals.{add-one}
 use native.Mathlib.Omega.{arith}
 use mathlib.Core.Path.{◌≡◌, refl, sym, ap, ◌∙◌}
-use mathlib.Core.Bool.{Bool, true, false, not, ◌&&◌, and-false}
+use mathlib.Core.Bool.{Bool, true, false, ◌&&◌}
 use mathlib.Core.List.{List, [], ◌∷◌}
 use lib.ListN.{length, drop, get_or, drop_of_length-le}
 use lib.Seq.{drop-cons, drop-drop, get_or-drop}
-use lib.Dec.{eqb, leb, ltb}
-use borrow.Author.Tests.{le-leb, lt-leb, eq-eqb, ne_eqb, lt-ltb, le-ltb, not-true, not-false}
-use Rattle.meaning.specs.Octets.{pick, place, count, all, same, two_at}
+use lib.Dec.{eqb, leb}
+use borrow.Author.Tests.{le-leb, lt-leb, eq-eqb, ne_eqb, lt-ltb, le-ltb}
+use Rattle.std.specs.Int.{from_bool}
+use Rattle.std.specs.declared.result.Result.{Result}
+use Rattle.std.specs.declared.result.Result.TheVariants.{Ok}
+use Rattle.meaning.specs.Octets.{pick, place, count, same, two_at}
 use Rattle.meaning.specs.Lists.{by-test}
 use Rattle.meaning.specs.Wire.{root_limit}
-use Rattle.meaning.specs.Card.{Route, Card, route_of, free_labels, neighbour_count}
+use Rattle.meaning.specs.Card.{Route, Card, route_of, free_labels}
 use Rattle.meaning.specs.Events.{need_all, no_neighbour}
 use Rattle.memory.specs.Memory.{root_name, route_in, entry_in as row_in}
 use Rattle.save_rules_rows.proofs.RowRules.{At}
 use Rattle.meaning_save.specs.Save.{spaced_in}
-use Rattle.meaning_plan.specs.Plan.{Move, move_for, Allowed, allowed_for, set_of, permits, goes_by, need_list, may_have, is_move, listed_once, accepts, refusal, rejected, accepted}
+use Rattle.meaning_plan.specs.Plan.{Move, move_for, Allowed, allowed_for, set_of, goes_by, need_list, may_have, is_move, listed_once, accepts, refusal, rejected, accepted}
 use Rattle.meaning_plan.specs.PlanOctets.{space_root, set_size, set_in, allowed_in, entry_size, entry_in, is_list, list_in, checked_octets}
 use Rattle.meaning_plan.specs.Loops.{entries-length, entry_at, sets-length, set_at}
+use Rattle.plan_check.specs.Verdict.{verdict_of}
 
 -- ---- a root in its space
 
@@ -65,14 +69,15 @@ module _ (o : List ℕ) (at : ℕ) where
   unfolding move_for
   entry-equal a r b e h = h ∙ ap (λ (x : List ℕ). same x r) (entry-root a e)
 
-  pub entry-one : (r : List ℕ) (b : Bool) → b ≡ move_for r (entry_in (drop at o)) → b ≡ true → ◌≡◌ {A = ℕ} 1 (pick (move_for r (entry_in (drop at o))) 1 0)
-  entry-one r b e k = rw (← e, k) refl
-
-  pub entry_zero : (r : List ℕ) (b : Bool) → b ≡ move_for r (entry_in (drop at o)) → b ≡ false → ◌≡◌ {A = ℕ} 0 (pick (move_for r (entry_in (drop at o))) 1 0)
-  entry_zero r b e k = rw (← e, k) refl
+  pub entry_counts : (r : List ℕ) (b : Bool) → b ≡ move_for r (entry_in (drop at o)) → from_bool b ≡ pick (move_for r (entry_in (drop at o))) 1 0
+  entry_counts r b e = rw (← e) (by-test b (λ h. rw h refl) (λ h. rw h refl))
 
   pub entry-needs : (c : Card) (a : List ℕ) (v k : ℕ) → a ≡ space_root (drop (at + 1) o) → v ≡ get_or o at 0 → k ≡ need_all a v c → k ≡ need_all (entry_in (drop at o)).root (entry_in (drop at o)).via c
   entry-needs c a v k ea ev e = rw (← entry-root a ea, ← entry-via v ev) e
+
+pub bool_byte-le : (b : Bool) → from_bool b ≤ 1
+bool_byte-le true = omega arith
+bool_byte-le false = omega arith
 
 -- ---- the record at place i
 
@@ -146,19 +151,6 @@ module _ (c : Card) (ms : List Move) where
 
 -- ---- the tests
 
-module _ (n : ℕ) (ps : List Allowed) (r : List ℕ) (v : ℕ) where
-  pub far-not : 15 < v → false ≡ may_have n ps r v
-  unfolding may_have
-  far-not h = rw (le-ltb v neighbour_count h) refl
-
-  pub own-not : v ≤ 15 → v ≡ n → false ≡ may_have n ps r v
-  unfolding may_have
-  own-not h e = rw (eq-eqb v n e, and-false (ltb v neighbour_count)) refl
-
-  pub set_says : v ≤ 15 → (v ≡ n → ⊥) → (s : ℕ) → s ≡ set_of ps r → eqb (s / 2 ^ v % 2) 1 ≡ may_have n ps r v
-  unfolding may_have permits
-  set_says h ne s e = rw (lt-ltb v neighbour_count (omega arith), ne_eqb v n ne, e) refl
-
 module _ (c : Card) (n : ℕ) (ps : List Allowed) (m : Move) (a : List ℕ) (is : a ≡ m.root) (via : ℕ) (goes : via ≡ route_of a c) where
   pub move-other : (via ≡ n → ⊥) → false ≡ is_move c n ps m
   unfolding is_move
@@ -183,35 +175,16 @@ module _ (n : ℕ) (ms : List Move) (x : Route) (via : ℕ) (goes : via ≡ x.vi
 
 -- ---- the whole
 
-module _ (c : Card) (n : ℕ) (ps : List Allowed) (o : List ℕ) where
-  pub no-list : (length o % entry_size ≡ 0 → ⊥) → false ≡ (is_list o && accepts c n ps (list_in o))
-  unfolding is_list
-  no-list ne = rw (ne_eqb (length o % entry_size) 0 ne) refl
-
-  module _ (whole : length o % entry_size ≡ 0) (b : Bool) (moves : b ≡ all (is_move c n ps) (list_in o)) where
-    pub bad-move : not b ≡ true → false ≡ (is_list o && accepts c n ps (list_in o))
-    unfolding is_list accepts
-    bad-move k = rw (eq-eqb (length o % entry_size) 0 whole, ← moves, not-true b k) refl
-
-    module _ (good : not b ≡ false) (d : Bool) (lists : d ≡ all (listed_once n (list_in o)) c.routes) where
-      pub bad-listing : not d ≡ true → false ≡ (is_list o && accepts c n ps (list_in o))
-      unfolding is_list accepts
-      bad-listing k = rw (eq-eqb (length o % entry_size) 0 whole, ← moves, not-false b good, ← lists, not-true d k) refl
-
-      pub by-sum : not d ≡ false → (e : Bool) → e ≡ leb (need_list c (list_in o)) (free_labels c) → e ≡ (is_list o && accepts c n ps (list_in o))
-      unfolding is_list accepts
-      by-sum k e is = rw (eq-eqb (length o % entry_size) 0 whole, ← moves, not-false b good, ← lists, not-false d k) is
-
 module _ (c : Card) (n : ℕ) (sets o : List ℕ) where
   pub checked-far : 15 < n → checked_octets c n sets o ≡ refusal 1
   unfolding checked_octets no_neighbour
   checked-far h = rw (lt-ltb 15 n h) refl
 
-  module _ (near : n ≤ 15) (b : Bool) (is : b ≡ (is_list o && accepts c n (allowed_in sets) (list_in o))) where
-    pub checked-good : b ≡ true → checked_octets c n sets o ≡ accepted
-    unfolding checked_octets no_neighbour
-    checked-good k = rw (le-ltb 15 n near, ← is, k) refl
+  pub checked-near : n ≤ 15 → (b : Bool) → b ≡ (is_list o && accepts c n (allowed_in sets) (list_in o)) → checked_octets c n sets o ≡ pick b accepted rejected
+  unfolding checked_octets no_neighbour
+  checked-near near b is = rw (le-ltb 15 n near, ← is) refl
 
-    pub checked-bad : b ≡ false → checked_octets c n sets o ≡ rejected
-    unfolding checked_octets no_neighbour
-    checked-bad k = rw (le-ltb 15 n near, ← is, k) refl
+pub verdict-pick : (b : Bool) → ◌≡◌ {A = Result Bool ℕ} (Ok b) (verdict_of (pick b accepted rejected))
+unfolding verdict_of
+verdict-pick true = refl
+verdict-pick false = refl

@@ -10,11 +10,12 @@ ghost use Rattle.memory.specs.Sizes.{Numbers, Names};
 ghost use Rattle.memory.specs.Memory.{card_of, route_in};
 ghost use Rattle.meaning_plan.specs.Plan.{move_for, set_of, need_list, may_have, is_move, listed_once, accepts};
 ghost use Rattle.meaning_plan.specs.PlanOctets.{space_root, allowed_in, entry_size, entry_in, is_list, list_in, checked_octets};
-ghost use Rattle.plan_check.specs.Verdict.{verdict_of};
+ghost use Rattle.plan_check.specs.Verdict.{numbered, verdict_of};
 
 use meaning::ROOT_LIMIT;
 use meaning_plan::{ENTRY_SIZE, SET_SIZE};
 use memory::{NUMBER_COUNT, OCTET_COUNT};
+use refusals::Refusal;
 
 // ---- a root in its space
 
@@ -34,29 +35,21 @@ pub fn root_at(octets: &[u8], at: usize) -> &[u8]
 fn set_of(sets: &[u8], root: &[u8]) -> u64
     ensures { result ≡ set_of (allowed_in sets.now) root.now }
 {
-    let n = sets.len() / SET_SIZE;
-    let mut i = 0;
-    while i < n {
+    for i in 0..sets.len() / SET_SIZE {
         let at = i * SET_SIZE;
         if octets::equal(root_at(sets, at + 2), root) {
             return octets::two_at(sets, at);
         }
-        i += 1;
     }
     0
 }
 
 // Whether a root that is routed through n may have the neighbour v.
+#[tactic(auto, unfolding(meaning_plan::specs::Plan::may_have, meaning_plan::specs::Plan::permits))]
 pub fn may_have(n: u64, sets: &[u8], root: &[u8], v: u64) -> bool
     ensures { result ≡ may_have n (allowed_in sets.now) root.now v }
 {
-    if 15 < v {
-        return false;
-    }
-    if v == n {
-        return false;
-    }
-    (set_of(sets, root) >> v) % 2 == 1
+    v <= 15 && v != n && (set_of(sets, root) >> v) % 2 == 1
 }
 
 // ---- the entries of a list: the neighbour, and the root in its space
@@ -67,23 +60,18 @@ fn is_move(numbers: &[u64], names: &[u8], n: u64, sets: &[u8], list: &[u8], at: 
     ensures { result ≡ is_move (card_of numbers.now names.now) n (allowed_in sets.now) (entry_in (drop at list.now)) }
 {
     let root = root_at(list, at + 1);
-    if memory_routes::route_of(numbers, names, root) != n {
-        return false;
-    }
-    may_have(n, sets, root, octets::at(list, at))
+    memory_routes::route_of(numbers, names, root) == n
+        && may_have(n, sets, root, octets::at(list, at))
 }
 
 fn all_moves(numbers: &[u64], names: &[u8], n: u64, sets: &[u8], list: &[u8]) -> bool
     requires { Numbers numbers.now × Names names.now }
     ensures { result ≡ all (is_move (card_of numbers.now names.now) n (allowed_in sets.now)) (list_in list.now) }
 {
-    let k = list.len() / ENTRY_SIZE;
-    let mut i = 0;
-    while i < k {
+    for i in 0..list.len() / ENTRY_SIZE {
         if !is_move(numbers, names, n, sets, list, i * ENTRY_SIZE) {
             return false;
         }
-        i += 1;
     }
     true
 }
@@ -93,23 +81,16 @@ fn listing(list: &[u8], at: usize, root: &[u8]) -> usize
     requires { at + entry_size ≤ length list.now }
     ensures { (result ≡ pick (move_for root.now (entry_in (drop at list.now))) 1 0) × (result ≤ 1) }
 {
-    if octets::equal(root_at(list, at + 1), root) {
-        1
-    } else {
-        0
-    }
+    usize::from(octets::equal(root_at(list, at + 1), root))
 }
 
 // How often a root is listed.
 fn listings(list: &[u8], root: &[u8]) -> usize
     ensures { result ≡ count (move_for root.now) (list_in list.now) }
 {
-    let k = list.len() / ENTRY_SIZE;
     let mut sum = 0;
-    let mut i = 0;
-    while i < k {
+    for i in 0..list.len() / ENTRY_SIZE {
         sum += listing(list, i * ENTRY_SIZE, root);
-        i += 1;
     }
     sum
 }
@@ -119,23 +100,18 @@ fn is_listed(numbers: &[u64], names: &[u8], n: u64, list: &[u8], i: usize) -> bo
     requires { Numbers numbers.now × Names names.now × (i < route_limit) }
     ensures { result ≡ listed_once n (list_in list.now) (route_in numbers.now names.now i) }
 {
-    if memory_routes::route_via(numbers, i) != n {
-        return true;
-    }
-    listings(list, memory_routes::root_name(names, i)) == 1
+    memory_routes::route_via(numbers, i) != n
+        || listings(list, memory_routes::root_name(names, i)) == 1
 }
 
 fn all_listed(numbers: &[u64], names: &[u8], n: u64, list: &[u8]) -> bool
     requires { Numbers numbers.now × Names names.now }
     ensures { result ≡ all (listed_once n (list_in list.now)) (card_of numbers.now names.now).routes }
 {
-    let k = memory::route_count(numbers);
-    let mut i = 0;
-    while i < k {
+    for i in 0..memory::route_count(numbers) {
         if !is_listed(numbers, names, n, list, i) {
             return false;
         }
-        i += 1;
     }
     true
 }
@@ -155,60 +131,41 @@ pub fn labels_enough(numbers: &[u64], names: &[u8], list: &[u8]) -> bool
     ensures { let c = card_of numbers.now names.now in result ≡ leb (need_list c (list_in list.now)) (free_labels c) }
 {
     let free = memory_free::free_labels(numbers);
-    let k = list.len() / ENTRY_SIZE;
     let mut sum = 0;
-    let mut i = 0;
-    while i < k {
+    for i in 0..list.len() / ENTRY_SIZE {
         sum += entry_need(numbers, names, list, i * ENTRY_SIZE);
         if free < sum {
             return false;
         }
-        i += 1;
     }
     true
 }
 
 // ---- the call
 
+#[tactic(auto, unfolding(meaning_plan::specs::Plan::accepts, meaning_plan::specs::PlanOctets::is_list))]
 fn is_accepted(numbers: &[u64], names: &[u8], n: u64, sets: &[u8], list: &[u8]) -> bool
     requires { Numbers numbers.now × Names names.now }
     ensures { result ≡ (is_list list.now && accepts (card_of numbers.now names.now) n (allowed_in sets.now) (list_in list.now)) }
 {
-    if list.len() % ENTRY_SIZE != 0 {
-        return false;
-    }
-    if !all_moves(numbers, names, n, sets, list) {
-        return false;
-    }
-    if !all_listed(numbers, names, n, list) {
-        return false;
-    }
-    labels_enough(numbers, names, list)
+    list.len() % ENTRY_SIZE == 0
+        && all_moves(numbers, names, n, sets, list)
+        && all_listed(numbers, names, n, list)
+        && labels_enough(numbers, names, list)
 }
 
-// A refusal's number; or whether the list is accepted.
-#[derive(Clone, Copy)]
-pub enum Verdict {
-    Refused(u32),
-    Rejected,
-    Accepted,
-}
-
-// Whether the list may be carried out so that no route through the neighbour n is left.
+// Whether the list is accepted: it may be carried out so that no route through the neighbour n is left.
 pub fn check_list(
     numbers: &[u64; NUMBER_COUNT],
     names: &[u8; OCTET_COUNT],
     n: u32,
     sets: &[u8],
     list: &[u8],
-) -> Verdict
-    ensures { result ≡ verdict_of (checked_octets (card_of numbers.now names.now) n sets.now list.now) }
+) -> Result<bool, Refusal>
+    ensures { numbered result ≡ verdict_of (checked_octets (card_of numbers.now names.now) n sets.now list.now) }
 {
     if 15 < n {
-        return Verdict::Refused(1);
+        return Err(Refusal::NoSuchNeighbour);
     }
-    if is_accepted(numbers, names, n as u64, sets, list) {
-        return Verdict::Accepted;
-    }
-    Verdict::Rejected
+    Ok(is_accepted(numbers, names, n as u64, sets, list))
 }

@@ -4,10 +4,10 @@ use native.Mathlib.Omega.{arith}
 use mathlib.Core.Path.{◌≡◌, refl, sym, ap, ◌∙◌}
 use mathlib.Core.Bool.{Bool, true, false, not, ◌&&◌}
 use mathlib.Core.List.{List, [], ◌∷◌}
-use lib.ListN.{length, take, drop, drop_of_length-le}
+use lib.ListN.{length, take, drop, set, drop_of_length-le}
 use lib.Seq.{drop-cons}
 use lib.Dec.{leb}
-use borrow.Author.Tests.{lt-ltb, le-ltb, eq-eqb, ne_eqb, not-true, not-false}
+use borrow.Author.Tests.{lt-ltb, le-ltb, eq-eqb, ne_eqb}
 use Rattle.meaning.specs.Octets.{all}
 use Rattle.meaning.specs.Wire.{root_limit}
 use Rattle.meaning.specs.Card.{Route, Card, free_labels}
@@ -22,19 +22,24 @@ use Rattle.save_texts.proofs.Sizes.{space-length}
 use Rattle.save_rules_rows.proofs.RowRules.{At}
 use Rattle.meaning_plan.specs.Plan.{Move, Allowed, goes_by, need_list, no_choice, choice, is_before, insert, as_move, through, chosen, proposal, is_found, none, listed, planned}
 use Rattle.meaning_plan.specs.PlanOctets.{allowed_in, entry_size, entry_of, list_of, list_in, planned_octets, Carriable, AllCarriable, list_back}
-use Rattle.plan_make.specs.declared.Planned.{Planned}
+use Rattle.std.specs.Prelude.{Option, Some, None}
+use Rattle.std.specs.declared.result.Result.{Result}
+use Rattle.std.specs.declared.result.Result.TheVariants.{Ok, Err}
 use Rattle.plan_make.specs.Plan.{plan_of, list_made, Readable}
 use Rattle.plan_make.specs.Rows.{Holds}
 use Rattle.memory.proofs.Memory.{text-le}
 
 -- ---- one row
 
-pub row_put : (xs us vs r : List ℕ) (via : ℕ) → length xs ≡ entry_size → via < 256 → us ≡ via ∷ [] → vs ≡ spaced root_limit r → mid 1 (entry_size - 1) (mid 0 1 xs us) vs ≡ entry_of (record { root = r; via = via })
+first-set : (xs : List ℕ) (v : ℕ) → length xs ≡ entry_size → set xs 0 v ≡ mid 0 1 xs (v ∷ [])
+first-set [] v l = absurd (omega arith)
+first-set (x ∷ xs) v l = refl
+
+pub row_put : (xs vs r : List ℕ) (via : ℕ) → length xs ≡ entry_size → via < 256 → vs ≡ spaced root_limit r → mid 1 (entry_size - 1) (set xs 0 via) vs ≡ entry_of (record { root = r; via = via })
 unfolding entry_of
-row_put xs us vs r via l h eu es =
-    let q : entry_size - 1 ≡ 1 + root_limit = refl in
+row_put xs vs r via l h es =
     let v : via % 256 ≡ via = omega arith in
-    rw (v, eu, es) (two-parts 1 (1 + root_limit) xs (via ∷ []) (spaced root_limit r) l refl (space-length root_limit r))
+    rw (first-set xs via l, v, es) (two-parts 1 (1 + root_limit) xs (via ∷ []) (spaced root_limit r) l refl (space-length root_limit r))
 
 pub root-short : (os : List ℕ) (i : ℕ) (a : List ℕ) → a ≡ root_name os i → length a ≤ root_limit
 unfolding root_name
@@ -97,17 +102,11 @@ module _ (m : Move) (v : ℕ) (e : v ≡ m.via) where
   unfolding is_found
   found h = rw (← e, lt-ltb v no_choice h) refl
 
-pub first-fails : (b a d : Bool) → b ≡ a → not b ≡ true → false ≡ (a && d)
-first-fails b a d e h = rw (← e, not-true b h) refl
-
-pub second-says : (b a d r : Bool) → b ≡ a → not b ≡ false → r ≡ d → r ≡ (a && d)
-second-says b a d r e h is = rw (← e, not-false b h) is
-
 module _ (c : Card) (n : ℕ) (sets : List ℕ) where
   abbrev ms : List Move
   ms = proposal c n (allowed_in sets)
 
-  pub plan-far : 15 < n → (list : List ℕ) → (Planned.Refused 1 ≡ plan_of (planned_octets c n sets)) × (list ≡ over (list_made (planned_octets c n sets)) list) × Readable (planned_octets c n sets)
+  pub plan-far : 15 < n → (list : List ℕ) → (◌≡◌ {A = Result (Option ℕ) ℕ} (Err 1) (plan_of (planned_octets c n sets))) × (list ≡ over (list_made (planned_octets c n sets)) list) × Readable (planned_octets c n sets)
   unfolding planned_octets planned no_neighbour plan_of list_made over Readable
   plan-far h list = rw (lt-ltb 15 n h) (refl, refl, tt)
 
@@ -130,10 +129,10 @@ module _ (c : Card) (n : ℕ) (sets : List ℕ) where
       unfolding planned_octets planned no_neighbour
       is_none h = rw (le-ltb 15 n near, ← test, h) refl
 
-      pub plan-listed : b ≡ true → (list out : List ℕ) → out ≡ over (take (k * entry_size - 0) (drop 0 xs)) list → (Planned.Listed k ≡ plan_of (planned_octets c n sets)) × (out ≡ over (list_made (planned_octets c n sets)) list) × Readable (planned_octets c n sets)
+      pub plan-listed : b ≡ true → (list out : List ℕ) → out ≡ over (take (k * entry_size - 0) (drop 0 xs)) list → (◌≡◌ {A = Result (Option ℕ) ℕ} (Ok (Some k)) (plan_of (planned_octets c n sets))) × (out ≡ over (list_made (planned_octets c n sets)) list) × Readable (planned_octets c n sets)
       unfolding plan_of list_made Readable
-      plan-listed h list out e = rw (is-listed h) (ap Planned.Listed (sym H.many), e ∙ ap (λ (o : List ℕ). over o list) part, H.short)
+      plan-listed h list out e = rw (is-listed h) (ap (λ (e : ℕ). Ok (Some e)) (sym H.many), e ∙ ap (λ (o : List ℕ). over o list) part, H.short)
 
-      pub plan-none : b ≡ false → (list : List ℕ) → (Planned.None ≡ plan_of (planned_octets c n sets)) × (list ≡ over (list_made (planned_octets c n sets)) list) × Readable (planned_octets c n sets)
+      pub plan-none : b ≡ false → (list : List ℕ) → (◌≡◌ {A = Result (Option ℕ) ℕ} (Ok None) (plan_of (planned_octets c n sets))) × (list ≡ over (list_made (planned_octets c n sets)) list) × Readable (planned_octets c n sets)
       unfolding plan_of list_made over Readable
       plan-none h list = rw (is_none h) (refl, refl, tt)

@@ -5,10 +5,9 @@ use native.Mathlib.Omega.{arith}
 use mathlib.Core.Path.{◌≡◌, refl, sym, ap, ap₂, ◌∙◌}
 use mathlib.Core.Bool.{Bool, true, false}
 use mathlib.Core.List.{List, [], ◌∷◌, ◌++◌, append_assoc}
-use lib.ListN.{length, take, drop, get_or, set, length-set, length-drop, take-append-drop, drop_of_length-le}
-use lib.Seq.{drop-cons, drop-drop, take-take, get_or-take, get_or-drop, get_or-set_same, get_or-set_other, ext_get_or, length-take-le, take-append-add, drop_at, take_all}
-use lib.Dec.{eqb}
-use borrow.Author.Tests.{eqb-true, eqb-false}
+use lib.ListN.{length, take, drop, get_or, length-drop, take-append-drop, drop_of_length-le}
+use lib.Seq.{drop-cons, drop-drop, take-take, get_or-take, get_or-drop, ext_get_or, length-take-le, take-append-add, drop_at, take_all}
+use Rattle.std.specs.List.{CopiedTo, SameBelow}
 use Rattle.meaning.specs.Octets.{place}
 use Rattle.meaning.specs.Card.{route_limit}
 use Rattle.meaning.specs.Lists.{by-test}
@@ -19,7 +18,7 @@ use Rattle.meaning_plan.specs.Plan.{Move, is_before, insert}
 use Rattle.meaning_plan.specs.PlanOctets.{entry_size, entry_of, list_of, entry_in, entries_in, list_limit, Carriable, AllCarriable, entry_length, entry-back}
 use Rattle.meaning_plan.specs.Rising.{comes_first, insert-place}
 use Rattle.meaning_plan.specs.Loops.{entries-length, entry_at}
-use Rattle.plan_make.specs.Rows.{is_after, Holds, Opened}
+use Rattle.plan_make.specs.Rows.{is_after, Holds}
 
 -- ---- the place of a row
 
@@ -47,25 +46,21 @@ row-after o at a r b e h = h ∙ ap (is_before r) e
 
 -- ---- rows move up
 
-pub opened-none : (e : ℕ) (xs : List ℕ) → Opened e e xs xs
-opened-none e xs = record { long = refl; below = λ j h. refl; up = λ j h k. absurd (omega arith) }
+-- the octets between the places a and e stand one row further up, and those below are as they were
+pub record Opened (a e : ℕ) (xs ys : List ℕ) : Type 0 where
+  pub long : length ys ≡ length xs
+  pub below : (j : ℕ) → j < a + entry_size → get_or ys j 0 ≡ get_or xs j 0
+  pub up : (j : ℕ) → a ≤ j → j < e → get_or ys (j + entry_size) 0 ≡ get_or xs j 0
 
-pub opened-more : (i e : ℕ) (xs ys : List ℕ) → 0 < i → i ≤ e → e + entry_size ≤ length xs → Opened i e xs ys → Opened (i - 1) e xs (set ys (i - 1 + entry_size) (get_or ys (i - 1) 0))
-opened-more i e xs ys low high room O = record {
-  long = length-set ys (i - 1 + entry_size) (get_or ys (i - 1) 0) ∙ O.long;
-  below = λ j h. get_or-set_other ys (i - 1 + entry_size) j (get_or ys (i - 1) 0) 0 (λ z. omega arith) ∙ O.below j (omega arith);
-  up = λ j h k. by-test (eqb j (i - 1))
-      (λ q. let q' : j ≡ i - 1 = eqb-true j (i - 1) q in
-      ap (λ (n : ℕ). get_or (set ys (i - 1 + entry_size) (get_or ys (i - 1) 0)) (n + entry_size) 0) q'
-      ∙ get_or-set_same ys (i - 1 + entry_size) (get_or ys (i - 1) 0) 0 (omega (arith, O.long))
-      ∙ O.below (i - 1) (omega arith)
-      ∙ ap (λ (n : ℕ). get_or xs n 0) (sym q'))
-      (λ q. let ne : j ≡ i - 1 → ⊥ = eqb-false j (i - 1) q in
-      get_or-set_other ys (i - 1 + entry_size) (j + entry_size) (get_or ys (i - 1) 0) 0 (λ z. ne (omega arith)) ∙ O.up j (omega arith) k);
+pub opened-moved : (a e : ℕ) (xs ys : List ℕ) → length ys ≡ length xs → CopiedTo xs ys a (a + entry_size) (e - a) × SameBelow xs ys (a + entry_size) → Opened a e xs ys
+opened-moved a e xs ys l m = record {
+  long = l;
+  below = λ j h. m.1 j 0 h;
+  up = λ j h k. m.0 (j + entry_size) 0 (omega arith) (omega arith) ∙ ap (λ (n : ℕ). get_or xs n 0) (around j h);
 }
-
-pub opened-done : (a i e : ℕ) (xs ys : List ℕ) → a ≤ i → i ≤ a → Opened i e xs ys → Opened a e xs ys
-opened-done a i e xs ys h k O = let q : i ≡ a = omega arith in rw q at O
+  where
+    around : (j : ℕ) → a ≤ j → a + (j + entry_size - (a + entry_size)) ≡ j
+    around j h = omega arith
 
 -- ---- a row is put
 

@@ -9,14 +9,16 @@ ghost use Rattle.meaning.specs.Events.{need_all};
 ghost use Rattle.meaning.specs.Calls.{over};
 ghost use Rattle.memory.specs.Sizes.{Numbers, Names};
 ghost use Rattle.memory.specs.Memory.{card_of};
-ghost use Rattle.meaning_plan.specs.Plan.{Move, may_have, no_choice, choice, is_below, is_before, insert, need_list, proposal, is_found};
+ghost use Rattle.meaning_plan.specs.Plan.{Move, may_have, no_choice, choice, is_before, insert, need_list, proposal, is_found};
 ghost use Rattle.meaning_plan.specs.PlanOctets.{allowed_in, entry_size, entry_of, entries_in, list_in, list_limit, planned_octets};
+ghost use Rattle.plan_check.specs.Verdict.{numbered};
 ghost use Rattle.plan_make.specs.Plan.{plan_of, list_made, entries_of, Readable};
-ghost use Rattle.plan_make.specs.Rows.{is_after, Holds, Opened};
+ghost use Rattle.plan_make.specs.Rows.{is_after, Holds};
 
 use meaning::{NEIGHBOUR_COUNT, ROOT_LIMIT, TREE_LIMIT};
 use meaning_plan::{ENTRY_SIZE, LIST_LIMIT};
 use memory::{NUMBER_COUNT, OCTET_COUNT};
+use refusals::Refusal;
 
 // ---- the choice of one root
 
@@ -44,9 +46,7 @@ fn choose(numbers: &[u64], names: &[u8], n: u64, sets: &[u8], root: &[u8]) -> u6
 {
     let mut best = NO_CHOICE;
     let mut least = TREE_LIMIT;
-    let mut v = NO_CHOICE;
-    while 0 < v {
-        v -= 1;
+    for v in (0..NO_CHOICE).rev() {
         let need = offer(numbers, names, n, sets, root, v);
         if need <= least {
             best = v;
@@ -58,32 +58,11 @@ fn choose(numbers: &[u64], names: &[u8], n: u64, sets: &[u8], root: &[u8]) -> u6
 
 // ---- the order of roots
 
-// By the first octet that differs.
-fn is_below(a: &[u8], b: &[u8]) -> bool
-    requires { length a.now ≡ length b.now }
-    ensures { result ≡ is_below a.now b.now }
-{
-    let mut i = 0;
-    while i < a.len() {
-        if a[i] != b[i] {
-            return a[i] < b[i];
-        }
-        i += 1;
-    }
-    false
-}
-
-// The shorter first, each by rising address.
+// The shorter first, each by rising address: by the first octet that differs.
 fn is_before(a: &[u8], b: &[u8]) -> bool
     ensures { result ≡ is_before a.now b.now }
 {
-    if a.len() < b.len() {
-        return true;
-    }
-    if a.len() != b.len() {
-        return false;
-    }
-    is_below(a, b)
+    a.len() < b.len() || (a.len() == b.len() && a < b)
 }
 
 // ---- the rows of a list
@@ -93,46 +72,31 @@ fn row_place(rows: &[u8], k: usize, root: &[u8]) -> usize
     requires { (length rows.now ≡ list_limit) × (k ≤ route_limit) }
     ensures { (result ≤ k) × (result ≡ place (is_after root.now) (entries_in k rows.now)) }
 {
-    let mut i = 0;
-    while i < k {
+    for i in 0..k {
         if is_before(root, plan_check::root_at(rows, i * ENTRY_SIZE + 1)) {
             return i;
         }
-        i += 1;
     }
     k
-}
-
-// The octets from a to e move one row up.
-fn open_row(rows: &mut [u8], a: usize, e: usize)
-    requires { (a ≤ e) × (e + entry_size ≤ length rows.old) }
-    ensures { Opened a e rows.old rows.new }
-{
-    let mut i = e;
-    while a < i {
-        i -= 1;
-        rows[i + ENTRY_SIZE] = rows[i];
-    }
 }
 
 fn put_row(row: &mut [u8], root: &[u8], via: u64)
     requires { (length row.old ≡ entry_size) × (via < 256) }
     ensures { row.new ≡ entry_of (record { root = root.entry.now; via = via }) }
 {
-    let first = [via as u8];
-    octets::copy(&mut row[0..1], &first);
+    row[0] = via as u8;
     save_texts::put_space(&mut row[1..ENTRY_SIZE], ROOT_LIMIT, root);
 }
 
-// One entry more, at its place.
+// One entry more, at its place: the rows from there on move up.
 fn insert_row(rows: &mut [u8], k: usize, root: &[u8], via: u64)
     requires { (length rows.old ≡ list_limit) × (k < route_limit) × (length root.now ≤ root_limit) × (via < 256) }
     ensures { (length rows.new ≡ list_limit)
         × ((ms : List Move) → Holds rows.old k ms → Holds rows.new (k + 1) (insert (record { root = root.entry.now; via = via }) ms)) }
 {
     let at = row_place(rows, k, root) * ENTRY_SIZE;
-    open_row(rows, at, k * ENTRY_SIZE);
     let e = at + ENTRY_SIZE;
+    rows.copy_within(at..k * ENTRY_SIZE, e);
     put_row(&mut rows[at..e], root, via);
 }
 
@@ -145,9 +109,7 @@ fn propose(numbers: &[u64], names: &[u8], n: u64, sets: &[u8], rows: &mut [u8]) 
         × Holds rows.new result (proposal (card_of numbers.now names.now) n (allowed_in sets.now)) }
 {
     let mut k = 0;
-    let mut i = memory::route_count(numbers);
-    while 0 < i {
-        i -= 1;
+    for i in (0..memory::route_count(numbers)).rev() {
         if memory_routes::route_via(numbers, i) == n {
             let root = memory_routes::root_name(names, i);
             insert_row(rows, k, root, choose(numbers, names, n, sets, root));
@@ -161,67 +123,53 @@ fn propose(numbers: &[u64], names: &[u8], n: u64, sets: &[u8], rows: &mut [u8]) 
 fn all_found(list: &[u8]) -> bool
     ensures { result ≡ all is_found (list_in list.now) }
 {
-    let k = list.len() / ENTRY_SIZE;
-    let mut i = 0;
-    while i < k {
+    for i in 0..list.len() / ENTRY_SIZE {
         if NO_CHOICE <= octets::at(list, i * ENTRY_SIZE) {
             return false;
         }
-        i += 1;
     }
     true
 }
 
 // ---- the call
 
-// A refusal's number; that there is none; or how many entries the list has.
-#[derive(Clone, Copy)]
-pub enum Planned {
-    Refused(u32),
-    None,
-    Listed(usize),
-}
-
 // Whether what is proposed is a plan.
 fn is_plan(numbers: &[u64], names: &[u8], list: &[u8]) -> bool
     requires { Numbers numbers.now × Names names.now }
     ensures { let c = card_of numbers.now names.now in result ≡ (all is_found (list_in list.now) && leb (need_list c (list_in list.now)) (free_labels c)) }
 {
-    if !all_found(list) {
-        return false;
-    }
-    plan_check::labels_enough(numbers, names, list)
+    all_found(list) && plan_check::labels_enough(numbers, names, list)
 }
 
 fn put_front(list: &mut [u8], made: &[u8])
     requires { length made.now ≤ length list.old }
     ensures { list.new ≡ over made.now list.old }
 {
-    let n = made.len();
-    octets::copy(&mut list[..n], made);
+    list[..made.len()].copy_from_slice(made);
 }
 
-// A list for the neighbour n, at the front of `list`; the rest of it, and all of it where nothing is listed, keeps its octets.
+// A list for the neighbour n, at the front of `list`, and how many entries it has; None where there is none. The rest of `list`, and all
+// of it where nothing is listed, keeps its octets.
 pub fn plan(
     numbers: &[u64; NUMBER_COUNT],
     names: &[u8; OCTET_COUNT],
     n: u32,
     sets: &[u8],
     list: &mut [u8; LIST_LIMIT],
-) -> Planned
+) -> Result<Option<usize>, Refusal>
     ensures fact { let p = planned_octets (card_of numbers.now names.now) n sets.now in
-        (result ≡ plan_of p) × (list.new ≡ over (list_made p) list.old) }
+        (numbered result ≡ plan_of p) × (list.new ≡ over (list_made p) list.old) }
     ensures result_bound { (entries_of result ≤ route_limit) × Readable (planned_octets (card_of numbers.now names.now) n sets.now) }
 {
     if 15 < n {
-        return Planned::Refused(1);
+        return Err(Refusal::NoSuchNeighbour);
     }
     let mut rows = [0u8; LIST_LIMIT];
     let k = propose(numbers, names, n as u64, sets, &mut rows);
     let e = k * ENTRY_SIZE;
     if is_plan(numbers, names, &rows[0..e]) {
         put_front(list, &rows[0..e]);
-        return Planned::Listed(k);
+        return Ok(Some(k));
     }
-    Planned::None
+    Ok(None)
 }

@@ -65,6 +65,7 @@ use Rattle.firmware_layers.proofs.card_layers.Reads as card-layers-reads
 use Rattle.firmware_layers.proofs.card_layer.Reads as card-layer-reads
 use Rattle.firmware_layers.proofs.card_wrap.Reads as card-wrap-reads
 use Rattle.firmware_layers.proofs.card_unwrap.Reads as card-unwrap-reads
+use Rattle.plan_check.proofs.Numbered.{numbered-one}
 use Rattle.plan_check.proofs.check_list.Reads as check-list-reads
 use Rattle.plan_make.proofs.plan.Reads as plan-reads
 use Rattle.firmware_plans.proofs.card_check_list.Reads as card-check-list-reads
@@ -250,13 +251,13 @@ card-unwrap-one κs a r r' s s' h h' = let o = writes_one _ _ _ _ _ _ _ _ _ h.0 
 -- ---- plans: the card is lent to be read alone
 
 pub check-list-one : (κs : _) (a : _) (r r' : _) (s s' : _) → check-list-reads.Learnt κs a r s → check-list-reads.Learnt κs a r' s' → r ≡ r'
-check-list-one κs a r r' s s' h h' = h ∙ sym h'
+check-list-one κs a r r' s s' h h' = numbered-one r r' (h ∙ sym h')
 
 pub card-check-list-one : (κs : _) (a : _) (r r' : _) (s s' : _) → card-check-list-reads.Learnt κs a r s → card-check-list-reads.Learnt κs a r' s' → (r ≡ r') × (s.1.1.1.1.1.0.now ≡ s'.1.1.1.1.1.0.now)
 card-check-list-one κs a r r' s s' h h' = (h.0 ∙ sym h'.0, h.1 ∙ sym h'.1)
 
 pub plan-one : (κs : _) (a : _) (r r' : _) (s s' : _) → plan-reads.Learnt κs a r s → plan-reads.Learnt κs a r' s' → (r ≡ r') × (s.1.1.1.1.0.now ≡ s'.1.1.1.1.0.now)
-plan-one κs a r r' s s' h h' = (h.0.0 ∙ sym h'.0.0, h.0.1 ∙ sym h'.0.1)
+plan-one κs a r r' s s' h h' = (numbered-one r r' (h.0.0 ∙ sym h'.0.0), h.0.1 ∙ sym h'.0.1)
 
 pub card-plan-one : (κs : _) (a : _) (r r' : _) (s s' : _) → card-plan-reads.Learnt κs a r s → card-plan-reads.Learnt κs a r' s' → (r ≡ r') × (s.1.1.1.1.0.now ≡ s'.1.1.1.1.0.now) × (s.1.1.1.1.1.0.now ≡ s'.1.1.1.1.1.0.now) × (s.1.1.1.1.1.1.0.now ≡ s'.1.1.1.1.1.1.0.now)
 card-plan-one κs a r r' s s' h h' = (h.0 ∙ sym h'.0, h.1 ∙ sym h'.1, h.2 ∙ sym h'.2, h.3 ∙ sym h'.3)

@@ -2,7 +2,6 @@ use native.Mathlib.Omega.{arith}
 use Rattle.bench_lines.proofs.Text.{adds_then}
 use Rattle.plan_check.proofs.Checking.{entry-root, entry-via}
 use Rattle.bench_plans.proofs.Telling.{move-told}
-use borrow.Author.Rules.{rules}
 use Rattle.bench_plans.proofs.add_move.Goals as goal
 
 pub returns : goal.returns

@@ -4,7 +4,6 @@ use Rattle.bench_replies.specs.Kinds.{Kind}
 use Rattle.bench_replies.proofs.Arms.{of_others}
 use Rattle.bench_replies.proofs.Reply.{lies}
 use Rattle.bench_words.proofs.Words.{part-short}
-use borrow.Author.Rules.{rules}
 use borrow.Enum.Refused.{opened}
 use Rattle.bench_plans.proofs.on_planned.Goals as goal
 

@@ -1,6 +1,5 @@
 use Rattle.memory.specs.Memory.{card_of}
 use Rattle.bench_plans.proofs.Telling.{says-verdict}
-use borrow.Author.Rules.{rules}
 use Rattle.bench_plans.proofs.on_vet.Goals as goal
 
 pub returns : goal.returns

@@ -2,7 +2,6 @@ use native.Mathlib.Omega.{arith}
 use Rattle.bench_lines.proofs.Text.{adds_then}
 use Rattle.bench_words.specs.Words.{ascii}
 use Rattle.bench_replies.specs.PlanText.{moves_line}
-use borrow.Author.Rules.{rules}
 use Rattle.bench_plans.proofs.put_moves.Goals as goal
 
 pub returns : goal.returns

@@ -1,7 +1,6 @@
 use native.Mathlib.Omega.{arith}
 use Rattle.bench_lines.proofs.Text.{adds_then}
 use Rattle.bench_replies.specs.PlanText.{said_line}
-use borrow.Author.Rules.{rules}
 use Rattle.bench_plans.proofs.put_said.Goals as goal
 
 pub returns : goal.returns

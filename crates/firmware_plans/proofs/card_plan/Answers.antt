@@ -2,17 +2,16 @@
 use mathlib.Core.Path.{refl}
 use Rattle.plan_make.specs.Plan.{entries_of}
 use Rattle.firmware_plans.specs.Answers.{is_listed, plan_answer}
-use borrow.Author.Rules.{rules}
 use Rattle.firmware_plans.proofs.card_plan.Goals as goal
 
-pub returns-in-Refused : goal.returns-in-Refused
+pub returns-in-Ok-Some : goal.returns-in-Ok-Some
 unfolding is_listed plan_answer entries_of
-returns-in-Refused c = let made = c.plan-planned.ensures.fact in rw (← made.0, c.in-Refused.is) (refl, made.1, refl, refl)
+returns-in-Ok-Some c = let made = c.in-Ok-Some.ensures.fact in rw (← made.0, c.in-Ok-Some.field-0-is) (refl, made.1, refl, refl)
 
-pub returns-in-None : goal.returns-in-None
+pub returns-in-Ok-None : goal.returns-in-Ok-None
 unfolding is_listed plan_answer entries_of
-returns-in-None c = let made = c.plan-planned.ensures.fact in rw (← made.0, c.in-None.is) (refl, made.1, refl, refl)
+returns-in-Ok-None c = let made = c.in-Ok-None.ensures.fact in rw (← made.0, c.in-Ok-None.field-0-is) (refl, made.1, refl, refl)
 
-pub returns-in-Listed : goal.returns-in-Listed
+pub returns-in-Err : goal.returns-in-Err
 unfolding is_listed plan_answer entries_of
-returns-in-Listed c = let made = c.plan-planned.ensures.fact in rw (← made.0, c.in-Listed.is) (refl, made.1, refl, refl)
+returns-in-Err c = let made = c.in-Err.ensures.fact in rw (← made.0) (refl, made.1, refl, c.number.ensures)

@@ -1,5 +1,4 @@
 use Rattle.plan_check.proofs.Checking.{entry-needs}
-use borrow.Author.Rules.{rules}
 use Rattle.plan_check.proofs.entry_need.Goals as goal
 
 pub returns : goal.returns

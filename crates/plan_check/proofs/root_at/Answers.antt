@@ -1,7 +1,6 @@
 -- `plan_check::root_at` meets its contract: none, or what stands in the space. Assumes nothing.
 use Rattle.plan_check.proofs.Checking.{root_none, root-there}
 use mathlib.Core.Path.{refl}
-use borrow.Author.Rules.{rules}
 use Rattle.plan_check.proofs.root_at.Goals as goal
 
 pub returns-then-at-gt-ROOT_LIMIT : goal.returns-then-at-gt-ROOT_LIMIT

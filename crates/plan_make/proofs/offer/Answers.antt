@@ -1,5 +1,4 @@
 use Rattle.plan_make.proofs.Choosing.{offer-may, offer-not}
-use borrow.Author.Rules.{rules}
 use Rattle.plan_make.proofs.offer.Goals as goal
 
 pub returns-then-may_have : goal.returns-then-may_have

@@ -1,7 +1,6 @@
 use native.Mathlib.Omega.{arith}
 use Rattle.plan_make.specs.Plan.{entries_of}
 use Rattle.plan_make.proofs.Proposing.{plan-far, plan-listed, plan-none}
-use borrow.Author.Rules.{rules}
 use Rattle.plan_make.proofs.plan.Goals as goal
 
 pub returns-then-n-gt15 : goal.returns-then-n-gt15
