@@ -6,7 +6,9 @@ ghost use Rattle.meaning.specs.Calls.{over};
 ghost use Rattle.session.specs.Stream.{identifier_size};
 ghost use Rattle.session.specs.Pack.{messages_to, packed, pack};
 ghost use Rattle.session.specs.Calls.{Packs};
+ghost use Rattle.refusals.specs.Refusals.{answer_of, count_of};
 
+use refusals::Refusal;
 use session::{BODY_LIMIT, IDENTIFIER_SIZE};
 
 // Whether the PDUs find room.
@@ -49,6 +51,24 @@ fn put_all(records: &[u8], to: u64, id: &[u8], out: &mut [u8]) -> usize
 
 // ---- the call: the messages to a neighbour in these records; `id` is our own identifier
 
+// How many octets were written.
+fn pack_all(
+    records: &[u8],
+    neighbour: u32,
+    id: &[u8; IDENTIFIER_SIZE],
+    out: &mut [u8],
+) -> Result<usize, Refusal>
+    ensures { Packs (pack id.now neighbour (length out.old) records.now) (answer_of result) (count_of result) out.old out.new }
+{
+    if 15 < neighbour {
+        return Err(Refusal::NoSuchNeighbour);
+    }
+    if !has_room(records, neighbour as u64, id, out.len()) {
+        return Err(Refusal::NoRoom);
+    }
+    Ok(put_all(records, neighbour as u64, id, out))
+}
+
 pub fn pack_core(
     records: &[u8],
     neighbour: u32,
@@ -58,16 +78,8 @@ pub fn pack_core(
 ) -> usize
     ensures { Packs (pack id.now neighbour (length out.old) records.now) answer.new result out.old out.new }
 {
-    if 15 < neighbour {
-        *answer = 1;
-        return 0;
-    }
-    if !has_room(records, neighbour as u64, id, out.len()) {
-        *answer = 16;
-        return 0;
-    }
-    *answer = 0;
-    put_all(records, neighbour as u64, id, out)
+    let packed = pack_all(records, neighbour, id, out);
+    refusals::tell(packed, answer)
 }
 
 pub fn pack<'a>(

@@ -1,9 +1,6 @@
 -- `session_pack::has_room` meets its contract: message after message, what is left of the room. Assumes nothing.
-use Prim.Native.Nat.{◌-◌}
 use native.Mathlib.Omega.{arith}
-use lib.ListN.{length}
-use Rattle.session_pack.proofs.Counting.{sized, next-inside, message-small, Counts, counts_start, counts-short, counts_step, counts_end}
-use borrow.Author.Rules.{rules}
+use Rattle.session_pack.proofs.Counting.{sized, next-inside, message-small, counts_start, counts-short, counts_step, counts_end}
 use Rattle.session_pack.proofs.has_room.Goals as goal
 
 pub loop-i-init : goal.loop-i-init

@@ -1,7 +1,6 @@
 -- `session_pack::pack` meets its contract. Assumes nothing.
 use mathlib.Core.Path.{refl}
 use Rattle.session_pack.proofs.Counting.{packed-part, packed-count}
-use borrow.Author.Rules.{rules}
 use Rattle.session_pack.proofs.pack.Goals as goal
 
 pub slice_bounds-result-end : goal.slice_bounds-result-end

@@ -1,9 +1,6 @@
 -- `session_pack::put_all` meets its contract: message after message. Assumes nothing.
-use Prim.Native.Nat.{◌-◌}
 use native.Mathlib.Omega.{arith}
-use lib.ListN.{length}
-use Rattle.session_pack.proofs.Counting.{next-inside, message-small, message-part, part-long, Writes, writes_start, writes-room, writes-step, writes_end}
-use borrow.Author.Rules.{rules}
+use Rattle.session_pack.proofs.Counting.{next-inside, message-small, message-part, part-long, writes_start, writes-room, writes-step, writes_end}
 use Rattle.session_pack.proofs.put_all.Goals as goal
 
 pub loop-i-init : goal.loop-i-init

@@ -1,9 +1,7 @@
 -- `session_pack::put_all` meets its contract: message after message. Assumes nothing.
 use Prim.Native.Nat.{◌-◌}
-use native.Mathlib.Omega.{arith}
 use lib.ListN.{length}
-use Rattle.session_pack.proofs.Counting.{next-inside, message-small, message-part, part-long, Writes, writes_start, writes-room, writes-step, writes_end}
-use borrow.Author.Rules.{rules}
+use Rattle.session_pack.proofs.Counting.{Writes}
 use Rattle.session_pack.proofs.put_all.Given as goal
 
 abbrev pub invariant-loop-i : goal.invariant-loop-i

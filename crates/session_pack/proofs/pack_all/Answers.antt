@@ -1,11 +1,9 @@
--- `session_pack::pack_core` meets its contract: 1, 16, and the PDUs. Assumes nothing.
+-- `session_pack::pack_all` meets its contract: 1, 16, and the PDUs. Assumes nothing.
 use mathlib.Core.Path.{sym, ◌∙◌}
-use borrow.Author.Tests.{leb-true, not-true, not-false}
+use borrow.Author.Tests.{leb-true}
 use Rattle.session_pack.proofs.Counting.{packs-far, packs-short, packs-all}
 use borrow.Author.Rules.{rules}
-use mathlib.Core.Path.{ap}
-use mathlib.Core.Bool.{not}
-use Rattle.session_pack.proofs.pack_core.Goals as goal
+use Rattle.session_pack.proofs.pack_all.Goals as goal
 
 pub returns-then-neighbour-gt15 : goal.returns-then-neighbour-gt15
 returns-then-neighbour-gt15 c = packs-far _ _ _ _ _ c.if-neighbour-gt15.true
