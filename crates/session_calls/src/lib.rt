@@ -18,6 +18,7 @@ use session::{IDENTIFIER_SIZE, MESSAGE_ROOM, STREAM_NUMBERS, STREAM_ROOM};
 // ---- a message to the label part
 
 // It is lent the first 348 octets of the output, and no more.
+// Kept: the label part's event tells its refusal as a number, which goes on to the caller as it is.
 fn tell_label(
     numbers: &mut [u64; NUMBER_COUNT],
     names: &mut [u8; OCTET_COUNT],
@@ -55,7 +56,7 @@ fn hand_on(
     ensures { Does (label (card_of numbers.old names.old) neighbour (take k (held_at stream.now buffer.now)))
         answer.new result out.old out.new (card_of numbers.new names.new) }
 {
-    let place = session_streams::place_of(stream, session_streams::left_of(stream));
+    let place = session_streams::held_in(stream).place;
     let end = place + k;
     tell_label(numbers, names, neighbour, &buffer[place..end], out, answer)
 }
@@ -80,16 +81,19 @@ fn serve_open(
         answer.new eaten.new result out.old out.new (card_of numbers.new names.new) (stream_of stream.new buffer.new) }
 {
     *answer = 0;
-    let k = session_offer::offer(stream, buffer, offered, expected, eaten);
-    if k == 0 {
-        return 0;
+    let found = session_offer::offer(stream, buffer, offered, expected);
+    *eaten = found.eaten;
+    match found.message {
+        None => 0,
+        Some(k) => {
+            let n = hand_on(numbers, names, stream, buffer, k, neighbour, out, answer);
+            if session_streams::work_off(stream, buffer, k, expected) {
+                *eaten = offered.len();
+                return n;
+            }
+            n
+        }
     }
-    let n = hand_on(numbers, names, stream, buffer, k, neighbour, out, answer);
-    if session_streams::work_off(stream, buffer, k, expected) {
-        *eaten = offered.len();
-        return n;
-    }
-    n
 }
 
 // ---- the call: octets of a neighbour, whose identifier is `expected`

@@ -12,6 +12,7 @@ use Rattle.meaning.specs.Octets.{same, two_at}
 use Rattle.session.specs.Stream.{least_length, most_length, body_limit, pdu_head, Look, wait, bad, head, message, wrong_version, wrong_length, wrong_id, look_head, message_size, look_message, look}
 use Rattle.session.specs.StreamLaws.{Tells}
 use Rattle.session.proofs.StreamLaws.{look-tells}
+use Rattle.std.specs.Prelude.{Option, Some, None, IfSome}
 use Rattle.session_look.specs.Shown.{shown, head_in}
 use Rattle.session_look.specs.declared.Shows.{Shows}
 use Rattle.session_look.specs.contracts.Shows.{the_type}
@@ -87,26 +88,28 @@ look-some id (suc n) s e = refl
 
 -- ---- a PDU's head
 
-pub head-most : (id : List ℕ) (left : ℕ) (s : List ℕ) → head_in (look id left s) ≤ body_limit
+head-most : (id : List ℕ) (left : ℕ) (s : List ℕ) → IfSome (head_in (look id left s)) (λ n. n ≤ body_limit)
 head-most id left s = by (look id left s) (look-tells id left s)
   where
-    by : (l : Look) → Tells left s l → head_in l ≤ body_limit
-    by wait t = unfold head_in in omega arith
-    by bad t = unfold head_in in omega arith
+    by : (l : Look) → Tells left s l → IfSome (head_in l) (λ n. n ≤ body_limit)
+    by wait t = unfold head_in in tt
+    by bad t = unfold head_in in tt
     by (head n) t = unfold head_in Tells in t.3
-    by (message k) t = unfold head_in in omega arith
+    by (message k) t = unfold head_in in tt
 
-pub head-is : (id : List ℕ) (left : ℕ) (s : List ℕ) (n : ℕ) → shown (Shows.Head n) ≡ look id left s → (n ≡ head_in (look id left s)) × (n ≤ body_limit)
-unfolding shown
-head-is id left s n e =
-    let i : n ≡ head_in (look id left s) = unfold head_in in ap head_in e in
-    (i, omega (arith, head-most id left s))
+module _ (id : List ℕ) (left : ℕ) (s : List ℕ) where
+  told-head : (r : Option ℕ) → r ≡ head_in (look id left s) → (r ≡ head_in (look id left s)) × IfSome r (λ n. n ≤ body_limit)
+  told-head r e = (e, rw e (head-most id left s))
 
-pub head-none-is : (id : List ℕ) (left : ℕ) (s : List ℕ) (w : Shows) → OneOf (0 ∷ 1 ∷ 3 ∷ []) (tag_of the_type w) → shown w ≡ look id left s → (0 ≡ head_in (look id left s)) × (0 ≤ body_limit)
-head-none-is id left s w h e = (by w h ∙ ap head_in e, omega arith)
-  where
-    by : (w : Shows) → OneOf (0 ∷ 1 ∷ 3 ∷ []) (tag_of the_type w) → 0 ≡ head_in (shown w)
-    by Shows.Wait h = unfold head_in shown in refl
-    by Shows.Bad h = unfold head_in shown in refl
-    by (Shows.Head n) h = absurd (miss (0 ∷ 1 ∷ 3 ∷ []) 2 tt h)
-    by (Shows.Message k) h = unfold head_in shown in refl
+  pub head-is : (n : ℕ) → shown (Shows.Head n) ≡ look id left s → (Some n ≡ head_in (look id left s)) × IfSome (Some n) (λ n. n ≤ body_limit)
+  unfolding shown
+  head-is n e = told-head (Some n) (unfold head_in in ap head_in e)
+
+  pub head-none-is : (w : Shows) → OneOf (0 ∷ 1 ∷ 3 ∷ []) (tag_of the_type w) → shown w ≡ look id left s → (None ≡ head_in (look id left s)) × IfSome {T = ℕ} None (λ n. n ≤ body_limit)
+  head-none-is w h e = told-head None (by w h ∙ ap head_in e)
+    where
+      by : (w : Shows) → OneOf (0 ∷ 1 ∷ 3 ∷ []) (tag_of the_type w) → None ≡ head_in (shown w)
+      by Shows.Wait h = unfold head_in shown in refl
+      by Shows.Bad h = unfold head_in shown in refl
+      by (Shows.Head n) h = absurd (miss (0 ∷ 1 ∷ 3 ∷ []) 2 tt h)
+      by (Shows.Message k) h = unfold head_in shown in refl

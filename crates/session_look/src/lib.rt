@@ -1,7 +1,7 @@
 // What the octets at the front of a stream show, where the current PDU has so many octets left.
 #![tactic(auto)]
 
-ghost use Rattle.std.specs.Prelude.{◌≡◌, ◌≤◌};
+ghost use Rattle.std.specs.Prelude.{◌≡◌, ◌≤◌, IfSome};
 ghost use Rattle.session.specs.Stream.{body_limit, look_head, look_message, look};
 ghost use Rattle.session_look.specs.Shown.{shown, head_in};
 
@@ -74,13 +74,12 @@ pub fn look(left: usize, held: &[u8], expected: &[u8]) -> Shows
     look_message(left, held)
 }
 
-// How many octets of messages a PDU has whose whole head is held, in good order; 0 for anything else.
-pub fn whole_head(left: usize, held: &[u8], expected: &[u8]) -> usize
-    ensures { (result ≡ head_in (look expected.now left held.now)) × (result ≤ body_limit) }
+// How many octets of messages a PDU has whose whole head is held, in good order.
+pub fn whole_head(left: usize, held: &[u8], expected: &[u8]) -> Option<usize>
+    ensures { (result ≡ head_in (look expected.now left held.now)) × IfSome result (λ n. n ≤ body_limit) }
 {
-    let shows = look(left, held, expected);
-    if let Shows::Head(n) = shows {
-        return n;
+    match look(left, held, expected) {
+        Shows::Head(n) => Some(n),
+        _ => None,
     }
-    0
 }

@@ -9,6 +9,7 @@ ghost use Rattle.session_offer.specs.Offers.{TakesIn, Offers};
 
 use session::PDU_HEAD;
 use session_look::Shows;
+use session_streams::Held;
 
 // As many of the offered octets as there is room for, copied to the place `at`.
 fn fill(buffer: &mut [u8], at: usize, room: usize, offered: &[u8]) -> usize
@@ -28,51 +29,62 @@ fn take_in(stream: &mut [u64], buffer: &mut [u8], offered: &[u8], expected: &[u8
         × TakesIn expected.now offered.now (left_in stream.old) (held_at stream.old buffer.old)
         result stream.new buffer.new }
 {
-    let left = session_streams::left_of(stream);
-    let place = session_streams::place_of(stream, left);
-    let count = session_streams::count_of(stream, left);
-    let room = session_streams::limit(left) - count;
-    let k = fill(buffer, place + count, room, offered);
-    let end = place + count + k;
-    let n = session_look::whole_head(left, &buffer[place..end], expected);
-    if n == 0 {
-        session_streams::set(stream, 0, left, place, count + k);
-        return k;
+    let before = session_streams::held_in(stream);
+    let room = session_streams::limit(before.left) - before.count;
+    let k = fill(buffer, before.place + before.count, room, offered);
+    let first = Held {
+        left: before.left,
+        place: before.place,
+        count: before.count + k,
+    };
+    match session_look::whole_head(first.left, first.octets(buffer), expected) {
+        None => {
+            session_streams::set(stream, 0, first.left, first.place, first.count);
+            k
+        }
+        Some(n) => {
+            let more = fill(buffer, PDU_HEAD, n, &offered[k..]);
+            session_streams::set(stream, 0, n, PDU_HEAD, more);
+            k + more
+        }
     }
-    let more = fill(buffer, PDU_HEAD, n, &offered[k..]);
-    session_streams::set(stream, 0, n, PDU_HEAD, more);
-    k + more
 }
 
-// All of a call on a stream but the label part's: how many octets the message has that is to be handed on, the first of those held, or 0.
-pub fn offer(
-    stream: &mut [u64],
-    buffer: &mut [u8],
-    offered: &[u8],
-    expected: &[u8],
-    eaten: &mut usize,
-) -> usize
+// How many of the offered octets are eaten, unless the stream then stops; and how many octets the message has that is to be handed on, the first
+// of those held, where there is one.
+#[derive(Clone, Copy)]
+pub struct Offered {
+    pub eaten: usize,
+    pub message: Option<usize>,
+}
+
+// All of a call on a stream but the label part's.
+pub fn offer(stream: &mut [u64], buffer: &mut [u8], offered: &[u8], expected: &[u8]) -> Offered
     requires { (length stream.old ≡ stream_numbers) × (stream_room ≤ length buffer.old) }
     ensures { (length stream.new ≡ stream_numbers) × (length buffer.new ≡ length buffer.old)
-        × Offers expected.now offered.now (stream_of stream.old buffer.old) eaten.new result stream.new buffer.new }
+        × Offers expected.now offered.now (stream_of stream.old buffer.old) result stream.new buffer.new }
 {
-    *eaten = offered.len();
+    let dropped = Offered {
+        eaten: offered.len(),
+        message: None,
+    };
     if session_streams::is_stopped(stream) {
-        return 0;
+        return dropped;
     }
-    let took = take_in(stream, buffer, offered, expected);
-    let left = session_streams::left_of(stream);
-    let place = session_streams::place_of(stream, left);
-    let count = session_streams::count_of(stream, left);
-    let end = place + count;
-    let shows = session_look::look(left, &buffer[place..end], expected);
-    if let Shows::Bad = shows {
-        session_streams::stop(stream);
-        return 0;
+    let eaten = take_in(stream, buffer, offered, expected);
+    let now = session_streams::held_in(stream);
+    match session_look::look(now.left, now.octets(buffer), expected) {
+        Shows::Bad => {
+            session_streams::stop(stream);
+            dropped
+        }
+        Shows::Message(k) => Offered {
+            eaten,
+            message: Some(k),
+        },
+        Shows::Wait | Shows::Head(_) => Offered {
+            eaten,
+            message: None,
+        },
     }
-    *eaten = took;
-    if let Shows::Message(k) = shows {
-        return k;
-    }
-    0
 }

@@ -14,7 +14,8 @@ use Rattle.meaning.specs.Lists.{by-test}
 use Rattle.session.specs.Stream.{bad, look_message, look, Stream, stopped, reading, is_message, holds_message, is_stopped, settled_by, settled}
 use Rattle.session.specs.Lent.{mark_in, left_in, place_in, count_in, stream_of}
 use Rattle.session_look.specs.Shown.{shown}
-use Rattle.session_streams.specs.Holds.{held_at}
+use Rattle.session_streams.specs.declared.Held.{Held}
+use Rattle.session_streams.specs.Holds.{held_at, IsHeld}
 use Rattle.session_look.specs.declared.Shows.{Shows}
 use Rattle.session_look.specs.contracts.Shows.{the_type}
 
@@ -24,9 +25,9 @@ take_min k o =
     (λ e. let a = ltb-true k (length o) e in let m : min k (length o) ≡ k = omega arith in rw m refl)
     (λ e. let a = ltb-false k (length o) e in let m : min k (length o) ≡ length o = omega arith in rw m (take_all (length o) o (omega arith) ∙ sym (take_all k o a)))
 
-pub part_held : (ns b : List ℕ) (place count : ℕ) → place ≡ place_in ns → count ≡ count_in ns → take (place + count - place) (drop place b) ≡ held_at ns b
+pub part_held : (ns b : List ℕ) (h : Held) → IsHeld ns h → take h.count (drop h.place b) ≡ held_at ns b
 unfolding held_at
-part_held ns b place count p q = let z : place + count - place ≡ count = omega arith in rw (z, p, q) refl
+part_held ns b h is = rw (is.place, is.count) refl
 
 -- numbers that denote a stream that is being read
 pub reading-parts : (ns b : List ℕ) (l : ℕ) (h : List ℕ) → stream_of ns b ≡ reading l h → (left_in ns ≡ l) × (held_at ns b ≡ h)
@@ -48,10 +49,10 @@ not-bad Shows.Bad h l s = absurd (miss (0 ∷ 2 ∷ 3 ∷ []) 1 tt h)
 not-bad (Shows.Head n) h l s = unfold shown settled_by in refl
 not-bad (Shows.Message k) h l s = unfold shown settled_by in refl
 
-module _ (id ns b : List ℕ) (l : ℕ) (h : List ℕ) (left place count : ℕ) (passed : stream_of ns b ≡ reading l h)
-    (is-left : left ≡ left_in ns) (is-place : place ≡ place_in ns) (is-count : count ≡ count_in ns) (w : Shows) (looked : shown w ≡ look id left (take (place + count - place) (drop place b))) where
+module _ (id ns b : List ℕ) (l : ℕ) (h : List ℕ) (now : Held) (passed : stream_of ns b ≡ reading l h) (is : IsHeld ns now)
+    (part : List ℕ) (lent : part ≡ take now.count (drop now.place b)) (w : Shows) (looked : shown w ≡ look id now.left part) where
   settled-look : shown w ≡ look id l h
-  settled-look = let p = reading-parts ns b l h passed in looked ∙ rw (part_held ns b place count is-place is-count, is-left, p.0, p.1) refl
+  settled-look = let p = reading-parts ns b l h passed in looked ∙ rw (lent, part_held ns b now is, is.left, p.0, p.1) refl
 
   pub settles-bad : (ns' : List ℕ) → OneOf (1 ∷ []) (tag_of the_type w) → stream_of ns' b ≡ stopped → (stream_of ns' b ≡ settled id l h) × (true ≡ is_stopped (settled id l h))
   unfolding settled

@@ -1,11 +1,11 @@
 // A neighbour's stream in lent memory: a buffer of at least 4100 octets and four numbers. Any content of them denotes a stream.
 #![tactic(auto)]
 
-ghost use Rattle.std.specs.Prelude.{◌≡◌, List, [], ◌∷◌, ℕ, ◌+◌, ◌-◌, min, ◌≤◌, ◌<◌, length, drop};
+ghost use Rattle.std.specs.Prelude.{◌≡◌, List, [], ◌∷◌, ℕ, ◌+◌, ◌-◌, min, ◌≤◌, ◌<◌, length, take, drop};
 ghost use Rattle.session.specs.Stream.{body_limit, limit, stopped, reading, empty, holds_message, is_stopped, settled};
 ghost use Rattle.session.specs.Session.{stream_room};
-ghost use Rattle.session.specs.Lent.{stream_numbers, left_in, place_in, count_in, stream_of};
-ghost use Rattle.session_streams.specs.Holds.{held_at};
+ghost use Rattle.session.specs.Lent.{stream_numbers, left_in, count_in, stream_of};
+ghost use Rattle.session_streams.specs.Holds.{held_at, IsHeld};
 
 use session::{BODY_LIMIT, PDU_HEAD, STREAM_ROOM};
 use session_look::Shows;
@@ -31,25 +31,36 @@ pub fn limit(left: usize) -> usize
     if left == 0 { PDU_HEAD } else { left }
 }
 
-pub fn left_of(stream: &[u64]) -> usize
+// Of a stream that is being read: how many octets its PDU has left, and where in the buffer those held lie.
+#[derive(Clone, Copy)]
+pub struct Held {
+    pub left: usize,
+    pub place: usize,
+    pub count: usize,
+}
+
+impl Held {
+    // The octets held.
+    pub fn octets<'a>(&self, buffer: &'a [u8]) -> &'a [u8]
+        requires { self.now.place + self.now.count ≤ length buffer.now }
+        ensures { result.now ≡ take self.now.count (drop self.now.place buffer.now) }
+    {
+        let end = self.place + self.count;
+        &buffer[self.place..end]
+    }
+}
+
+pub fn held_in(stream: &[u64]) -> Held
     requires { length stream.now ≡ stream_numbers }
-    ensures { (result ≡ left_in stream.now) × (result ≤ body_limit) }
+    ensures { IsHeld stream.now result }
 {
-    up_to(stream[1], BODY_LIMIT)
-}
-
-pub fn place_of(stream: &[u64], left: usize) -> usize
-    requires { (length stream.now ≡ stream_numbers) × (left ≡ left_in stream.now) × (left ≤ body_limit) }
-    ensures { (result ≡ place_in stream.now) × (result + limit left ≤ stream_room) }
-{
-    up_to(stream[2], STREAM_ROOM - limit(left))
-}
-
-pub fn count_of(stream: &[u64], left: usize) -> usize
-    requires { (length stream.now ≡ stream_numbers) × (left ≡ left_in stream.now) × (left ≤ body_limit) }
-    ensures { (result ≡ count_in stream.now) × (result ≤ limit left) }
-{
-    up_to(stream[3], limit(left))
+    let left = up_to(stream[1], BODY_LIMIT);
+    let most = limit(left);
+    Held {
+        left,
+        place: up_to(stream[2], STREAM_ROOM - most),
+        count: up_to(stream[3], most),
+    }
 }
 
 pub fn set(stream: &mut [u64], mark: u64, left: usize, place: usize, count: usize)
@@ -84,14 +95,18 @@ fn pass(stream: &mut [u64], k: usize)
     ensures { (length stream.new ≡ stream_numbers)
         × ((buffer : List ℕ) → stream_of stream.new buffer ≡ reading (left_in stream.old - k) (drop k (held_at stream.old buffer))) }
 {
-    let left = left_of(stream);
-    let place = place_of(stream, left);
-    let count = count_of(stream, left);
-    if left == k {
+    let before = held_in(stream);
+    if before.left == k {
         clear(stream);
         return;
     }
-    set(stream, 0, left - k, place + k, count - k);
+    set(
+        stream,
+        0,
+        before.left - k,
+        before.place + k,
+        before.count - k,
+    );
 }
 
 // A message of k octets is done with, and the stream stops where what is then held says so.
@@ -102,11 +117,8 @@ pub fn work_off(stream: &mut [u64], buffer: &[u8], k: usize, expected: &[u8]) ->
         × (result ≡ is_stopped (settled expected.now (left_in stream.old - k) (drop k (held_at stream.old buffer.now)))) }
 {
     pass(stream, k);
-    let left = left_of(stream);
-    let place = place_of(stream, left);
-    let count = count_of(stream, left);
-    let end = place + count;
-    let shows = session_look::look(left, &buffer[place..end], expected);
+    let rest = held_in(stream);
+    let shows = session_look::look(rest.left, rest.octets(buffer), expected);
     if let Shows::Bad = shows {
         stop(stream);
         return true;
@@ -131,10 +143,10 @@ pub fn holds_message(stream: &[u64], buffer: &[u8]) -> bool
     if is_stopped(stream) {
         return false;
     }
-    let left = left_of(stream);
-    let place = least(place_of(stream, left), buffer.len());
-    let end = least(place + count_of(stream, left), buffer.len());
-    let shows = session_look::look_message(left, &buffer[place..end]);
+    let now = held_in(stream);
+    let place = least(now.place, buffer.len());
+    let end = least(place + now.count, buffer.len());
+    let shows = session_look::look_message(now.left, &buffer[place..end]);
     if let Shows::Message(k) = shows {
         return true;
     }

@@ -1,6 +1,5 @@
 -- `session_look::look` meets its contract: no octets left of a PDU, or some. Assumes nothing.
 use mathlib.Core.Path.{◌∙◌}
-use borrow.Author.Rules.{rules}
 use Rattle.session_look.proofs.Looks.{look_none, look-some}
 use Rattle.session_look.proofs.look.Goals as goal
 

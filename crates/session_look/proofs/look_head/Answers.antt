@@ -1,7 +1,6 @@
 -- `session_look::look_head` meets its contract: each return's tests are those of one law. Assumes nothing.
 use native.Mathlib.Omega.{arith}
 use mathlib.Core.Path.{sym, ◌∙◌}
-use borrow.Author.Rules.{rules}
 use Rattle.session_look.proofs.Looks.{head-none, head-version, head-two, head-low, head-high, head-four, head-whole, head-other}
 use Rattle.session_look.proofs.look_head.Goals as goal
 

@@ -1,6 +1,5 @@
 -- `session_look::look_message` meets its contract: each return's tests are those of one law. Assumes nothing.
 use native.Mathlib.Omega.{arith}
-use borrow.Author.Rules.{rules}
 use Rattle.session_look.proofs.Looks.{message-end, message-none, message-past, message-part, message-whole}
 use Rattle.session_look.proofs.look_message.Goals as goal
 

@@ -2,12 +2,11 @@
 use mathlib.Core.Path.{sym, ap, ◌∙◌}
 use Rattle.session_look.specs.Shown.{shown}
 use Rattle.session_look.proofs.Looks.{head-is, head-none-is}
-use borrow.Author.Rules.{rules}
 use borrow.Enum.Refused.{opened}
 use Rattle.session_look.proofs.whole_head.Goals as goal
 
 pub returns-in-Head : goal.returns-in-Head
-returns-in-Head c = head-is _ _ _ _ (ap shown (sym c.in-Head.is) ∙ c.look-shows.ensures)
+returns-in-Head c = head-is _ _ _ _ (ap shown (sym c.in-Head.is) ∙ c.look.ensures)
 
-pub returns : goal.returns
-returns c = head-none-is _ _ _ _ (opened c.in_default.in_default-own.keys2) c.look-shows.ensures
+pub returns-in_default : goal.returns-in_default
+returns-in_default c = head-none-is _ _ _ _ (opened c.in_default.in_default-own.keys2) c.look.ensures

@@ -1,51 +1,24 @@
 -- `session_offer::take_in` meets its contract: with no whole head, and with one. Assumes nothing.
 use native.Mathlib.Omega.{arith}
-use mathlib.Core.Path.{sym, ap, ◌∙◌}
+use mathlib.Core.Path.{ap, ◌∙◌}
 use lib.ListN.{length}
 use Rattle.session_offer.proofs.Taking.{offered-rest, took-on, took-head}
-use borrow.Author.Rules.{rules}
 use Rattle.session_offer.proofs.take_in.Goals as goal
 
-pub returns-then-n-eq0 : goal.returns-then-n-eq0
-returns-then-n-eq0 c =
-    let the-if1 = c.if-n-eq0 in
-    let ns = c.args.stream.now in
-    let buffer = c.args.buffer.now in
-    let offered = c.args.offered.now in
-    let the-left = c.left_of-left in
-    let the-place = c.place_of-place in
-    let the-count = c.count_of-count in
-    let the-limit = c.limit in
-    let the-fill = c.fill-k in
-    let the-head = c.whole_head-n in
-    let the-set = c.set in (
-      ap length the-set.ensures,
-      the-fill.ensures.3,
-      took-on ns buffer offered the-left.result the-place.result the-count.result the-limit.result the-fill.result the-fill.new.buffer
-          the-left.ensures.0 the-place.ensures.0 the-count.ensures.0 the-left.ensures.1 the-limit.ensures.0 the-place.ensures.1 the-count.ensures.1 c.requires.1
-          the-fill.ensures.0 the-fill.ensures.4 c.args.expected.now the-set.new.stream
-          (sym the-if1.true ∙ the-head.ensures.0) the-set.ensures,
+pub returns-in-None : goal.returns-in-None
+returns-in-None c =
+    let fill = c.fill-k.ensures in (
+      ap length c.set.ensures,
+      fill.3,
+      took-on _ _ _ _ _ _ _ c.held_in-before.ensures c.limit.ensures.0 c.requires.1 fill.0 fill.4 _ _ c.octets.ensures _ c.whole_head.ensures.0 c.in-None.is _ c.set.ensures,
     )
 
-pub returns : goal.returns
-returns c =
-    let the-fill2 = c.fill-more in
-    let the-if1 = c.if-n-eq0 in
-    let ns = c.args.stream.now in
-    let buffer = c.args.buffer.now in
-    let offered = c.args.offered.now in
-    let the-left = c.left_of-left in
-    let the-place = c.place_of-place in
-    let the-count = c.count_of-count in
-    let the-limit = c.limit in
-    let the-fill = c.fill-k in
-    let the-head = c.whole_head-n in
-    let the-set = c.set-2 in
-    let more = the-fill2 in (
-      ap length the-set.ensures,
-      more.ensures.3 ∙ the-fill.ensures.3,
-      took-head ns buffer offered the-left.result the-place.result the-count.result the-limit.result the-fill.result the-fill.new.buffer
-          the-left.ensures.0 the-place.ensures.0 the-count.ensures.0 the-left.ensures.1 the-limit.ensures.0 the-place.ensures.1 the-count.ensures.1 c.requires.1
-          the-fill.ensures.0 the-fill.ensures.4 c.args.expected.now the-set.new.stream _ more.new.buffer the-head.result more.result
-          the-head.ensures.0 the-if1.false (offered-rest the-fill.result offered) more.ensures.0 (omega arith) more.ensures.4 the-set.ensures,
+pub returns-in-Some : goal.returns-in-Some
+returns-in-Some c =
+    let fill = c.fill-k.ensures in
+    let more = c.fill-more.ensures in (
+      ap length c.set-in-Some.ensures,
+      more.3 ∙ fill.3,
+      took-head _ _ _ _ _ _ _ c.held_in-before.ensures c.limit.ensures.0 c.requires.1 fill.0 fill.4 _ _ c.octets.ensures _ c.whole_head.ensures.0 _ c.in-Some.is _ _ _ _
+          (offered-rest c.fill-k.result c.args.offered.now) more.0 (omega arith) more.4 c.set-in-Some.ensures,
     )

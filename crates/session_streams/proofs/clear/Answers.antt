@@ -1,6 +1,5 @@
 -- `session_streams::clear` meets its contract. Assumes nothing.
 use Rattle.session_streams.proofs.Passing.{empty-is}
-use borrow.Author.Rules.{rules}
 use Rattle.session_streams.proofs.clear.Goals as goal
 
 pub returns : goal.returns

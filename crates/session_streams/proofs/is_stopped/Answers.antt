@@ -1,6 +1,5 @@
 -- `session_streams::is_stopped` meets its contract. Assumes nothing.
 use Rattle.session_streams.proofs.Settling.{asks-stopped}
-use borrow.Author.Rules.{rules}
 use Rattle.session_streams.proofs.is_stopped.Goals as goal
 
 pub returns : goal.returns

@@ -1,6 +1,5 @@
 -- `session_streams::stop` meets its contract. Assumes nothing.
 use Rattle.session_streams.proofs.Passing.{stopped-is}
-use borrow.Author.Rules.{rules}
 use Rattle.session_streams.proofs.stop.Goals as goal
 
 pub returns : goal.returns
