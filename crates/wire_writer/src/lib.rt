@@ -52,23 +52,13 @@ fn put_record_head(out: &mut [u8], to: u64, kind: u64, id: u32, size: u64)
     ensures { out.new ≡ 0x4C ∷ 0x44 ∷ (two to ++ (two kind ++ (two (16 + size) ++ (four id ++ (two 0x0100 ++ two size))))) }
 {
     let after = 16 + size;
+    let [.., t1, t0] = to.to_be_bytes();
+    let [.., k1, k0] = kind.to_be_bytes();
+    let [.., a1, a0] = after.to_be_bytes();
+    let [i3, i2, i1, i0] = id.to_be_bytes();
+    let [.., s1, s0] = size.to_be_bytes();
     let head = [
-        0x4c,
-        0x44,
-        (to / 256 % 256) as u8,
-        (to % 256) as u8,
-        (kind / 256 % 256) as u8,
-        (kind % 256) as u8,
-        (after / 256 % 256) as u8,
-        (after % 256) as u8,
-        (id / 16777216 % 256) as u8,
-        (id / 65536 % 256) as u8,
-        (id / 256 % 256) as u8,
-        (id % 256) as u8,
-        1,
-        0,
-        (size / 256 % 256) as u8,
-        (size % 256) as u8,
+        0x4c, 0x44, t1, t0, k1, k0, a1, a0, i3, i2, i1, i0, 1, 0, s1, s0,
     ];
     octets::copy(out, &head);
 }
@@ -78,16 +68,8 @@ fn put_label_tlv(out: &mut [u8], label: u64)
     requires { length out.old ≡ 8 }
     ensures { out.new ≡ two 0x0200 ++ (two 4 ++ four label) }
 {
-    let tail = [
-        2,
-        0,
-        0,
-        4,
-        (label / 16777216 % 256) as u8,
-        (label / 65536 % 256) as u8,
-        (label / 256 % 256) as u8,
-        (label % 256) as u8,
-    ];
+    let [.., l3, l2, l1, l0] = label.to_be_bytes();
+    let tail = [2, 0, 0, 4, l3, l2, l1, l0];
     octets::copy(out, &tail);
 }
 

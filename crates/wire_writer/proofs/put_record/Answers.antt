@@ -1,5 +1,4 @@
 -- `wire_writer::put_record` meets its contract: three parts of the output, one after the other, are one. Assumes nothing.
-use Rattle.std.proofs.Common.{rules}
 use Rattle.wire_writer.proofs.Record.{put_three}
 use Rattle.wire_writer.proofs.put_record.Goals as goal
 

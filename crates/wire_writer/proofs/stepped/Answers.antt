@@ -1,5 +1,5 @@
 -- `wire_writer::stepped` meets its contract: the field is the wrapping sum. Assumes nothing.
-use Rattle.std.proofs.Common.{ℕ, ap, rules}
+use Rattle.std.proofs.Common.{ℕ, ap}
 use Rattle.meaning.specs.Wire.{next_id}
 use Rattle.wire_writer.proofs.stepped.Goals as goal
 
