@@ -24,24 +24,9 @@ fn put_notice_head(out: &mut [u8], neighbour: u32, id: u32)
     requires { length out.old ≡ 16 }
     ensures { out.new ≡ 0x4C ∷ 0x44 ∷ (two neighbour ++ (two 0x0001 ++ (two 18 ++ (four id ++ (two 0x0300 ++ two 10))))) }
 {
-    let head = [
-        0x4c,
-        0x44,
-        (neighbour / 256 % 256) as u8,
-        (neighbour % 256) as u8,
-        0,
-        1,
-        0,
-        18,
-        (id / 16777216 % 256) as u8,
-        (id / 65536 % 256) as u8,
-        (id / 256 % 256) as u8,
-        (id % 256) as u8,
-        3,
-        0,
-        0,
-        10,
-    ];
+    let [.., n1, n0] = neighbour.to_be_bytes();
+    let [i3, i2, i1, i0] = id.to_be_bytes();
+    let head = [0x4c, 0x44, n1, n0, 0, 1, 0, 18, i3, i2, i1, i0, 3, 0, 0, 10];
     octets::copy(out, &head);
 }
 
@@ -50,18 +35,10 @@ fn put_status(out: &mut [u8], code: u32, id: u32, kind: u32)
     requires { length out.old ≡ 10 }
     ensures { out.new ≡ four code ++ (four id ++ two kind) }
 {
-    let value = [
-        (code / 16777216 % 256) as u8,
-        (code / 65536 % 256) as u8,
-        (code / 256 % 256) as u8,
-        (code % 256) as u8,
-        (id / 16777216 % 256) as u8,
-        (id / 65536 % 256) as u8,
-        (id / 256 % 256) as u8,
-        (id % 256) as u8,
-        (kind / 256 % 256) as u8,
-        (kind % 256) as u8,
-    ];
+    let [c3, c2, c1, c0] = code.to_be_bytes();
+    let [i3, i2, i1, i0] = id.to_be_bytes();
+    let [.., k1, k0] = kind.to_be_bytes();
+    let value = [c3, c2, c1, c0, i3, i2, i1, i0, k1, k0];
     octets::copy(out, &value);
 }
 

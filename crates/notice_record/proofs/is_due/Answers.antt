@@ -1,6 +1,5 @@
 -- `notice_record::is_due` meets its contract: by its tests. Assumes nothing.
 use Rattle.notice_record.proofs.Record.{due-none, due-three, due-other}
-use borrow.Author.Rules.{rules}
 use Rattle.notice_record.proofs.is_due.Goals as goal
 
 pub returns-then-status_of-eq0 : goal.returns-then-status_of-eq0

@@ -1,6 +1,5 @@
 -- `notice_record::put_notice` meets its contract: two parts of the output, one after the other, are the record. Assumes nothing.
 use Rattle.notice_record.proofs.Record.{put_two}
-use borrow.Author.Rules.{rules}
 use Rattle.notice_record.proofs.put_notice.Goals as goal
 
 pub returns : goal.returns
