@@ -36,7 +36,8 @@ fn put_head(out: &mut [u8], size: u64)
     requires { length out.old ≡ 4 }
     ensures { out.new ≡ two 1 ++ two size }
 {
-    let head = [0, 1, (size / 256 % 256) as u8, (size % 256) as u8];
+    let [.., s1, s0] = size.to_be_bytes();
+    let head = [0, 1, s1, s0];
     octets::copy(out, &head);
 }
 
@@ -44,8 +45,7 @@ fn put_length(out: &mut [u8], size: u64)
     requires { length out.old ≡ 2 }
     ensures { out.new ≡ two size }
 {
-    let field = [(size / 256 % 256) as u8, (size % 256) as u8];
-    octets::copy(out, &field);
+    octets::copy(out, &size.to_be_bytes()[6..]);
 }
 
 // A PDU with one message, into a part of its length.

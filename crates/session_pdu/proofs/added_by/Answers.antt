@@ -1,7 +1,6 @@
 -- `session_pdu::added_by` meets its contract. Assumes nothing.
 use native.Mathlib.Omega.{arith}
 use Rattle.session_pdu.proofs.Writing.{added_more, added_new}
-use borrow.Author.Rules.{rules}
 use Rattle.session_pdu.proofs.added_by.Goals as goal
 
 pub returns-then-body-k-le-BODY_LIMIT : goal.returns-then-body-k-le-BODY_LIMIT

@@ -1,6 +1,5 @@
 -- `session_pdu::body_after` meets its contract. Assumes nothing.
 use Rattle.session_pdu.proofs.Writing.{body_more, body_new}
-use borrow.Author.Rules.{rules}
 use Rattle.session_pdu.proofs.body_after.Goals as goal
 
 pub returns-then-body-k-le-BODY_LIMIT : goal.returns-then-body-k-le-BODY_LIMIT

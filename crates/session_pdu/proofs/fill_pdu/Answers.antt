@@ -1,6 +1,5 @@
 -- `session_pdu::fill_pdu` meets its contract: the length field, and the message. Assumes nothing.
 use Rattle.session_pdu.proofs.Writing.{fill-parts}
-use borrow.Author.Rules.{rules}
 use Rattle.session_pdu.proofs.fill_pdu.Goals as goal
 
 pub returns : goal.returns

@@ -1,6 +1,5 @@
 -- `session_pdu::open_pdu` meets its contract: three parts of the output, one after the other. Assumes nothing.
 use Rattle.session_pdu.proofs.Writing.{open-parts}
-use borrow.Author.Rules.{rules}
 use Rattle.session_pdu.proofs.open_pdu.Goals as goal
 
 pub returns : goal.returns

@@ -1,8 +1,7 @@
 -- `session_pdu::put_head` meets its contract: the octets of the array are those of the definition, one by one. Assumes nothing.
 use Rattle.meaning.specs.Octets.{two}
-use borrow.Author.Rules.{rules}
 use Rattle.session_pdu.proofs.put_head.Goals as goal
 
 pub returns : goal.returns
 unfolding two
-returns c = c.copy.ensures
+returns c = rw c.to_be_bytes.ensures at c.copy.ensures

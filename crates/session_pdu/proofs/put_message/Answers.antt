@@ -2,7 +2,6 @@
 use native.Mathlib.Omega.{arith}
 use mathlib.Core.Path.{refl}
 use Rattle.session_pdu.proofs.Writing.{added_more, added_new, put-more, put-new}
-use borrow.Author.Rules.{rules}
 use Rattle.session_pdu.proofs.put_message.Goals as goal
 
 pub fill_pdu-requires : goal.fill_pdu-requires
