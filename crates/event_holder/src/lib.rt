@@ -19,15 +19,12 @@ pub fn move_size(numbers: &[u64], names: &[u8], i: usize, u: u64) -> usize
 {
     let size = RECORD_BESIDE + memory_trees::tree_name(names, i).len();
     if memory_trees::tree_label(numbers, i) == 0 {
-        if u == NOBODY {
-            return 0;
-        }
-        return size;
+        if u == NOBODY { 0 } else { size }
+    } else if u == NOBODY {
+        size
+    } else {
+        2 * size
     }
-    if u == NOBODY {
-        return size;
-    }
-    2 * size
 }
 
 pub fn relabel_size(numbers: &[u64], names: &[u8], i: usize, u: u64) -> usize

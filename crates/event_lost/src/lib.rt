@@ -59,10 +59,7 @@ fn is_short(numbers: &[u64], names: &[u8], n: usize, room: usize) -> bool
     requires { Numbers numbers.now × Names names.now × (n < neighbour_count) }
     ensures { result ≡ ltb room (loss_all n (card_of numbers.now names.now)) }
 {
-    if memory::tree_count(numbers) * RECORD_LIMIT <= room {
-        return false;
-    }
-    room < loss_size(numbers, names, n)
+    room < memory::tree_count(numbers) * RECORD_LIMIT && room < loss_size(numbers, names, n)
 }
 
 // ---- labels that lead nowhere

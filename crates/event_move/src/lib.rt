@@ -35,6 +35,7 @@ fn give_up(numbers: &mut [u64], names: &[u8], i: usize, out: &mut [u8], from: Wr
     Written { at, id }
 }
 
+// Kept: the four that are public take the place and the identifier apart, since their signatures stay.
 pub fn let_go(
     numbers: &mut [u64],
     names: &[u8],

@@ -74,10 +74,7 @@ fn is_plenty(numbers: &[u64], room: usize) -> bool
     ensures { result ≡ true → (os root : List ℕ) (u : ℕ) → (let c = card_of numbers.now os in (need_all root u c ≤ free_labels c) × (size_all root u c ≤ room)) }
 {
     let n = memory::tree_count(numbers);
-    if room < n * (2 * RECORD_LIMIT) {
-        return false;
-    }
-    !memory_free::labels_short(numbers, n)
+    n * (2 * RECORD_LIMIT) <= room && !memory_free::labels_short(numbers, n)
 }
 
 // 12 and 16 for a move of all trees of a root.

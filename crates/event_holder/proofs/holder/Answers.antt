@@ -1,6 +1,5 @@
 use mathlib.Core.Path.{ap, ◌∙◌}
 use mathlib.Core.Bool.{Bool}
-use borrow.Author.Rules.{rules}
 use Rattle.meaning.specs.Card.{with_branch, with_leaf, tree_at}
 use Rattle.meaning.specs.Events.{holder}
 use Rattle.memory.specs.Memory.{card_of}

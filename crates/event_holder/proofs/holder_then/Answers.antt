@@ -1,5 +1,4 @@
 use mathlib.Core.Path.{sym, ◌∙◌}
-use borrow.Author.Rules.{rules}
 use Rattle.event_holder.proofs.Held.{held-leaf, held-branch, held_none}
 use Rattle.event_holder.proofs.holder_then.Goals as goal
 

@@ -1,7 +1,6 @@
 use mathlib.Core.Path.{sym, ap, ◌∙◌}
 use Rattle.meaning.specs.Events.{labels_short}
 use Rattle.event_holder.proofs.Sizes.{short_none, need-same, need-other, need-none, need-one}
-use borrow.Author.Rules.{rules}
 use Rattle.event_holder.proofs.no_label_for.Goals as goal
 
 pub returns-then-held_for-u : goal.returns-then-held_for-u

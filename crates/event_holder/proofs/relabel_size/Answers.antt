@@ -1,7 +1,6 @@
 use native.Mathlib.Omega.{arith}
 use mathlib.Core.Path.{sym, ◌∙◌}
 use Rattle.event_holder.proofs.Sizes.{resize-none, resize-some}
-use borrow.Author.Rules.{rules}
 use Rattle.event_holder.proofs.relabel_size.Goals as goal
 
 pub returns-then-held_for-u : goal.returns-then-held_for-u

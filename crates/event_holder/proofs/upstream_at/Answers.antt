@@ -1,4 +1,3 @@
-use borrow.Author.Rules.{rules}
 use Rattle.event_holder.proofs.upstream_at.Goals as goal
 
 pub returns : goal.returns

@@ -3,7 +3,6 @@ use mathlib.Core.Path.{ap, ◌∙◌}
 use mathlib.Core.List.{List}
 use Rattle.meaning.specs.Card.{route_of}
 use Rattle.memory.specs.Memory.{card_of}
-use borrow.Author.Rules.{rules}
 use Rattle.event_holder.proofs.upstream_of.Goals as goal
 
 pub returns : goal.returns

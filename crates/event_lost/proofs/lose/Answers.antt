@@ -1,7 +1,6 @@
 use mathlib.Core.Path.{sym, ◌∙◌}
 use borrow.Author.Tests.{ltb-false}
 use Rattle.event_lost.proofs.Shed.{lost-short, lost-done}
-use borrow.Author.Rules.{rules}
 use Rattle.event_lost.proofs.lose.Goals as goal
 
 pub returns-then-is_short : goal.returns-then-is_short

@@ -1,7 +1,6 @@
 use native.Mathlib.Omega.{arith}
 use mathlib.Core.Path.{sym, ◌∙◌}
 use Rattle.event_lost.proofs.Sizes.{held-label, label-held, loss-bare, loss-own, loss-ends, loss-stays}
-use borrow.Author.Rules.{rules}
 use Rattle.event_lost.proofs.loss_of.Goals as goal
 
 pub returns-then-u-eq-NOBODY : goal.returns-then-u-eq-NOBODY

@@ -1,14 +1,8 @@
-use Prim.Native.Nat.{◌*◌, ◌-◌, ◌≤◌}
 use native.Mathlib.Omega.{arith}
-use mathlib.Core.Path.{◌≡◌, sym}
-use Rattle.meaning.specs.Wire.{record_limit}
-use Rattle.meaning.specs.Events.{sum_from}
-use Rattle.meaning_laws.specs.Losses.{loss_size}
-use Rattle.memory.specs.Memory.{card_of}
+use mathlib.Core.Path.{sym}
 use Rattle.event_move.proofs.Trees.{sum-none}
 use Rattle.event_roots.proofs.Roots.{sum-next, sum_done}
 use Rattle.event_lost.specs.Lost.{loss_all}
-use borrow.Author.Rules.{rules}
 use Rattle.event_lost.proofs.loss_size.Goals as goal
 
 pub loop-i-init : goal.loop-i-init

@@ -1,14 +1,9 @@
 use Prim.Native.Nat.{◌*◌, ◌≤◌}
-use native.Mathlib.Omega.{arith}
-use mathlib.Core.Path.{◌≡◌, sym}
+use mathlib.Core.Path.{◌≡◌}
 use Rattle.meaning.specs.Wire.{record_limit}
 use Rattle.meaning.specs.Events.{sum_from}
 use Rattle.meaning_laws.specs.Losses.{loss_size}
 use Rattle.memory.specs.Memory.{card_of}
-use Rattle.event_move.proofs.Trees.{sum-none}
-use Rattle.event_roots.proofs.Roots.{sum-next, sum_done}
-use Rattle.event_lost.specs.Lost.{loss_all}
-use borrow.Author.Rules.{rules}
 use Rattle.event_lost.proofs.loss_size.Given as goal
 
 abbrev pub invariant-loop-i : goal.invariant-loop-i

@@ -1,10 +1,8 @@
-use Prim.Native.Nat.{◌-◌, ◌≤◌, ◌<◌}
+use Prim.Native.Nat.{◌<◌}
 use native.Mathlib.Omega.{arith}
-use mathlib.Core.Path.{◌≡◌, refl, ◌∙◌}
-use lib.ListN.{length}
+use mathlib.Core.Path.{refl, ◌∙◌}
 use Rattle.memory.specs.Memory.{tree_count}
-use Rattle.event_lost.proofs.Shed.{Shedding, shedding-none, shedding-in, shedding-room, shedding-more, shedding-all}
-use borrow.Author.Rules.{rules}
+use Rattle.event_lost.proofs.Shed.{shedding-none, shedding-in, shedding-room, shedding-more, shedding-all}
 use Rattle.event_lost.proofs.shed_all.Goals as goal
 
 pub loop-i-init : goal.loop-i-init

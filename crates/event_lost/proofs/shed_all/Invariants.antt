@@ -1,10 +1,6 @@
-use Prim.Native.Nat.{◌-◌, ◌≤◌, ◌<◌}
-use native.Mathlib.Omega.{arith}
-use mathlib.Core.Path.{◌≡◌, refl, ◌∙◌}
+use mathlib.Core.Path.{◌≡◌}
 use lib.ListN.{length}
-use Rattle.memory.specs.Memory.{tree_count}
-use Rattle.event_lost.proofs.Shed.{Shedding, shedding-none, shedding-in, shedding-room, shedding-more, shedding-all}
-use borrow.Author.Rules.{rules}
+use Rattle.event_lost.proofs.Shed.{Shedding}
 use Rattle.event_lost.proofs.shed_all.Given as goal
 
 abbrev pub invariant-loop-i : goal.invariant-loop-i

@@ -2,7 +2,6 @@ use mathlib.Core.Path.{sym, ◌∙◌}
 use Rattle.memory.specs.Memory.{card_of}
 use Rattle.event_lost.proofs.Sizes.{held-label}
 use Rattle.event_lost.proofs.Shed.{shed-bare, shed-stays, shed-goes}
-use borrow.Author.Rules.{rules}
 use Rattle.event_lost.proofs.shed_one.Goals as goal
 
 pub returns-then-u-eq-NOBODY : goal.returns-then-u-eq-NOBODY

@@ -1,9 +1,7 @@
 use native.Mathlib.Omega.{arith}
-use mathlib.Core.Path.{◌≡◌, refl, ◌∙◌}
-use lib.ListN.{length}
+use mathlib.Core.Path.{refl, ◌∙◌}
 use Rattle.memory.proofs.Memory.{tree_count-le}
-use Rattle.event_lost.proofs.Empty.{Sweeping, sweeping-none, sweeping-more, sweeping-all}
-use borrow.Author.Rules.{rules}
+use Rattle.event_lost.proofs.Empty.{sweeping-none, sweeping-more, sweeping-all}
 use Rattle.event_lost.proofs.sweep.Goals as goal
 
 pub loop-i-init : goal.loop-i-init

@@ -1,9 +1,6 @@
-use native.Mathlib.Omega.{arith}
-use mathlib.Core.Path.{◌≡◌, refl, ◌∙◌}
+use mathlib.Core.Path.{◌≡◌}
 use lib.ListN.{length}
-use Rattle.memory.proofs.Memory.{tree_count-le}
-use Rattle.event_lost.proofs.Empty.{Sweeping, sweeping-none, sweeping-more, sweeping-all}
-use borrow.Author.Rules.{rules}
+use Rattle.event_lost.proofs.Empty.{Sweeping}
 use Rattle.event_lost.proofs.sweep.Given as goal
 
 abbrev pub invariant-loop-i : goal.invariant-loop-i

@@ -1,5 +1,4 @@
 use Rattle.event_lost.proofs.Empty.{swept-goes, swept-stays}
-use borrow.Author.Rules.{rules}
 use Rattle.event_lost.proofs.sweep_one.Goals as goal
 
 pub returns-then-is_empty : goal.returns-then-is_empty

@@ -2,7 +2,6 @@ use native.Mathlib.Omega.{arith}
 use mathlib.Core.Path.{ap}
 use lib.ListN.{length}
 use Rattle.event_move.proofs.Steps.{free-place, gave}
-use borrow.Author.Rules.{rules}
 use Rattle.event_move.proofs.give.Goals as goal
 
 pub send-id-requires : goal.send-id-requires

@@ -3,7 +3,6 @@ use mathlib.Core.Path.{◌≡◌, sym, ◌∙◌}
 use Rattle.meaning.specs.Card.{tree_at}
 use Rattle.memory.specs.Memory.{card_of}
 use Rattle.event_move.proofs.Steps.{let-nothing, let-go-some, let-go-room}
-use borrow.Author.Rules.{rules}
 use Rattle.event_move.proofs.let_go.Goals as goal
 
 pub returns-then-tree_label-eq0 : goal.returns-then-tree_label-eq0

@@ -5,7 +5,6 @@ use Rattle.memory.specs.Memory.{card_of}
 use Rattle.event_move.proofs.Records.{wrote_nothing}
 use Rattle.event_holder.proofs.Sizes.{need-other, resize-some}
 use Rattle.event_move.proofs.Steps.{relabel-none, relabel-some}
-use borrow.Author.Rules.{rules}
 use Rattle.event_move.proofs.relabel.Goals as goal
 
 pub returns-then-held_for-u : goal.returns-then-held_for-u

@@ -3,7 +3,6 @@ use Rattle.meaning.specs.Card.{Card}
 use Rattle.memory.specs.Memory.{card_of}
 use Rattle.event_holder.proofs.Sizes.{need-one}
 use Rattle.event_move.proofs.Steps.{take-nothing, take-up-some, take-up-room}
-use borrow.Author.Rules.{rules}
 use Rattle.event_move.proofs.take_up.Goals as goal
 
 pub returns-then-u-eq-NOBODY : goal.returns-then-u-eq-NOBODY

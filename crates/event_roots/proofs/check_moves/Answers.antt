@@ -1,5 +1,4 @@
 use mathlib.Core.Path.{sym, ◌∙◌}
-use borrow.Author.Rules.{rules}
 use Rattle.event_roots.proofs.Roots.{moves-freely, moves-short, moves-tight, moves-well}
 use Rattle.event_roots.proofs.check_moves.Goals as goal
 

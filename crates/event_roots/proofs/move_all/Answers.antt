@@ -1,10 +1,8 @@
-use Prim.Native.Nat.{◌-◌, ◌≤◌, ◌<◌}
+use Prim.Native.Nat.{◌<◌}
 use native.Mathlib.Omega.{arith}
-use mathlib.Core.Path.{◌≡◌, refl, ◌∙◌}
-use lib.ListN.{length}
+use mathlib.Core.Path.{refl, ◌∙◌}
 use Rattle.memory.specs.Memory.{tree_count}
-use Rattle.event_roots.proofs.Roots.{Moving, moving-none, moving-in, moving-need, moving-room, moving-more, moving-all}
-use borrow.Author.Rules.{rules}
+use Rattle.event_roots.proofs.Roots.{moving-none, moving-in, moving-need, moving-room, moving-more, moving-all}
 use Rattle.event_roots.proofs.move_all.Goals as goal
 
 pub loop-i-init : goal.loop-i-init

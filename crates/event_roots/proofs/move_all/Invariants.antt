@@ -1,10 +1,6 @@
-use Prim.Native.Nat.{◌-◌, ◌≤◌, ◌<◌}
-use native.Mathlib.Omega.{arith}
-use mathlib.Core.Path.{◌≡◌, refl, ◌∙◌}
+use mathlib.Core.Path.{◌≡◌}
 use lib.ListN.{length}
-use Rattle.memory.specs.Memory.{tree_count}
-use Rattle.event_roots.proofs.Roots.{Moving, moving-none, moving-in, moving-need, moving-room, moving-more, moving-all}
-use borrow.Author.Rules.{rules}
+use Rattle.event_roots.proofs.Roots.{Moving}
 use Rattle.event_roots.proofs.move_all.Given as goal
 
 abbrev pub invariant-loop-i : goal.invariant-loop-i

@@ -5,7 +5,6 @@ use Rattle.memory.specs.Memory.{card_of}
 use Rattle.memory.proofs.Memory.{trees-length}
 use Rattle.event_holder.proofs.Held.{holder-range}
 use Rattle.event_roots.proofs.Roots.{need-of, one-fills, one_of, one-nothing}
-use borrow.Author.Rules.{rules}
 use Rattle.event_roots.proofs.move_one.Goals as goal
 
 pub move_label-requires : goal.move_label-requires

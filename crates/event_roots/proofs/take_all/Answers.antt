@@ -1,13 +1,9 @@
 use Rattle.event_roots.proofs.Roots.{sum-next, sum_done}
 use Rattle.event_move.proofs.Trees.{sum-none}
-use Rattle.event_holder.specs.Move.{size_one, size_all}
-use Rattle.memory.specs.Memory.{card_of}
-use Rattle.meaning.specs.Events.{need_one, need_all, sum_from}
-use Rattle.meaning.specs.Wire.{record_limit}
-use borrow.Author.Rules.{rules}
-use mathlib.Core.Path.{◌≡◌, sym}
+use Rattle.event_holder.specs.Move.{size_all}
+use Rattle.meaning.specs.Events.{need_all}
+use mathlib.Core.Path.{sym}
 use native.Mathlib.Omega.{arith}
-use Prim.Native.Nat.{◌*◌, ◌-◌, ◌≤◌}
 use Rattle.event_roots.proofs.take_all.Goals as goal
 
 pub loop-i-init : goal.loop-i-init

@@ -4,7 +4,6 @@ use Rattle.event_holder.specs.Move.{move_size}
 use Rattle.meaning.specs.Events.{need_move}
 use mathlib.Core.Path.{sym, ap, ◌∙◌}
 use native.Mathlib.Omega.{arith}
-use borrow.Author.Rules.{rules}
 use Rattle.event_roots.proofs.take_one.Goals as goal
 
 pub returns-then-h-eq-NOBODY : goal.returns-then-h-eq-NOBODY

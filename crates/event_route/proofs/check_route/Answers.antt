@@ -2,7 +2,6 @@ use Rattle.event_route.proofs.Route.{full_is, quick-is, few-quick, few-walk}
 use Rattle.event_tree.proofs.Tests.{when-1, when-2}
 use Rattle.memory.specs.Memory.{card_of}
 use mathlib.Core.Path.{sym, ◌∙◌}
-use borrow.Author.Rules.{rules}
 use Rattle.event_route.proofs.check_route.Goals as goal
 
 pub returns-then-routes_full : goal.returns-then-routes_full

@@ -3,7 +3,6 @@ use Rattle.meaning.specs.Events.{worked_out}
 use Rattle.meaning.specs.Card.{Route}
 use mathlib.Core.Path.{ap, ◌∙◌}
 use native.Mathlib.Omega.{arith}
-use borrow.Author.Rules.{rules}
 use Rattle.event_route.proofs.entry_counts.Goals as goal
 
 pub returns-then-k-route_count : goal.returns-then-k-route_count

@@ -1,7 +1,6 @@
 use mathlib.Core.Path.{refl}
 use borrow.Author.Tests.{eq-eqb}
 use Rattle.memory.proofs.Memory.{routes-length}
-use borrow.Author.Rules.{rules}
 use Rattle.event_route.proofs.routes_full.Goals as goal
 
 pub returns-then-old-eq-NO_ROUTE : goal.returns-then-old-eq-NO_ROUTE

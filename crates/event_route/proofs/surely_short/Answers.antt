@@ -1,7 +1,6 @@
 use Rattle.memory.specs.Memory.{card_of}
 use Rattle.event_route.proofs.Route.{surely-far, surely-none, surely-some}
 use native.Mathlib.Omega.{arith}
-use borrow.Author.Rules.{rules}
 use Rattle.event_route.proofs.surely_short.Goals as goal
 
 pub returns-then-via-ge-NEIGHBOURS : goal.returns-then-via-ge-NEIGHBOURS
