@@ -29,6 +29,7 @@ fn before_inner(kind: u64) -> usize
 }
 
 // Where the name inside begins; 0 for a last layer.
+// Kept: 0 for none, since its clause promises the number `inner_start`.
 pub fn inner_start(name: &[u8]) -> usize
     ensures { (result ≡ inner_start name.now) × (result ≤ length name.now) × ((result ≡ 0 → ⊥) → 9 ≤ result) }
 {
@@ -44,7 +45,7 @@ pub fn inner_start(name: &[u8]) -> usize
     if name.len() < start {
         return 0;
     }
-    if wire_name::element_refusal(&name[start..]) != 0 {
+    if wire_name::check_element(&name[start..]).is_err() {
         return 0;
     }
     start

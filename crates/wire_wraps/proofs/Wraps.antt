@@ -109,13 +109,15 @@ module _ (root eight name : List ℕ) (room : ℕ) where
       right : is_opaque (holding eight name) ≡ true
       right = short-so (omega (arith, holding-length eight name))
 
-      pub wrap-18 : n ≡ 18 → Refused 18
-      wrap-18 h =
-          refused-by 18 (λ z. omega arith)
+      -- what else an element's number may be
+      pub wrap-next : (n ≡ 6 → ⊥) → (n ≡ 0 → ⊥) → Refused n
+      wrap-next six z =
+          refused-by n z
           (refusal-cases name
-          (λ _ z. absurd (omega arith)) (λ _ _ z. absurd (omega arith))
-          (λ el op fi _. unfold wrap_refusal ◌when◌else◌ in rw (el, rooted, eights, op, right, fi) refl)
-          (λ _ _ _ z. absurd (omega arith)))
+          (λ _ e. absurd (six (q ∙ e)))
+          (λ el op e. unfold wrap_refusal ◌when◌else◌ in rw (el, rooted, eights, op) (sym (q ∙ e)))
+          (λ el op fi e. unfold wrap_refusal ◌when◌else◌ in rw (el, rooted, eights, op, right, fi) (sym (q ∙ e)))
+          (λ _ _ _ e. absurd (z (q ∙ e))))
 
       module _ (six : n ≡ 6 → ⊥) (seven : n ≡ 7 → ⊥) (eighteen : n ≡ 18 → ⊥) where
         pub wrap-16 : room < 9 + length root + (length eight + length name) → Refused 16

@@ -7,10 +7,12 @@ ghost use Rattle.meaning.specs.Octets.{pick, two};
 ghost use Rattle.meaning.specs.Calls.{over};
 ghost use Rattle.meaning_layers.specs.Layers.{plain_kind, eight_kind, eight_size, family_of, wrapped, wrap_refusal, wrap as wrapOf, unwrap_refusal, unwrap as unwrapOf};
 ghost use Rattle.meaning_layers.specs.LayerCalls.{Writes, HandsPart, layer_in, lengths_of};
+ghost use Rattle.refusals.specs.Refusals.{answer_of};
 ghost use Rattle.wire_wraps.specs.Room.{Fits, head_of};
 
 use meaning::{OPAQUE_LIMIT, ROOT_LIMIT};
 use meaning_layers::{EIGHT_KIND, EIGHT_SIZE, HOLDER_HEAD, PLAIN_KIND};
+use refusals::Refusal;
 
 // ---- wrapping
 
@@ -23,31 +25,26 @@ fn is_layer(root: &[u8], eight: &[u8]) -> bool
         & ((eight.len() == 0) | (eight.len() == EIGHT_SIZE))
 }
 
-// 6, 7, 18, 16, or 0 and then all has its place.
-fn wrap_refusal(root: &[u8], eight: &[u8], name: &[u8], room: usize) -> u32
-    ensures { (result ≡ wrap_refusal room root.now eight.now name.now)
-        × (result ≡ 0 → Fits root.now eight.now name.now room) }
+// The refusals 6, 7, 18 and 16; where none applies, all has its place.
+fn check_wrap(root: &[u8], eight: &[u8], name: &[u8], room: usize) -> Result<(), Refusal>
+    ensures { (answer_of result ≡ wrap_refusal room root.now eight.now name.now)
+        × (answer_of result ≡ 0 → Fits root.now eight.now name.now room) }
 {
     if !is_layer(root, eight) {
-        return 6;
+        return Err(Refusal::BadElement);
     }
-    let refusal = wire_name::element_refusal(name);
-    if refusal == 6 {
-        return 6;
-    }
-    if refusal == 7 {
-        return 7;
+    let named = wire_name::check_element(name);
+    if named == Err(Refusal::BadElement) {
+        return named;
     }
     if OPAQUE_LIMIT - HOLDER_HEAD - eight.len() < name.len() {
-        return 7;
+        return Err(Refusal::BadOpaque);
     }
-    if refusal == 18 {
-        return 18;
-    }
+    named?;
     if room < 9 + root.len() + (eight.len() + name.len()) {
-        return 16;
+        return Err(Refusal::NoRoom);
     }
-    0
+    Ok(())
 }
 
 fn family_of(root: &[u8]) -> u64
@@ -129,9 +126,9 @@ pub fn wrap_core(root: &[u8], eight: &[u8], name: &[u8], out: &mut [u8], answer:
     ensures { let w = wrapOf (length out.old) root.now eight.now name.now in
         Writes w.answer w.octets answer.new result out.old out.new }
 {
-    let refusal = wrap_refusal(root, eight, name, out.len());
-    *answer = refusal;
-    if refusal != 0 {
+    let done = check_wrap(root, eight, name, out.len());
+    *answer = refusals::answer_of(&done);
+    if done.is_err() {
         return 0;
     }
     put_wrapped(out, root, eight, name);
@@ -154,22 +151,19 @@ pub fn wrap<'a>(
 
 // ---- unwrapping
 
-// 6, 7, 18, 22, 16, or 0.
-fn unwrap_refusal(name: &[u8], room: usize) -> u32
-    ensures { result ≡ unwrap_refusal room name.now }
+// The refusals 6, 7, 18, 22 and 16.
+fn check_unwrap(name: &[u8], room: usize) -> Result<(), Refusal>
+    ensures { answer_of result ≡ unwrap_refusal room name.now }
 {
-    let refusal = wire_name::element_refusal(name);
-    if refusal != 0 {
-        return refusal;
-    }
+    wire_name::check_element(name)?;
     let k = wire_layers::inner_start(name);
     if k == 0 {
-        return 22;
+        return Err(Refusal::LastLayer);
     }
     if room < name.len() - k {
-        return 16;
+        return Err(Refusal::NoRoom);
     }
-    0
+    Ok(())
 }
 
 // The name inside goes to the output. The outer root and any eight octets are parts of the caller's own name: the root from octet 4 on,
@@ -179,9 +173,9 @@ pub fn unwrap_core(name: &[u8], out: &mut [u8], lengths: &mut [u64; 2], answer: 
         Writes u.answer u.octets answer.new result out.old out.new
         × (layer_in name.now lengths.new ≡ u.layer) × (lengths.new ≡ lengths_of u.layer) }
 {
-    let refusal = unwrap_refusal(name, out.len());
-    *answer = refusal;
-    if refusal != 0 {
+    let done = check_unwrap(name, out.len());
+    *answer = refusals::answer_of(&done);
+    if done.is_err() {
         *lengths = [0, 0];
         return 0;
     }

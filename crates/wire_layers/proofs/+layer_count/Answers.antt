@@ -1,6 +1,6 @@
 use native.Mathlib.Omega.{arith}
 use mathlib.Core.Path.{sym, ◌∙◌}
-use lib.ListN.{length, length-take, length-drop}
+use lib.ListN.{length-take, length-drop}
 use Rattle.meaning_layers.proofs.InnerStart.{count-end, count-part}
 use Rattle.wire_layers.proofs.+layer_count.Goals as goal
 

@@ -1,6 +1,6 @@
 use native.Mathlib.Omega.{arith}
 use mathlib.Core.Path.{sym, ◌∙◌}
-use lib.ListN.{length, length-take, length-drop}
+use lib.ListN.{length-take, length-drop}
 use Rattle.wire_layers.proofs.Inner.{start-top, start-behind, start-deeper}
 use Rattle.wire_layers.proofs.+layer_start.Goals as goal
 

@@ -1,6 +1,5 @@
 -- `wire_layers::eight_of` meets its contract: each part is one law of `Inner`. Assumes nothing.
 use Rattle.wire_layers.proofs.Inner.{eight-none, eight-short, eight-all}
-use borrow.Author.Rules.{rules}
 use Rattle.wire_layers.proofs.eight_of.Goals as goal
 
 pub returns-then-name-from : goal.returns-then-name-from

@@ -1,11 +1,8 @@
 -- `wire_layers::inner_start` meets its contract: each return is one law of `Inner`. Assumes nothing.
 use native.Mathlib.Omega.{arith}
 use mathlib.Core.Path.{sym, ◌∙◌}
-use borrow.Author.Tests.{not-true, not-false}
+use Rattle.refusals.proofs.Answered.{refused, accepted}
 use Rattle.wire_layers.proofs.Inner.{not-holding, not-alone, too_short, inner-refused, inner-there}
-use borrow.Author.Rules.{rules}
-use mathlib.Core.Path.{ap}
-use mathlib.Core.Bool.{not}
 use Rattle.wire_layers.proofs.inner_start.Goals as goal
 
 pub returns-then-not-holds : goal.returns-then-not-holds
@@ -22,12 +19,12 @@ returns-then-name-start c =
     let the_at = c.at-kind in
     too_short _ _ the-root-length.ensures.0 _ _ the_at.ensures.0 c.before_inner.ensures.0 c.if-name-start.true
 
-pub returns-then-element_refusal-ne0 : goal.returns-then-element_refusal-ne0
-returns-then-element_refusal-ne0 c =
+pub returns-then-is_err : goal.returns-then-is_err
+returns-then-is_err c =
     let the-root-length = c.root_length-opaque in
     let the_at = c.at-kind in
     let the-before-inner = c.before_inner in
-    inner-refused _ _ the-root-length.ensures.0 _ _ the_at.ensures.0 the-before-inner.ensures.0 _ c.element_refusal.ensures c.if-element_refusal-ne0.true
+    inner-refused _ _ the-root-length.ensures.0 _ _ the_at.ensures.0 the-before-inner.ensures.0 _ c.check_element.ensures (refused _ (sym c.is_err.ensures.value ∙ c.if-is_err.true))
 
 pub returns : goal.returns
 returns c =
@@ -37,4 +34,4 @@ returns c =
     let kind = sym c.holds.ensures ∙ c.if-not-holds.false in
     let the-two-at = c.two_at in
     let the-before-inner = c.before_inner in
-    inner-there _ _ the-root-length.ensures.0 _ _ the_at.ensures.0 the-before-inner.ensures.0 _ _ kind the-two-at.ensures.0 the-if2.false c.element_refusal.ensures c.if-element_refusal-ne0.false (omega arith)
+    inner-there _ _ the-root-length.ensures.0 _ _ the_at.ensures.0 the-before-inner.ensures.0 _ _ kind the-two-at.ensures.0 the-if2.false c.check_element.ensures (accepted _ (sym c.is_err.ensures.value ∙ c.if-is_err.false)) (omega arith)

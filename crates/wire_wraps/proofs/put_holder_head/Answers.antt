@@ -1,6 +1,5 @@
 -- `wire_wraps::put_holder_head` meets its contract: the octets of the array are those of the definition, one by one. Assumes nothing.
 use Rattle.meaning.specs.Octets.{two}
-use borrow.Author.Rules.{rules}
 use Rattle.wire_wraps.proofs.put_holder_head.Goals as goal
 
 pub returns : goal.returns

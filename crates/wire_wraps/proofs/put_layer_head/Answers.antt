@@ -1,6 +1,5 @@
 -- `wire_wraps::put_layer_head` meets its contract: three parts one after the other. Assumes nothing.
 use Rattle.wire_wraps.proofs.Wraps.{head-parts}
-use borrow.Author.Rules.{rules}
 use Rattle.wire_wraps.proofs.put_layer_head.Goals as goal
 
 pub returns : goal.returns

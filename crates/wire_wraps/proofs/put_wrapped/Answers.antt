@@ -1,6 +1,5 @@
 -- `wire_wraps::put_wrapped` meets its contract: three parts one after the other. Assumes nothing.
 use Rattle.wire_wraps.proofs.Wraps.{wrapped-written}
-use borrow.Author.Rules.{rules}
 use Rattle.wire_wraps.proofs.put_wrapped.Goals as goal
 
 pub returns : goal.returns

@@ -1,7 +1,6 @@
 -- `wire_wraps::wrap` meets its contract: the part that is handed back is exactly what the core wrote. Assumes nothing.
 use mathlib.Core.Path.{refl}
 use Rattle.meaning_layers.specs.LayerCalls.{handed, handed-count}
-use borrow.Author.Rules.{rules}
 use Rattle.wire_wraps.proofs.wrap.Goals as goal
 
 pub slice_bounds-result-end : goal.slice_bounds-result-end
