@@ -63,9 +63,8 @@ pub fn put_layers(text: &mut [u8], name: &[u8]) -> usize
     ensures text_after { take result text.new ≡ layers_line (read name.now) }
     ensures upper_bound { result ≤ text_space }
 {
-    let refusal = wire_name::element_refusal(name);
-    if refusal != 0 {
-        return bench_lines::put_count(text, b"layers", refusal as u64);
+    if let Err(refusal) = wire_name::check_element(name) {
+        return bench_lines::put_count(text, b"layers", refusal.number() as u64);
     }
     let at = bench_lines::add(text, 0, b"layers 0 ");
     let at = add_layers(text, at, name);

@@ -58,7 +58,7 @@ pub fn find_name(
     requires { Numbers numbers.now × Names names.now }
     ensures { feed_in branches.new result ≡ lookup_name element.now (card_of numbers.now names.now) }
 {
-    if wire_name::element_refusal(element) != 0 {
+    if wire_name::check_element(element).is_err() {
         return no_feed(branches);
     }
     let i = memory_trees::tree_place(numbers, names, element);

@@ -5,8 +5,9 @@ ghost use Rattle.std.specs.Prelude.{◌≡◌, ◌+◌, ◌<◌, ◌≤◌, leng
 ghost use Rattle.meaning.specs.Wire.{opaque_limit, root_limit, name_limit};
 
 use meaning::{NAME_LIMIT, OPAQUE_LIMIT, RECORD_BESIDE, RECORD_LIMIT};
+use refusals::Refusal;
 use std::io;
-use wire_reader::Read;
+use wire_reader::Kind;
 
 const LONGEST: u8 = OPAQUE_LIMIT as u8;
 // an element with no value
@@ -18,7 +19,7 @@ const ROOM: usize = RECORD_LIMIT + 2;
 #[derive(Clone, Copy)]
 struct Sent {
     to: u64,
-    kind: u64,
+    kind: Kind,
     id: u32,
     label: u64,
 }
@@ -47,11 +48,19 @@ fn put_element(e: &mut [u8], family: u8, root: u8, opaque: u8)
     octets::copy(&mut e[at..end], &[0, opaque, 1, 0, opaque - SHORTEST]);
 }
 
-fn kind_of(turn: u64) -> u64 {
+fn kind_of(turn: u64) -> Kind {
     match turn % 3 {
-        0 => 0x0400,
-        1 => 0x0402,
-        _ => 0x0403,
+        0 => Kind::Mapping,
+        1 => Kind::Withdraw,
+        _ => Kind::Release,
+    }
+}
+
+fn type_of(kind: Kind) -> u64 {
+    match kind {
+        Kind::Mapping => 0x0400,
+        Kind::Withdraw => 0x0402,
+        Kind::Release => 0x0403,
     }
 }
 
@@ -90,34 +99,21 @@ fn is_whole(record: &[u8], sent: Sent) -> bool {
 
 fn is_said(message: &[u8], sent: Sent, name: &[u8]) -> bool {
     match wire_reader::read_message(message) {
-        Read::Refused(_) => false,
-        Read::Says {
-            kind,
-            start,
-            end,
-            label,
-        } => {
-            if kind != sent.kind {
+        Err(_) => false,
+        Ok(said) => {
+            if said.kind != sent.kind {
                 return false;
             }
-            if label != sent.label {
+            if said.label != sent.label {
                 return false;
             }
-            octets::equal(&message[start..end], name)
+            octets::equal(&message[said.start..said.end], name)
         }
     }
 }
 
 fn is_missized(message: &[u8]) -> bool {
-    match wire_reader::read_message(message) {
-        Read::Refused(n) => n == 2,
-        Read::Says {
-            kind: _,
-            start: _,
-            end: _,
-            label: _,
-        } => false,
-    }
+    wire_reader::read_message(message) == Err(Refusal::BadLength)
 }
 
 // Whether the record at the front of the output is the one that was sent, with its message whole and no other.
@@ -143,7 +139,15 @@ fn is_kept(sent: Sent, name: &[u8]) -> bool
     requires { length name.now ≤ name_limit }
 {
     let mut out = [0u8; ROOM];
-    let next = wire_writer::send(sent.id, &mut out, 0, sent.to, sent.kind, sent.label, name);
+    let next = wire_writer::send(
+        sent.id,
+        &mut out,
+        0,
+        sent.to,
+        type_of(sent.kind),
+        sent.label,
+        name,
+    );
     if !is_next(sent.id, next) {
         return false;
     }

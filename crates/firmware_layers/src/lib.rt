@@ -6,33 +6,35 @@ ghost use Rattle.std.specs.Prelude.{◌≡◌, ◌∷◌, ◌<◌, length};
 ghost use Rattle.meaning_layers.specs.Layers.{read, wrap, unwrap};
 ghost use Rattle.meaning_layers.specs.LayerCalls.{Writes, layer_in, lengths_of};
 ghost use Rattle.meaning_layers.specs.InnerStart.{layer_count};
+ghost use Rattle.refusals.specs.Refusals.{answer_of as told_of, count_of as told_count_of};
 ghost use Rattle.firmware_layers.specs.Fields.{answer_of, count_of, layer_answer, layer_fields, fields_of};
 
+use refusals::Refusal;
+
 // ---- reading
+
+fn count_layers(name: &[u8]) -> Result<usize, Refusal>
+    ensures { (told_of result ≡ answer_of (read name.now)) × (told_count_of result ≡ count_of (read name.now)) }
+{
+    wire_name::check_element(name)?;
+    Ok(wire_layers::layer_count(name))
+}
 
 pub fn card_layers(name: &[u8], answer: &mut u32) -> usize
     ensures { (answer.new ≡ answer_of (read name.now)) × (result ≡ count_of (read name.now)) }
 {
-    let refusal = wire_name::element_refusal(name);
-    *answer = refusal;
-    if refusal != 0 {
-        return 0;
-    }
-    wire_layers::layer_count(name)
+    refusals::tell(count_layers(name), answer)
 }
 
-// 6, 7, 18; 22 where no layer lies so far down; or 0.
-fn layer_answer(name: &[u8], down: usize) -> u32
-    ensures { (result ≡ layer_answer down (read name.now)) × (result ≡ 0 → down < layer_count name.now) }
+// The refusals 6, 7 and 18; and 22 where no layer lies so far down.
+fn check_layer(name: &[u8], down: usize) -> Result<(), Refusal>
+    ensures { (told_of result ≡ layer_answer down (read name.now)) × (told_of result ≡ 0 → down < layer_count name.now) }
 {
-    let refusal = wire_name::element_refusal(name);
-    if refusal != 0 {
-        return refusal;
-    }
+    wire_name::check_element(name)?;
     if wire_layers::layer_count(name) <= down {
-        return 22;
+        return Err(Refusal::LastLayer);
     }
-    0
+    Ok(())
 }
 
 // What a layer adds, by lengths in the octets of its name, which begin at `start`.
@@ -51,9 +53,8 @@ fn fields_of(layer: &[u8], start: usize) -> [u64; 4]
 pub fn card_layer(name: &[u8], down: usize, fields: &mut [u64; 4]) -> u32
     ensures { (result ≡ layer_answer down (read name.now)) × (fields.new ≡ fields_of down name.now fields.old) }
 {
-    let answer = layer_answer(name, down);
-    if answer != 0 {
-        return answer;
+    if let Err(refusal) = check_layer(name, down) {
+        return refusal.number();
     }
     let start = wire_layers::layer_start(name, down);
     *fields = fields_of(&name[start..], start);

@@ -66,7 +66,7 @@ pub fn roots_once(numbers: &[u64], names: &[u8]) -> bool
 pub fn is_name(name: &[u8]) -> bool
     ensures { result ≡ is_name name.now }
 {
-    wire_name::element_refusal(name) == 0
+    wire_name::check_element(name).is_ok()
 }
 
 fn is_branch_label(label: u64) -> bool

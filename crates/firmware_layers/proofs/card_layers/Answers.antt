@@ -1,10 +1,6 @@
--- `firmware_layers::card_layers` meets its contract: each return is one law of `Reading`. Assumes nothing.
-use Rattle.firmware_layers.proofs.Reading.{layers-refused, layers-counted}
-use borrow.Author.Rules.{rules}
+-- `firmware_layers::card_layers` meets its contract: it tells what `count_layers` gave. Assumes nothing.
+use mathlib.Core.Path.{◌∙◌}
 use Rattle.firmware_layers.proofs.card_layers.Goals as goal
 
-pub returns-then-refusal-ne0 : goal.returns-then-refusal-ne0
-returns-then-refusal-ne0 c = layers-refused _ _ c.element_refusal-refusal.ensures c.if-refusal-ne0.true
-
 pub returns : goal.returns
-returns c = layers-counted _ _ c.element_refusal-refusal.ensures c.if-refusal-ne0.false _ c.layer_count.ensures.0
+returns c = (c.tell.ensures.answer ∙ c.count_layers.ensures.0, c.tell.ensures.count ∙ c.count_layers.ensures.1)
