@@ -70,9 +70,10 @@ pub fn find_name(
 }
 
 // ---- the calls: a core lays the branches into a lent array and hands back the leaf mark, a call hands both back by value
+// Kept: the leaf mark beside a lent array, in place of a Feed, is the C interface, by which the array is written once.
 
 // Sixteen branch labels, one for each neighbour and 0 for none, and the leaf mark. Nothing is no branch and no leaf.
-#[derive(Clone, Copy)]
+#[derive(Clone, Copy, PartialEq, Eq)]
 pub struct Feed {
     pub leaf: bool,
     pub branches: [u64; NEIGHBOUR_COUNT],
