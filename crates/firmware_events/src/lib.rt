@@ -2,6 +2,7 @@
 // `card`, with its contract.
 // An array that is lent passes as one pointer, a slice as a pointer and a length, so nothing of the card is copied. The number handed
 // back says how many octets of the output were written.
+// Kept: a number handed back beside a lent answer, in place of a Result, is the C interface.
 #![tactic(auto)]
 
 ghost use Rattle.std.specs.Prelude.{◌≡◌, List, ℕ, length};

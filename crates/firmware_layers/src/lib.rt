@@ -1,5 +1,6 @@
 // The calls for C of names inside names: include/card.h declares them, `firmware_layers_c` exports them. How many layers a name has and where each
 // lies, which are read from the name alone; a name wrapped in a layer, and unwrapped. No card is lent.
+// Kept: a number handed back beside a lent answer, in place of a Result, is the C interface.
 #![tactic(auto)]
 
 ghost use Rattle.std.specs.Prelude.{◌≡◌, ◌∷◌, ◌<◌, length};

@@ -1,5 +1,6 @@
 // The calls for C of plans: include/card.h declares them, `firmware_plans_c` exports them. Whether a list is accepted or found is handed back; the
 // number of a refusal, and how many entries there are, go to lent places. Both only read the card.
+// Kept: a truth handed back beside lent numbers, in place of a Result, is the C interface.
 #![tactic(auto)]
 
 ghost use Rattle.std.specs.Prelude.{◌≡◌};

@@ -1,5 +1,6 @@
 // The calls for C of saves: include/card.h declares them, `firmware_saves_c` exports them. The table as octets in either form, and the way back,
 // which is lent spare memory of any content; the second call of each is for the new form. And a save from one form to the other, with no card.
+// Kept: a number handed back beside a lent answer, and a call for each form, in place of a Result and an enum, are the C interface.
 #![tactic(auto)]
 
 ghost use Rattle.std.specs.Prelude.{◌≡◌, length};
