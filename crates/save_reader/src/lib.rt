@@ -9,16 +9,14 @@ ghost use Rattle.memory.specs.Memory.{card_of};
 
 use meaning::{LABEL_COUNT, SAVE_LIMIT};
 use memory::{NUMBER_COUNT, OCTET_COUNT};
+use refusals::Refusal;
 
 // Whether the last label given is none only while no label is in use. (The memory has none beyond the block.)
 fn is_last_right(numbers: &[u64]) -> bool
     requires { Numbers numbers.now }
     ensures { (os : List ℕ) → result ≡ last_right (card_of numbers.now os) }
 {
-    if memory::turn(numbers) != 0 {
-        return true;
-    }
-    memory_free::free_labels(numbers) == LABEL_COUNT
+    memory::turn(numbers) != 0 || memory_free::free_labels(numbers) == LABEL_COUNT
 }
 
 // Whether the table in the memory, where names and roots stand once and trees hold their labels for whom they are to, keeps the rules that
@@ -28,13 +26,7 @@ fn is_ruled(numbers: &[u64], names: &[u8], second: bool) -> bool
         × (all (holds_right c) c.trees ≡ true) }
     ensures { result ≡ rows_ruled (form_of second) (card_of numbers.now names.now) }
 {
-    if !save_rules::keeps_rules(numbers, names) {
-        return false;
-    }
-    if second {
-        return is_last_right(numbers);
-    }
-    true
+    save_rules::keeps_rules(numbers, names) && (!second || is_last_right(numbers))
 }
 
 // Whether the octets are a save; where they are, its table is in the memory, which held anything.
@@ -76,7 +68,7 @@ pub fn restore(
         × (card_of numbers.new names.new ≡ (restore (form_of second) octets.now c).card) }
 {
     if !is_taken(octets, second, spare_numbers, spare_names) {
-        return 19;
+        return Refusal::BadSave.number();
     }
     put_over(numbers, names, spare_numbers, spare_names);
     0

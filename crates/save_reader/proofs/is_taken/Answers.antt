@@ -1,12 +1,9 @@
 -- `save_reader::is_taken` meets its contract: where the table that is read keeps the rules, the octets are a save exactly where they are laid out as one. Assumes nothing.
 use native.Mathlib.Omega.{arith}
 use mathlib.Core.Path.{sym, ◌∙◌}
-use borrow.Author.Tests.{not-true, not-false}
 use borrow.Author.Rules.{rules}
 use Rattle.save_reader.proofs.Whole.{taken, not_taken}
 use Rattle.meaning.specs.Lists.{never}
-use mathlib.Core.Path.{ap}
-use mathlib.Core.Bool.{not}
 use Rattle.save_reader.proofs.is_taken.Goals as goal
 
 pub returns-then-not-decode : goal.returns-then-not-decode

@@ -1,14 +1,11 @@
 use mathlib.Core.Path.{sym, ◌∙◌}
-use borrow.Author.Tests.{not-true, not-false}
-use borrow.Author.Rules.{rules}
 use Rattle.save_reader.proofs.Whole.{refused, restored}
-use mathlib.Core.Path.{ap}
-use mathlib.Core.Bool.{not}
 use Rattle.save_reader.proofs.restore.Goals as goal
 
 pub returns-then-not-is_taken : goal.returns-then-not-is_taken
 returns-then-not-is_taken c =
-    refused _ c.args.octets.now _ (sym c.is_taken.ensures.0 ∙ c.if-not-is_taken.true)
+    let r = refused _ c.args.octets.now _ (sym c.is_taken.ensures.0 ∙ c.if-not-is_taken.true) in
+    (c.number.ensures ∙ r.0, r.1)
 
 pub returns : goal.returns
 returns c =
