@@ -35,26 +35,15 @@ pub fn put_save_head(numbers: &[u64], second: bool, out: &mut [u8])
     let next = memory::next_id(numbers);
     let last = last_given(numbers);
     let uses = LABEL_COUNT - memory_free::free_labels(numbers);
+    let kind = save_forms::head_kind(second);
+    let [.., b3, b2, b1, b0] = base.to_be_bytes();
+    let [n3, n2, n1, n0] = next.to_be_bytes();
+    let routes = memory::route_count(numbers) as u8;
+    let trees = memory::tree_count(numbers) as u8;
+    let [.., u1, u0] = uses.to_be_bytes();
+    let [.., l3, l2, l1, l0] = last.to_be_bytes();
     let head = [
-        0x4c,
-        0x53,
-        save_forms::head_kind(second),
-        (base / 16777216 % 256) as u8,
-        (base / 65536 % 256) as u8,
-        (base / 256 % 256) as u8,
-        (base % 256) as u8,
-        (next / 16777216 % 256) as u8,
-        (next / 65536 % 256) as u8,
-        (next / 256 % 256) as u8,
-        (next % 256) as u8,
-        memory::route_count(numbers) as u8,
-        memory::tree_count(numbers) as u8,
-        (uses / 256 % 256) as u8,
-        (uses % 256) as u8,
-        (last / 16777216 % 256) as u8,
-        (last / 65536 % 256) as u8,
-        (last / 256 % 256) as u8,
-        (last % 256) as u8,
+        0x4c, 0x53, kind, b3, b2, b1, b0, n3, n2, n1, n0, routes, trees, u1, u0, l3, l2, l1, l0,
     ];
     let n = save_forms::head_size(second);
     octets::copy(out, &head[0..n]);
@@ -87,13 +76,7 @@ fn put_four(out: &mut [u8], n: u64)
     requires { length out.old ≡ 4 }
     ensures { out.new ≡ four n }
 {
-    let octets = [
-        (n / 16777216 % 256) as u8,
-        (n / 65536 % 256) as u8,
-        (n / 256 % 256) as u8,
-        (n % 256) as u8,
-    ];
-    octets::copy(out, &octets);
+    octets::copy(out, &n.to_be_bytes()[4..]);
 }
 
 // The sixteen branch labels of the tree at place i.
@@ -155,17 +138,9 @@ fn put_state(out: &mut [u8], second: bool, label: u64, state: u8, neighbour: u64
     requires { (length out.old ≡ use_beside + name_size (form_of second) name.now) × (neighbour < 256) }
     ensures { out.new ≡ marked (use_kind (form_of second)) (four label ++ (state ∷ neighbour ∷ name_saved (form_of second) name.now)) }
 {
-    let head = [
-        0x4c,
-        0x53,
-        save_forms::use_kind(second),
-        (label / 16777216 % 256) as u8,
-        (label / 65536 % 256) as u8,
-        (label / 256 % 256) as u8,
-        (label % 256) as u8,
-        state,
-        neighbour as u8,
-    ];
+    let [.., l3, l2, l1, l0] = label.to_be_bytes();
+    let kind = save_forms::use_kind(second);
+    let head = [0x4c, 0x53, kind, l3, l2, l1, l0, state, neighbour as u8];
     let e = out.len();
     octets::copy(&mut out[0..USE_BESIDE], &head);
     save_texts::put_name(&mut out[USE_BESIDE..e], name, second);

@@ -9,6 +9,6 @@ use Rattle.save_records.proofs.put_state.Goals as goal
 pub returns : goal.returns
 unfolding marked four
 returns c =
-    let the_copy = c.copy in
-    let the-use-kind = c.use_kind in
-    state-put _ c.args.label c.args.state c.args.neighbour _ c.args.name.now c.args.out.now _ _ refl c.requires.0 (the_copy.ensures ∙ ap (λ (k : ℕ). marked k (four c.args.label ++ (c.args.state ∷ c.args.neighbour ∷ []))) the-use-kind.ensures) c.put_name.ensures
+    let the_copy = rw c.to_be_bytes.ensures at c.copy.ensures in
+    let the-use-kind = c.use_kind-kind in
+    state-put _ c.args.label c.args.state c.args.neighbour _ c.args.name.now c.args.out.now _ _ refl c.requires.0 (the_copy ∙ ap (λ (k : ℕ). marked k (four c.args.label ++ (c.args.state ∷ c.args.neighbour ∷ []))) the-use-kind.ensures) c.put_name.ensures
