@@ -6,11 +6,28 @@
 ghost use Rattle.std.specs.Prelude.{◌≡◌, not, length};
 ghost use Rattle.meaning_save.specs.Save.{form_of, move, newer, older};
 ghost use Rattle.save_mover.specs.Moves.{Moves, Gives};
+ghost use Rattle.refusals.specs.Refusals.{answer_of, count_of};
 
 use meaning::SAVE_LIMIT;
 use memory::{NUMBER_COUNT, OCTET_COUNT};
+use refusals::Refusal;
 
-// From the form that `second` says to the other one.
+// From the form that `second` says to the other one, at the front of the output; how many octets it has. Where it is refused the output stays.
+fn moved(
+    octets: &[u8],
+    second: bool,
+    spare_numbers: &mut [u64; NUMBER_COUNT],
+    spare_names: &mut [u8; OCTET_COUNT],
+    out: &mut [u8],
+) -> Result<usize, Refusal>
+    ensures { Moves (move (form_of second) (form_of (not second)) (length out.old) octets.now) (answer_of result) (count_of result) out.old out.new }
+{
+    if !save_reader::is_taken(octets, second, spare_numbers, spare_names) {
+        return Err(Refusal::BadSave);
+    }
+    save_writer::save_into(spare_numbers, spare_names, !second, out)
+}
+
 pub fn move_core(
     octets: &[u8],
     second: bool,
@@ -22,11 +39,10 @@ pub fn move_core(
 ) -> usize
     ensures { Moves (move (form_of second) (form_of (not second)) (length out.old) octets.now) answer.new result out.old out.new }
 {
-    if !save_reader::is_taken(octets, second, spare_numbers, spare_names) {
-        *answer = 19;
-        return 0;
-    }
-    save_writer::save_core(spare_numbers, spare_names, !second, out, answer)
+    refusals::tell(
+        moved(octets, second, spare_numbers, spare_names, out),
+        answer,
+    )
 }
 
 // A save of the old form becomes one of the new form.

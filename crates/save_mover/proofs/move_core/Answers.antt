@@ -1,20 +1,5 @@
--- `save_mover::move_core` meets its contract: octets that are no save are refused, of others the table is saved. Assumes nothing.
-use Rattle.save_mover.proofs.Moving.{moves-none, moves-saved}
-use borrow.Author.Tests.{not-true, not-false}
-use mathlib.Core.Path.{sym, ◌∙◌}
-use borrow.Author.Rules.{rules}
-use mathlib.Core.Path.{ap}
-use mathlib.Core.Bool.{not}
+-- `save_mover::move_core` meets its contract: the caller is told what `moved` did. Assumes nothing.
 use Rattle.save_mover.proofs.move_core.Goals as goal
 
-pub returns-then-not-is_taken : goal.returns-then-not-is_taken
-returns-then-not-is_taken c =
-    moves-none _ _ _ c.args.octets.now c.args.out.now (sym c.is_taken.ensures.0 ∙ c.if-not-is_taken.true)
-
 pub returns : goal.returns
-returns c =
-    let the-is-taken = c.is_taken in
-    let the-if1 = c.if-not-is_taken in
-    let t = the-is-taken.ensures in
-    let e = the-if1.false in
-    moves-saved _ _ _ c.args.octets.now _ _ _ c.args.out.now _ (sym t.0 ∙ e) (t.1 e) c.save_core.ensures
+returns c = rw (c.tell.ensures.answer, c.tell.ensures.count) c.moved.ensures

@@ -1,7 +1,6 @@
 -- `save_mover::newer` meets its contract: the part that is handed back is exactly what the core wrote. Assumes nothing.
 use Rattle.save_mover.proofs.Moving.{given, given-count, as-newer}
 use mathlib.Core.Path.{refl}
-use borrow.Author.Rules.{rules}
 use Rattle.save_mover.proofs.newer.Goals as goal
 
 pub slice_bounds-result-end : goal.slice_bounds-result-end
