@@ -11,6 +11,9 @@ use Rattle.meaning.specs.Card.{Card}
 use Rattle.meaning.specs.Events.{Outcome, refused, unless, finish, on_mapping, on_withdraw, on_release, on_message}
 use Rattle.meaning.specs.Calls.{Does}
 use Rattle.event_tree.proofs.Ends.{does-refused}
+use Rattle.wire_reader.specs.declared.Kind.{Kind}
+use Rattle.wire_reader.specs.declared.Kind.TheVariants.{Mapping, Withdraw, Release}
+use Rattle.wire_reader.specs.Read.{type_of}
 use Rattle.card_messages.specs.Messages.{on_read}
 
 -- ---- a message by its kind
@@ -20,17 +23,13 @@ module _ (c : Card) (n : ℕ) (m : Message) where
   unfolding on_message
   says-mapping e = rw (eq-eqb m.kind mapping e) refl
 
-  pub says-withdraw : (m.kind ≡ mapping → ⊥) → m.kind ≡ withdraw → on_withdraw c n m.name m.label ≡ on_message c n m
+  pub says-withdraw : m.kind ≡ withdraw → on_withdraw c n m.name m.label ≡ on_message c n m
   unfolding on_message
-  says-withdraw p e = rw (ne_eqb m.kind mapping p, eq-eqb m.kind withdraw e) refl
+  says-withdraw e = rw (ne_eqb m.kind mapping (λ p. omega (arith, p, e)), eq-eqb m.kind withdraw e) refl
 
-  pub says-release : (m.kind ≡ mapping → ⊥) → (m.kind ≡ withdraw → ⊥) → m.kind ≡ release → on_release c n m.name m.label ≡ on_message c n m
+  pub says-release : m.kind ≡ release → on_release c n m.name m.label ≡ on_message c n m
   unfolding on_message
-  says-release p q e = rw (ne_eqb m.kind mapping p, ne_eqb m.kind withdraw q, eq-eqb m.kind release e) refl
-
-  pub says_nothing : (m.kind ≡ mapping → ⊥) → (m.kind ≡ withdraw → ⊥) → (m.kind ≡ release → ⊥) → refused 3 ≡ on_message c n m
-  unfolding on_message
-  says_nothing p q r = rw (ne_eqb m.kind mapping p, ne_eqb m.kind withdraw q, ne_eqb m.kind release r) refl
+  says-release e = rw (ne_eqb m.kind mapping (λ p. omega (arith, p, e)), ne_eqb m.kind withdraw (λ p. omega (arith, p, e)), eq-eqb m.kind release e) refl
 
 -- ---- a message, or its refusal
 
@@ -50,6 +49,20 @@ module _ (c : Card) (n : ℕ) (s : List ℕ) where
   pub read-says : (m : Message) → message_refusal s ≡ 0 → message_in s ≡ m → on_message c n m ≡ on_read c n s
   unfolding on_read
   read-says m e q = sym (unless-none (message_refusal s) _ e ∙ ap (on_message c n) q)
+
+-- a message that is read, by its kind
+module _ (c : Card) (n : ℕ) (s : List ℕ) (k : Kind) (a : List ℕ) (l : ℕ) (z : message_refusal s ≡ 0) (q : message_in s ≡ record { kind = type_of k; name = a; label = l }) where
+  abbrev what-it-says : Message
+  what-it-says = record { kind = type_of k; name = a; label = l }
+
+  pub read-mapping : k ≡ Mapping → on_mapping c n a l ≡ on_read c n s
+  read-mapping e = says-mapping c n what-it-says (ap type_of e) ∙ read-says c n s what-it-says z q
+
+  pub read-withdraw : k ≡ Withdraw → on_withdraw c n a l ≡ on_read c n s
+  read-withdraw e = says-withdraw c n what-it-says (ap type_of e) ∙ read-says c n s what-it-says z q
+
+  pub read-release : k ≡ Release → on_release c n a l ≡ on_read c n s
+  read-release e = says-release c n what-it-says (ap type_of e) ∙ read-says c n s what-it-says z q
 
 -- the name and the label of a message that is read
 pub read_fits : (s : List ℕ) (kind label : ℕ) (a : List ℕ) → message_refusal s ≡ 0 → message_in s ≡ record { kind = kind; name = a; label = label } → (least_label ≤ label) × (length a ≤ name_limit)

@@ -1,6 +1,5 @@
 use mathlib.Core.Path.{refl}
 use Rattle.meaning_laws.specs.Handed.{handed, handed-count}
-use borrow.Author.Rules.{rules}
 use Rattle.card.proofs.lost.Goals as goal
 
 pub slice_bounds-result-end : goal.slice_bounds-result-end

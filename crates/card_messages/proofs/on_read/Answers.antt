@@ -1,45 +1,44 @@
-use mathlib.Core.Path.{subst}
-use native.Mathlib.Omega.{arith}
-use Rattle.wire_reader.specs.Read.{Reads}
-use Rattle.card_messages.proofs.Messages.{does-same, read-refused, read-says, read_fits}
+use Rattle.card_messages.proofs.Messages.{does-same, read-refused, read-mapping, read-withdraw, read-release, read_fits}
+use Rattle.std.proofs.lemmas.Result.{err_from_is_err_and}
 use borrow.Author.Rules.{rules}
 use Rattle.card_messages.proofs.on_read.Goals as goal
 
-pub slice_bounds-on_message-count : goal.slice_bounds-on_message-count
-slice_bounds-on_message-count c =
-    let the-kind = c.in-Says in
-    let the-read-message = c.read_message in
-    let says = subst (Reads c.args.message.now) the-kind.is the-read-message.ensures in says.3
+pub returns-in_err-said : goal.returns-in_err-said
+returns-in_err-said c =
+    let p = err_from_is_err_and c.from_residual.result c.from_residual.ensures.1 in
+    let refusal = c.in_err-said.ensures in
+    rw (p.1, p.2) (read-refused _ _ _ _ _ refusal.0 refusal.1)
 
-pub slice_bounds-on_message-start : goal.slice_bounds-on_message-start
-slice_bounds-on_message-start c =
-    let the-kind = c.in-Says in
-    let the-read-message = c.read_message in
-    let says = subst (Reads c.args.message.now) the-kind.is the-read-message.ensures in omega (arith, says.3, says.4)
-
-pub slice_bounds-on_message-end : goal.slice_bounds-on_message-end
-slice_bounds-on_message-end c =
-    let the-kind = c.in-Says in
-    let the-read-message = c.read_message in
-    let says = subst (Reads c.args.message.now) the-kind.is the-read-message.ensures in omega (arith, says.3, says.4)
-
-pub on_message-requires : goal.on_message-requires
-on_message-requires c =
-    let the-kind = c.in-Says in
-    let the-read-message = c.read_message in
-    let says = subst (Reads c.args.message.now) the-kind.is the-read-message.ensures in
+pub map-requires : goal.map-requires
+map-requires c =
+    let says = c.in_ok-said.ensures in
     let fits = read_fits _ _ _ _ says.0 says.1 in
     (search rules, search rules, search rules, fits.0, fits.1)
 
-pub returns-in-Refused : goal.returns-in-Refused
-returns-in-Refused c =
-    let the-read-message = c.read_message in
-    let refusal = subst (Reads c.args.message.now) c.in-Refused.is the-read-message.ensures in read-refused _ _ _ _ _ refusal.0 refusal.1
+pub withdraw-requires : goal.withdraw-requires
+withdraw-requires c =
+    let says = c.in_ok-said.ensures in
+    let fits = read_fits _ _ _ _ says.0 says.1 in
+    (search rules, search rules, search rules, fits.0, fits.1)
 
-pub returns-in-Says : goal.returns-in-Says
-returns-in-Says c =
-    let the-kind = c.in-Says in
-    let the-read-message = c.read_message in
-    let the-on-message = c.on_message in
-    let says = subst (Reads c.args.message.now) the-kind.is the-read-message.ensures in
-    rw (c.tell.ensures.answer, c.tell.ensures.count) (does-same _ _ _ _ _ _ _ _ _ (read-says _ _ _ _ says.0 says.1) the-on-message.ensures)
+pub returns-in-Mapping : goal.returns-in-Mapping
+returns-in-Mapping c =
+    let says = c.in_ok-said.ensures in
+    does-same _ _ _ _ _ _ _ _ _ (read-mapping _ _ _ _ _ _ says.0 says.1 c.in-Mapping.is) c.map.ensures
+
+pub returns-in-Withdraw : goal.returns-in-Withdraw
+returns-in-Withdraw c =
+    let says = c.in_ok-said.ensures in
+    does-same _ _ _ _ _ _ _ _ _ (read-withdraw _ _ _ _ _ _ says.0 says.1 c.in-Withdraw.is) c.withdraw.ensures
+
+pub returns-in_err-release-in-Release : goal.returns-in_err-release-in-Release
+returns-in_err-release-in-Release c =
+    let says = c.in_ok-said.ensures in
+    let r = c.from_residual-in_err-release-in-Release in
+    let p = err_from_is_err_and r.result r.ensures.1 in
+    rw (p.1, p.2) (does-same _ _ _ _ _ _ _ _ _ (read-release _ _ _ _ _ _ says.0 says.1 c.in-Release.is) (c.in_err-release-in-Release.ensures _))
+
+pub returns-in_ok-release-in-Release : goal.returns-in_ok-release-in-Release
+returns-in_ok-release-in-Release c =
+    let says = c.in_ok-said.ensures in
+    does-same _ _ _ _ _ _ _ _ _ (read-release _ _ _ _ _ _ says.0 says.1 c.in-Release.is) (c.in_ok-release-in-Release.ensures _)

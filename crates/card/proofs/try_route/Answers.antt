@@ -2,7 +2,7 @@ use mathlib.Core.Path.{sym, ◌∙◌}
 use Rattle.card.proofs.Calls.{route-far, route-odd, route-is}
 use borrow.Author.Rules.{rules}
 use Rattle.meaning_laws.specs.Refusals.{root-fits}
-use Rattle.card.proofs.route_core.Goals as goal
+use Rattle.card.proofs.try_route.Goals as goal
 
 pub returns-then-to-gt-NO_ROUTE : goal.returns-then-to-gt-NO_ROUTE
 returns-then-to-gt-NO_ROUTE c = route-far _ _ _ c.if-to-gt-NO_ROUTE.true _
@@ -18,10 +18,10 @@ change_route-requires c =
     let the-if2 = c.if-not_root in
     (search rules, search rules, root-fits _ (sym the-not-root.ensures ∙ the-if2.false), search rules)
 
-pub returns : goal.returns
-returns c =
+pub returns-else-not_root : goal.returns-else-not_root
+returns-else-not_root c =
     let the-if1 = c.if-to-gt-NO_ROUTE in
     let the-not-root = c.not_root in
     let the-if2 = c.if-not_root in
     let the-change-route = c.change_route in
-    rw (c.tell.ensures.answer, c.tell.ensures.count, ← (route-is _ _ _ the-if1.false (sym the-not-root.ensures ∙ the-if2.false) _)) the-change-route.ensures
+    rw (← (route-is _ _ _ the-if1.false (sym the-not-root.ensures ∙ the-if2.false) _)) the-change-route.ensures
