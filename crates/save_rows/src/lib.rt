@@ -107,10 +107,10 @@ fn read_trees(
         × (drop result octets.now ≡ trees_end (form_of second) n (drop from octets.now)) × (result ≤ from + n * (tree_beside + 256)) }
 {
     let mut at = from;
-    for i in 0..n {
+    for _ in 0..n {
         let e = save_fields::extent_at(octets, at + 3, second);
         read_tree(octets, at, second, e, numbers, names);
-        at = at + (TREE_BESIDE + e);
+        at += TREE_BESIDE + e;
     }
     at
 }

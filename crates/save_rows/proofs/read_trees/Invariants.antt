@@ -7,5 +7,5 @@ use Prim.Native.Nat.{◌+◌, ◌*◌, ◌≤◌}
 use mathlib.Core.Path.{◌≡◌}
 use Rattle.save_rows.proofs.read_trees.Given as goal
 
-abbrev pub invariant-loop-i : goal.invariant-loop-i
-invariant-loop-i l = (length l.numbers ≡ length l.initial.numbers) × (length l.names ≡ length l.initial.names) × (card_of l.numbers l.names ≡ with_trees (trees_read (form_of l.second) l.i (drop l.from l.octets)) (card_of l.initial.numbers l.initial.names)) × (drop l.at l.octets ≡ trees_end (form_of l.second) l.i (drop l.from l.octets)) × (l.at ≤ l.from + l.i * (tree_beside + 256))
+abbrev pub invariant-loop : goal.invariant-loop
+invariant-loop l = (length l.numbers ≡ length l.initial.numbers) × (length l.names ≡ length l.initial.names) × (card_of l.numbers l.names ≡ with_trees (trees_read (form_of l.second) l.counter (drop l.from l.octets)) (card_of l.initial.numbers l.initial.names)) × (drop l.at l.octets ≡ trees_end (form_of l.second) l.counter (drop l.from l.octets)) × (l.at ≤ l.from + l.counter * (tree_beside + 256))
