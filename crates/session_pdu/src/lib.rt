@@ -45,7 +45,8 @@ fn put_length(out: &mut [u8], size: u64)
     requires { length out.old ≡ 2 }
     ensures { out.new ≡ two size }
 {
-    octets::copy(out, &size.to_be_bytes()[6..]);
+    let [.., s1, s0] = size.to_be_bytes();
+    octets::copy(out, &[s1, s0]);
 }
 
 // A PDU with one message, into a part of its length.

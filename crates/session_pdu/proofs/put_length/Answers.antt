@@ -1,4 +1,4 @@
--- `session_pdu::put_length` meets its contract: the octets of the number are those of the definition, one by one. Assumes nothing.
+-- `session_pdu::put_length` meets its contract: the octets of the array are those of the definition, one by one. Assumes nothing.
 use Rattle.meaning.specs.Octets.{two}
 use Rattle.session_pdu.proofs.put_length.Goals as goal
 
