@@ -76,7 +76,8 @@ fn put_four(out: &mut [u8], n: u64)
     requires { length out.old ≡ 4 }
     ensures { out.new ≡ four n }
 {
-    octets::copy(out, &n.to_be_bytes()[4..]);
+    let [.., n3, n2, n1, n0] = n.to_be_bytes();
+    octets::copy(out, &[n3, n2, n1, n0]);
 }
 
 // The sixteen branch labels of the tree at place i.

@@ -1,4 +1,4 @@
--- `save_records::put_four` meets its contract: the octets of the number are those of the definition. Assumes nothing.
+-- `save_records::put_four` meets its contract: the octets of the array are those of the definition. Assumes nothing.
 use Rattle.meaning.specs.Octets.{four}
 use Rattle.save_records.proofs.put_four.Goals as goal
 
