@@ -69,12 +69,8 @@ fn put_element_head(out: &mut [u8], family: u64, size: u64)
     requires { (length out.old ≡ 4) × (size ≤ 255) }
     ensures { out.new ≡ 6 ∷ (two family ++ (size ∷ [])) }
 {
-    let head = [
-        6,
-        (family / 256 % 256) as u8,
-        (family % 256) as u8,
-        size as u8,
-    ];
+    let [.., f1, f0] = family.to_be_bytes();
+    let head = [6, f1, f0, size as u8];
     octets::copy(out, &head);
 }
 
@@ -84,13 +80,9 @@ fn put_holder_head(out: &mut [u8], kind: u64, held: u64)
     ensures { out.new ≡ two (3 + held) ++ (kind ∷ two held) }
 {
     let opaque = 3 + held;
-    let head = [
-        (opaque / 256 % 256) as u8,
-        (opaque % 256) as u8,
-        kind as u8,
-        (held / 256 % 256) as u8,
-        (held % 256) as u8,
-    ];
+    let [.., o1, o0] = opaque.to_be_bytes();
+    let [.., h1, h0] = held.to_be_bytes();
+    let head = [o1, o0, kind as u8, h1, h0];
     octets::copy(out, &head);
 }
 

@@ -4,4 +4,4 @@ use Rattle.wire_wraps.proofs.put_element_head.Goals as goal
 
 pub returns : goal.returns
 unfolding two
-returns c = c.copy.ensures
+returns c = rw c.to_be_bytes.ensures at c.copy.ensures

@@ -4,4 +4,4 @@ use Rattle.wire_wraps.proofs.put_holder_head.Goals as goal
 
 pub returns : goal.returns
 unfolding two
-returns c = c.copy.ensures
+returns c = rw c.to_be_bytes.ensures at (rw c.to_be_bytes-2.ensures at c.copy.ensures)
