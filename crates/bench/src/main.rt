@@ -11,7 +11,7 @@ ghost use Rattle.bench.specs.Input.{Seat, seat_after, Stands};
 ghost use Rattle.bench_lines.specs.Text.{text_space};
 
 use bench_answers::Answered;
-use bench_input::{CHUNK_SPACE, Output};
+use bench_input::{CHUNK_SPACE, Output, State};
 use bench_lines::TEXT_SPACE;
 use bench_orders::LINE_LIMIT;
 use meaning::SAVE_LIMIT;
@@ -21,14 +21,6 @@ use std::io::Write;
 
 // the room that is lent before an order says less: that of the longest save
 const WHOLE_ROOM: u32 = SAVE_LIMIT as u32;
-
-// How many lines are done, how much of the next is kept, and the room.
-#[derive(Clone, Copy)]
-struct State {
-    number: u64,
-    kept: usize,
-    room: u32,
-}
 
 // What the line that is kept is answered with. One too long to keep is a bad line.
 fn reply(
@@ -99,10 +91,8 @@ fn take_chunk<W: Write>(
         → Stands (after_all seat_after s chunk.now) result.number result.room (card_of numbers.new names.new) line.new result.kept }
 {
     let mut state = from;
-    let mut i = 0;
-    while i < chunk.len() {
-        state = take_octet(out, numbers, names, line, text, chunk[i], state);
-        i += 1;
+    for c in chunk {
+        state = take_octet(out, numbers, names, line, text, *c, state);
     }
     state
 }
@@ -121,7 +111,8 @@ fn blank_chunk() -> [u8; CHUNK_SPACE] {
 }
 
 // The room is at first that of the longest save: events have no more than their buffer of it.
-// A proved loop has to end, and nothing says that the input does: the loop counts its turns down, from a number that no run uses up.
+// A proved loop has to end, and nothing says that the input does: the loop has more turns than any run uses up.
+// At the end of the input, what is kept is a line too, and the octet that ends it is taken.
 // A write that fails ends the program with its error; a read that fails is the end of the input.
 fn main(rt: HostRuntime) -> io::Result<()> {
     let mut input = rt.stdin();
@@ -140,22 +131,37 @@ fn main(rt: HostRuntime) -> io::Result<()> {
         kept: 0,
         room: WHOLE_ROOM,
     };
-    let mut more = true;
-    let mut turns = u64::MAX;
-    while turns > 0 && more {
-        let got = bench_input::read_chunk(&mut input, &mut chunk, state.kept);
-        let n = got.count;
-        state = take_chunk(
-            &mut out,
-            &mut numbers,
-            &mut names,
-            &mut line,
-            &mut text,
-            &chunk[..n],
-            state,
-        );
-        more = got.more && out.written.is_ok();
-        turns -= 1;
+    for _ in 0..u64::MAX {
+        match bench_input::read_chunk(&mut input, &mut chunk) {
+            Some(n) => {
+                state = take_chunk(
+                    &mut out,
+                    &mut numbers,
+                    &mut names,
+                    &mut line,
+                    &mut text,
+                    &chunk[..n],
+                    state,
+                );
+                if out.written.is_err() {
+                    return out.written;
+                }
+            }
+            None => {
+                if state.kept != 0 {
+                    take_chunk(
+                        &mut out,
+                        &mut numbers,
+                        &mut names,
+                        &mut line,
+                        &mut text,
+                        b"\n",
+                        state,
+                    );
+                }
+                return out.written;
+            }
+        }
     }
     out.written
 }

@@ -1,7 +1,7 @@
 // A line that comes octet by octet, the octets of the input, read chunk by chunk, and those of the output.
 #![tactic(auto)]
 
-ghost use Rattle.std.specs.Prelude.{◌≡◌, true, false, List, [], ◌∷◌, ◌++◌, ℕ, ◌≤◌, length, take, IsOk};
+ghost use Rattle.std.specs.Prelude.{List, [], ◌∷◌, ◌++◌, ℕ, ◌≤◌, length, take, IsOk, IfSome, IsNone};
 ghost use Rattle.std.specs.Io.KnownBytes.{Appends, Consumes};
 ghost use Rattle.bench_input.specs.Kept.{Keeps};
 
@@ -11,11 +11,12 @@ use std::io::{Read, Write};
 // how many octets a program reads at a time
 pub const CHUNK_SPACE: usize = 65536;
 
-// How many octets came, and whether there is more to read.
+// How many lines are done, how much of the next is kept, and the room that is lent.
 #[derive(Clone, Copy)]
-pub struct Got {
-    pub count: usize,
-    pub more: bool,
+pub struct State {
+    pub number: u64,
+    pub kept: usize,
+    pub room: u32,
 }
 
 // What is written to, and the error of the write that failed, if one did.
@@ -36,34 +37,18 @@ pub fn keep(line: &mut [u8], kept: usize, c: u8) -> usize
     line.len() + 1
 }
 
-// Reads once. At the end of the input, what is kept is a line too, and the octet that ends it comes. A read that fails ends the input.
-pub fn read_chunk<R: Read>(input: &mut R, chunk: &mut [u8], kept: usize) -> Got
-    ensures count { result.count ≤ length chunk.new }
-    ensures more { result.more ≡ true → Consumes (R.remaining input.old) (R.remaining input.new) (take result.count chunk.new) }
-    ensures no_more { result.more ≡ false → Consumes (R.remaining input.old) (R.remaining input.new) [] }
+// Reads once: how many octets came, or none at the end of the input. A read that fails ends the input.
+pub fn read_chunk<R: Read>(input: &mut R, chunk: &mut [u8]) -> Option<usize>
+    ensures count { IfSome result (λ n. n ≤ length chunk.new) }
+    ensures some { IfSome result (λ n. Consumes (R.remaining input.old) (R.remaining input.new) (take n chunk.new)) }
+    ensures none { IsNone result → Consumes (R.remaining input.old) (R.remaining input.new) [] }
 {
     if let Ok(count) = input.read(chunk) {
         if 0 < count {
-            return Got { count, more: true };
+            return Some(count);
         }
     }
-    if kept == 0 {
-        return Got {
-            count: 0,
-            more: false,
-        };
-    }
-    if chunk.len() == 0 {
-        return Got {
-            count: 0,
-            more: false,
-        };
-    }
-    chunk[0] = b'\n';
-    Got {
-        count: 1,
-        more: false,
-    }
+    None
 }
 
 // Writes all, unless a write failed before: behind a gap nothing is written.

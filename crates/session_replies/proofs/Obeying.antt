@@ -30,23 +30,19 @@ use Rattle.session_orders.specs.declared.Ask.{Ask}
 use Rattle.session_orders.specs.contracts.Ask.{the_type}
 use Rattle.session_replies.specs.Turns.{turns, turns_space, TurnsSay}
 use Rattle.session_replies.specs.Done.{pack_room, own, done_by, Box, stream_at, box_after, BoxSays}
-use Rattle.session_replies.specs.Four.{is_own, numbers_of, buffer_of, streams_of, box_of, box_on}
-use Rattle.session_replies.proofs.Four.{four-at}
+use Rattle.session_replies.specs.Four.{is_own, lent_at, streams_of, box_of, box_on}
+use Rattle.session_replies.proofs.Four.{four-at, four-numbers, four-both}
 use Rattle.bench_words.proofs.Words.{front-is}
 
 -- ---- octets, on the n-th stream
 
-pub says-turns : (n neighbour room : ℕ) (c : Card) (ns o s b ns' : List ℕ) (bs bs' : List (List ℕ)) {text : List ℕ} {r : ℕ} {c' : Card} → n < stream_count → streams_of ns' bs' ≡ set (streams_of ns bs) n (stream_of s b)
-    → TurnsSay (turns neighbour room c (stream_of (numbers_of ns n) (buffer_of bs n)) o) r text c' (stream_of s b)
-    → (number : ℕ) → BoxSays (box_on n number (box_of room c (streams_of ns bs)) (Told.octets neighbour o)) r text c' room (streams_of ns' bs')
+pub says-turns : (n neighbour room : ℕ) (c : Card) (ns bs : List (List ℕ)) (o s b : List ℕ) {text : List ℕ} {r : ℕ} {c' : Card} → n < stream_count → n < length ns → n < length bs
+    → TurnsSay (turns neighbour room c (stream_of (lent_at ns n) (lent_at bs n)) o) r text c' (stream_of s b)
+    → (number : ℕ) → BoxSays (box_on n number (box_of room c (streams_of ns bs)) (Told.octets neighbour o)) r text c' room (streams_of (set ns n s) (set bs n b))
 unfolding box_on box_after stream_at done_by
-says-turns n neighbour room c ns o s b ns' bs bs' h e t number =
+says-turns n neighbour room c ns bs o s b h p q t number =
     rw (four-at ns bs n h)
-    (record { short = t.short; line = t.line; leaves = t.leaves; next = refl; all = e ∙ rw t.streams refl })
-
-pub says-decoded : (n neighbour number : ℕ) (b : Box) {ys before after : List ℕ} {k r room : ℕ} {text : List ℕ} {c : Card} {streams : List Stream} → Puts ys before after k
-    → BoxSays (box_on n number b (Told.octets neighbour (take k after))) r text c room streams → BoxSays (box_on n number b (Told.octets neighbour ys)) r text c room streams
-says-decoded n neighbour number b p h = rw (front-is p) at h
+    (record { short = t.short; line = t.line; leaves = t.leaves; next = refl; all = four-both ns bs s n h p b q ∙ rw t.streams refl })
 
 -- ---- the writer
 
@@ -76,14 +72,14 @@ module _ (n room : ℕ) {id os before after part : List ℕ} {l whole k a : ℕ}
 pub loss-left : (f : ℕ → Out) (s s' : Stream) {l m a : ℕ} {part : List ℕ} {card : Card} → l ≡ m → Hands (f l) a part card → s' ≡ after_loss a s → s' ≡ after_loss (f m).answer s
 loss-left f s s' e h p = p ∙ rw (h.answers, e) refl
 
-pub says-loss : (n room : ℕ) (c : Card) (ns s ns' : List ℕ) (bs : List (List ℕ)) {text : List ℕ} {r : ℕ} {c' : Card} → n < stream_count → streams_of ns' bs ≡ set (streams_of ns bs) n (stream_of s (buffer_of bs n))
+pub says-loss : (n room : ℕ) (c : Card) (ns bs : List (List ℕ)) (s : List ℕ) {text : List ℕ} {r : ℕ} {c' : Card} → n < stream_count → n < length ns
     → ((number : ℕ) → Says (reply_to number room c (Said.lost n)) r text c')
-    → stream_of s (buffer_of bs n) ≡ after_loss (event (event_room room) c (lost n)).answer (stream_of (numbers_of ns n) (buffer_of bs n))
-    → (number : ℕ) → BoxSays (box_on n number (box_of room c (streams_of ns bs)) (Told.lost n)) r text c' room (streams_of ns' bs)
+    → stream_of s (lent_at bs n) ≡ after_loss (event (event_room room) c (lost n)).answer (stream_of (lent_at ns n) (lent_at bs n))
+    → (number : ℕ) → BoxSays (box_on n number (box_of room c (streams_of ns bs)) (Told.lost n)) r text c' room (streams_of (set ns n s) bs)
 unfolding box_on box_after stream_at done_by
-says-loss n room c ns s ns' bs h e t l number =
+says-loss n room c ns bs s h p t l number =
     rw (four-at ns bs n h)
-    (record { short = omega (arith, (t number).short); line = (t number).line; leaves = (t number).leaves; next = refl; all = e ∙ rw l refl })
+    (record { short = omega (arith, (t number).short); line = (t number).line; leaves = (t number).leaves; next = refl; all = four-numbers ns bs s n h p ∙ rw l refl })
 
 -- ---- by the order
 

@@ -1,30 +1,21 @@
 -- The box that lent memory denotes, and what an order makes of it. Assumes nothing.
-use Rattle.std.specs.Prelude.{ℕ, ◌*◌, Bool, true, false, List, [], ◌∷◌, take, drop, get_or}
+use Rattle.std.specs.Prelude.{ℕ, Bool, true, false, List, [], get_or}
 use Rattle.meaning.specs.Card.{Card}
 use Rattle.octets.specs.Part.{tab}
 use Rattle.session.specs.Stream.{Stream}
-use Rattle.session.specs.Lent.{stream_numbers, stream_of}
+use Rattle.session.specs.Lent.{stream_of}
 use Rattle.session_orders.specs.Told.{Told, stream_count}
 use Rattle.session_orders.specs.declared.Ask.{Ask}
 use Rattle.session_replies.specs.Done.{done_by, Box, BoxReply, stream_at, box_after}
 
--- ---- the memory of four streams: their numbers one after the other, and the buffer of each
+-- ---- the memory of four streams: the numbers and the buffer of each
 
-abbrev pub box_numbers : ℕ
-box_numbers = stream_count * stream_numbers
-
-abbrev pub numbers_of : List ℕ → ℕ → List ℕ
-numbers_of ns n = take stream_numbers (drop (n * stream_numbers) ns)
-
-abbrev pub buffer_of : List (List ℕ) → ℕ → List ℕ
-buffer_of bs n = get_or bs n []
+abbrev pub lent_at : List (List ℕ) → ℕ → List ℕ
+lent_at ls n = get_or ls n []
 
 -- the streams that it denotes
-unfoldable pub streams_of : List ℕ → List (List ℕ) → List Stream
-streams_of ns bs = tab stream_count (λ n. stream_of (numbers_of ns n) (buffer_of bs n))
-
-abbrev pub four : List ℕ → (b0 b1 b2 b3 : List ℕ) → List Stream
-four ns b0 b1 b2 b3 = streams_of ns (b0 ∷ b1 ∷ b2 ∷ b3 ∷ [])
+unfoldable pub streams_of : List (List ℕ) → List (List ℕ) → List Stream
+streams_of ns bs = tab stream_count (λ n. stream_of (lent_at ns n) (lent_at bs n))
 
 abbrev pub box_of : ℕ → Card → List Stream → Box
 box_of room c streams = record { card = c; room = room; streams = streams }

@@ -2,23 +2,22 @@
 // tells of it is written to the front of a lent text.
 #![tactic(auto)]
 
-ghost use Rattle.std.specs.Prelude.{◌≡◌, true, List, ℕ, ◌≤◌, ◌<◌, ◌*◌, ◌+◌, ◌-◌, length, set, take, drop};
+ghost use Rattle.std.specs.Prelude.{◌≡◌, true, List, ℕ, ◌≤◌, ◌<◌, ◌*◌, ◌+◌, ◌-◌, length, take, drop};
 ghost use Rattle.meaning.specs.Octets.{pick};
 ghost use Rattle.meaning.specs.Card.{sent_limit};
 ghost use Rattle.meaning.specs.Events.{event, lost};
-ghost use Rattle.octets.specs.Part.{mid};
 ghost use Rattle.card.specs.Table.{card_of};
 ghost use Rattle.session.specs.Session.{after_loss, message_room, stream_room};
-ghost use Rattle.session.specs.Lent.{stream_numbers, stream_of};
+ghost use Rattle.session.specs.Lent.{stream_of};
 ghost use Rattle.session.specs.Pack.{pack};
 ghost use Rattle.bench_words.specs.Words.{ascii, octets_of, hex_limit, input_limit};
 ghost use Rattle.bench_verbs.specs.Line.{Said};
 ghost use Rattle.bench_lines.specs.Text.{event_line, text_space, Adds};
 ghost use Rattle.bench_replies.specs.Reply.{event_room, reply_to, Says};
-ghost use Rattle.session_orders.specs.Told.{Told, stream_count, stream_for};
+ghost use Rattle.session_orders.specs.Told.{stream_for};
 ghost use Rattle.session_orders.specs.Asks.{meant, InLine};
 ghost use Rattle.session_replies.specs.Done.{own, pack_room, BoxSays};
-ghost use Rattle.session_replies.specs.Four.{is_own, box_numbers, numbers_of, buffer_of, streams_of, four, box_of, box_on};
+ghost use Rattle.session_replies.specs.Four.{is_own, streams_of, box_of, box_on};
 ghost use Rattle.session_replies.specs.Turns.{identifier, called_box, call_text, is_last, turns, call_space, turns_space, space_for, TurnsSay};
 ghost use Rattle.session_replies.specs.Did.{Did};
 
@@ -28,8 +27,8 @@ use meaning::SENT_LIMIT;
 use session::{BODY_LIMIT, IDENTIFIER_SIZE, MESSAGE_ROOM, STREAM_NUMBERS, STREAM_ROOM};
 use session_orders::Ask;
 
-// The numbers of four streams, as `box_numbers` in specs/Four.antt.
-pub const BOX_NUMBERS: usize = 4 * STREAM_NUMBERS;
+// As `stream_count` of session_orders/specs/Told.antt.
+pub const STREAM_COUNT: usize = 4;
 
 // The room of the writer, as `pack_room` in specs/Done.antt.
 const PACK_ROOM: usize = 2 * INPUT_LIMIT;
@@ -188,123 +187,35 @@ fn pdus() -> [u8; PACK_ROOM]
     [0; PACK_ROOM]
 }
 
-// ---- the numbers of a stream
-
-fn numbers_of(streams: &[u64], n: usize) -> [u64; STREAM_NUMBERS]
-    requires { (n < stream_count) × (length streams.now ≡ box_numbers) }
-    ensures { result ≡ numbers_of streams.now n }
-{
-    let mut numbers = [0; STREAM_NUMBERS];
-    let start = n * STREAM_NUMBERS;
-    let end = start + STREAM_NUMBERS;
-    octets::copy_numbers(&mut numbers, &streams[start..end]);
-    numbers
-}
-
-fn put_numbers(streams: &mut [u64], n: usize, numbers: &[u64; STREAM_NUMBERS])
-    requires { (n < stream_count) × (length streams.old ≡ box_numbers) }
-    ensures { (length numbers.now ≡ stream_numbers) × (streams.new ≡ mid (n * stream_numbers) stream_numbers streams.old numbers.now) }
-{
-    let start = n * STREAM_NUMBERS;
-    let end = start + STREAM_NUMBERS;
-    octets::copy_numbers(&mut streams[start..end], numbers);
-}
-
 // ---- orders
 
-// Octets of a neighbour, on the n-th stream, which has this buffer.
-fn take_turns(
-    numbers: &mut [u64; NUMBER_COUNT],
-    names: &mut [u8; OCTET_COUNT],
-    streams: &mut [u64],
-    buffer: &mut [u8; STREAM_ROOM],
-    n: usize,
-    neighbour: u32,
-    octets: &[u8],
-    room: u32,
-    text: &mut [u8],
-) -> usize
-    requires { (n < stream_count) × (length streams.old ≡ box_numbers) × (length octets.now ≤ input_limit) × (turns_space ≤ length text.old) }
-    ensures { (number : ℕ) (bs : List (List ℕ)) → n < length bs → buffer_of bs n ≡ buffer.old
-        → BoxSays (box_on n number (box_of room (card_of numbers.old names.old) (streams_of streams.old bs)) (Told.octets neighbour octets.now))
-        result text.new (card_of numbers.new names.new) room (streams_of streams.new (set bs n buffer.new)) }
-{
-    let mut stream = numbers_of(streams, n);
-    let length = put_turns(
-        numbers,
-        names,
-        &mut stream,
-        buffer,
-        neighbour,
-        octets,
-        room,
-        text,
-    );
-    put_numbers(streams, n, &stream);
-    length
-}
-
-// The same of the octets in HEX.
+// The octets in HEX of a neighbour, on a stream.
 fn on_octets(
     numbers: &mut [u64; NUMBER_COUNT],
     names: &mut [u8; OCTET_COUNT],
-    streams: &mut [u64],
+    stream: &mut [u64; STREAM_NUMBERS],
     buffer: &mut [u8; STREAM_ROOM],
-    n: usize,
     neighbour: u32,
     hex: &[u8],
     room: u32,
     text: &mut [u8],
 ) -> usize
-    requires { (n < stream_count) × (length streams.old ≡ box_numbers) × (length hex.now ≤ hex_limit) × (turns_space ≤ length text.old) }
-    ensures { (number : ℕ) (bs : List (List ℕ)) → n < length bs → buffer_of bs n ≡ buffer.old
-        → BoxSays (box_on n number (box_of room (card_of numbers.old names.old) (streams_of streams.old bs)) (Told.octets neighbour (octets_of hex.now)))
-        result text.new (card_of numbers.new names.new) room (streams_of streams.new (set bs n buffer.new)) }
+    requires { (length hex.now ≤ hex_limit) × (turns_space ≤ length text.old) }
+    ensures { TurnsSay (turns neighbour room (card_of numbers.old names.old) (stream_of stream.old buffer.old) (octets_of hex.now))
+        result text.new (card_of numbers.new names.new) (stream_of stream.new buffer.new) }
 {
     let mut octets = bench_replies::input();
     let k = bench_words::decode_hex(hex, &mut octets);
-    take_turns(
+    put_turns(
         numbers,
         names,
-        streams,
+        stream,
         buffer,
-        n,
         neighbour,
         &octets[..k],
         room,
         text,
     )
-}
-
-// The same on the n-th of four streams.
-fn on_four(
-    numbers: &mut [u64; NUMBER_COUNT],
-    names: &mut [u8; OCTET_COUNT],
-    streams: &mut [u64],
-    b0: &mut [u8; STREAM_ROOM],
-    b1: &mut [u8; STREAM_ROOM],
-    b2: &mut [u8; STREAM_ROOM],
-    b3: &mut [u8; STREAM_ROOM],
-    n: usize,
-    neighbour: u32,
-    hex: &[u8],
-    room: u32,
-    text: &mut [u8],
-) -> usize
-    requires { (n < stream_count) × (length streams.old ≡ box_numbers) × (length hex.now ≤ hex_limit) × (turns_space ≤ length text.old) }
-    ensures { (number : ℕ) → BoxSays (box_on n number (box_of room (card_of numbers.old names.old) (four streams.old b0.old b1.old b2.old b3.old)) (Told.octets neighbour (octets_of hex.now)))
-        result text.new (card_of numbers.new names.new) room (four streams.new b0.new b1.new b2.new b3.new) }
-{
-    if n == 0 {
-        return on_octets(numbers, names, streams, b0, 0, neighbour, hex, room, text);
-    }
-    if n == 1 {
-        return on_octets(numbers, names, streams, b1, 1, neighbour, hex, room, text);
-    }
-    if n == 2 {
-        return on_octets(numbers, names, streams, b2, 2, neighbour, hex, room, text);
-    }
-    on_octets(numbers, names, streams, b3, 3, neighbour, hex, room, text)
 }
 
 // The PDUs to a neighbour, of the records in HEX.
@@ -355,26 +266,6 @@ fn tell_loss(
     bench_lines::put_event(text, b"lost", answer, written)
 }
 
-// A loss of one of the four neighbours.
-fn on_loss(
-    numbers: &mut [u64; NUMBER_COUNT],
-    names: &mut [u8; OCTET_COUNT],
-    streams: &mut [u64],
-    neighbour: u32,
-    room: u32,
-    text: &mut [u8],
-) -> usize
-    requires { (neighbour < stream_count) × (length streams.old ≡ box_numbers) × (text_space ≤ length text.old) }
-    ensures { (number : ℕ) (bs : List (List ℕ)) → BoxSays (box_on neighbour number (box_of room (card_of numbers.old names.old) (streams_of streams.old bs)) (Told.lost neighbour))
-        result text.new (card_of numbers.new names.new) room (streams_of streams.new bs) }
-{
-    let n = neighbour as usize;
-    let mut stream = numbers_of(streams, n);
-    let length = tell_loss(numbers, names, &mut stream, neighbour, room, text);
-    put_numbers(streams, n, &stream);
-    length
-}
-
 // ---- an order of the box's own, or one of the bench
 
 pub fn is_own(ask: Ask) -> bool
@@ -390,19 +281,16 @@ pub fn is_own(ask: Ask) -> bool
 pub fn answer(
     numbers: &mut [u64; NUMBER_COUNT],
     names: &mut [u8; OCTET_COUNT],
-    streams: &mut [u64; BOX_NUMBERS],
-    b0: &mut [u8; STREAM_ROOM],
-    b1: &mut [u8; STREAM_ROOM],
-    b2: &mut [u8; STREAM_ROOM],
-    b3: &mut [u8; STREAM_ROOM],
+    streams: &mut [[u64; STREAM_NUMBERS]; STREAM_COUNT],
+    buffers: &mut [[u8; STREAM_ROOM]; STREAM_COUNT],
     line: &[u8],
     ask: Ask,
     room: u32,
     text: &mut [u8],
 ) -> usize
     requires { InLine line.now ask × (turns_space ≤ length text.old) }
-    ensures { is_own ask ≡ true → (number : ℕ) → BoxSays (box_on (stream_for (meant line.now ask)) number (box_of room (card_of numbers.old names.old) (four streams.old b0.old b1.old b2.old b3.old)) (meant line.now ask))
-        result text.new (card_of numbers.new names.new) room (four streams.new b0.new b1.new b2.new b3.new) }
+    ensures { is_own ask ≡ true → (number : ℕ) → BoxSays (box_on (stream_for (meant line.now ask)) number (box_of room (card_of numbers.old names.old) (streams_of streams.old buffers.old)) (meant line.now ask))
+        result text.new (card_of numbers.new names.new) room (streams_of streams.new buffers.new) }
 {
     match ask {
         Ask::Bench => 0,
@@ -410,25 +298,27 @@ pub fn answer(
             neighbour,
             start,
             end,
-        } => on_four(
-            numbers,
-            names,
-            streams,
-            b0,
-            b1,
-            b2,
-            b3,
-            session_orders::stream_of(ask) as usize,
-            neighbour,
-            &line[start..end],
-            room,
-            text,
-        ),
+        } => {
+            let n = session_orders::stream_of(ask) as usize;
+            on_octets(
+                numbers,
+                names,
+                &mut streams[n],
+                &mut buffers[n],
+                neighbour,
+                &line[start..end],
+                room,
+                text,
+            )
+        }
         Ask::Pack {
             neighbour,
             start,
             end,
         } => on_pack(neighbour, &line[start..end], room, text),
-        Ask::Lost(neighbour) => on_loss(numbers, names, streams, neighbour, room, text),
+        Ask::Lost(neighbour) => {
+            let n = neighbour as usize;
+            tell_loss(numbers, names, &mut streams[n], neighbour, room, text)
+        }
     }
 }

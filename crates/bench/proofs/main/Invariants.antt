@@ -1,5 +1,0 @@
--- `bench::main` ends. Assumes nothing.
-use Rattle.bench.proofs.main.Given as goal
-
-abbrev pub decreases-loop-turns : goal.decreases-loop-turns
-decreases-loop-turns l = l.turns
