@@ -1,11 +1,10 @@
 // What a line is answered with: the order that it is, obeyed, and the line that tells of it, at the front of a lent text.
 #![tactic(auto)]
 
-ghost use Rattle.std.specs.Prelude.{◌≡◌, List, ℕ, ◌≤◌, length, take};
+ghost use Rattle.std.specs.Prelude.{◌≡◌, List, ℕ, ◌≤◌, length};
 ghost use Rattle.meaning.specs.Card.{Card, sent_limit};
 ghost use Rattle.meaning.specs.Calls.{Does};
-ghost use Rattle.meaning_save.specs.Save.{new, save_limit};
-ghost use Rattle.bench_lines.specs.Text.{event_line, text_space};
+ghost use Rattle.bench_lines.specs.Text.{text_space};
 ghost use Rattle.memory.specs.Memory.{card_of};
 ghost use Rattle.bench_words.specs.Words.{octets_of, hex_limit};
 ghost use Rattle.bench_verbs.specs.Line.{Said, order_of};
@@ -56,24 +55,11 @@ fn hex_in(order: Order) -> Word
     ensures { result ≡ hex_in order }
 {
     match order {
-        Order::Take {
-            neighbour: _,
-            start,
-            end,
-        } => Word { start, end },
-        Order::Join { start, end } => Word { start, end },
-        Order::Leave { start, end } => Word { start, end },
-        Order::Route {
-            start,
-            end,
-            route: _,
-        } => Word { start, end },
-        Order::Notice {
-            neighbour: _,
-            number: _,
-            start,
-            end,
-        } => Word { start, end },
+        Order::Take { hex, .. } => hex,
+        Order::Join(hex) => hex,
+        Order::Leave(hex) => hex,
+        Order::Route { hex, .. } => hex,
+        Order::Notice { hex, .. } => hex,
         _ => Word { start: 0, end: 0 },
     }
 }
@@ -95,8 +81,8 @@ fn call(
         Order::Take { neighbour, .. } => {
             card::receive_core(numbers, names, neighbour, octets, out, answer)
         }
-        Order::Join { .. } => card::join_core(numbers, names, octets, out, answer),
-        Order::Leave { .. } => card::leave_core(numbers, names, octets, out, answer),
+        Order::Join(_) => card::join_core(numbers, names, octets, out, answer),
+        Order::Leave(_) => card::leave_core(numbers, names, octets, out, answer),
         Order::Route { route, .. } => card::route_core(numbers, names, octets, route, out, answer),
         Order::Notice {
             neighbour,
@@ -108,19 +94,19 @@ fn call(
     }
 }
 
-// The line of an order that writes records: no other comes here.
-fn put_told(text: &mut [u8], order: Order, answer: u32, records: &[u8]) -> usize
-    requires { (kind_of order ≡ Kind.records) × (length records.now ≤ save_limit new) × (text_space ≤ length text.old) }
-    ensures { (take result text.new ≡ event_line (word_of order) answer records.now) × (result ≤ text_space) }
+// The word of the line that tells of an order that writes records: no other comes here.
+fn word_of(order: Order) -> &'static [u8]
+    requires { kind_of order ≡ Kind.records }
+    ensures { (result.now ≡ word_of order) × (length result.now ≤ 8) }
 {
     match order {
-        Order::Take { .. } => bench_lines::put_event(text, b"take", answer, records),
-        Order::Join { .. } => bench_lines::put_event(text, b"join", answer, records),
-        Order::Leave { .. } => bench_lines::put_event(text, b"leave", answer, records),
-        Order::Route { .. } => bench_lines::put_event(text, b"route", answer, records),
-        Order::Notice { .. } => bench_lines::put_event(text, b"notice", answer, records),
-        Order::Lost(_) => bench_lines::put_event(text, b"lost", answer, records),
-        _ => 0,
+        Order::Take { .. } => b"take",
+        Order::Join(_) => b"join",
+        Order::Leave(_) => b"leave",
+        Order::Route { .. } => b"route",
+        Order::Notice { .. } => b"notice",
+        Order::Lost(_) => b"lost",
+        _ => b"",
     }
 }
 
@@ -139,7 +125,7 @@ fn tell_call(
 {
     let mut answer: u32 = 0;
     let n = call(numbers, names, order, octets, out, &mut answer);
-    put_told(text, order, answer, &out[..n])
+    bench_lines::put_event(text, word_of(order), answer, &out[..n])
 }
 
 // An order that writes records: no other comes here. The HEX is read and the output lent in one place for all.
@@ -155,11 +141,9 @@ fn on_event(
     ensures { (number : ℕ) → Says (reply_to number room (card_of numbers.old names.old) (meant line.now order))
         result text.new (card_of numbers.new names.new) }
 {
-    let word = hex_in(order);
-    let start = word.start;
-    let end = word.end;
+    let hex = hex_in(order);
     let mut octets = bench_replies::input();
-    let n = bench_words::decode_hex(&line[start..end], &mut octets);
+    let n = bench_words::decode_hex(hex.of(line), &mut octets);
     let mut out = bench_replies::output();
     tell_call(
         numbers,
@@ -223,11 +207,11 @@ fn obey(
             on_counted(numbers, order, number, text)
         }
         Order::Label(label) => on_label(numbers, label, text),
-        Order::Tree { start, end } => on_tree(numbers, names, &line[start..end], text),
+        Order::Tree(hex) => on_tree(numbers, names, hex.of(line), text),
         Order::Save(_) | Order::Restore { .. } | Order::Move { .. } => {
             bench_saves::on_saved(numbers, names, line, order, room, text)
         }
-        Order::Layers { .. } | Order::Wrap { .. } | Order::Unwrap { .. } => {
+        Order::Layers(_) | Order::Wrap { .. } | Order::Unwrap(_) => {
             bench_wraps::on_layered(line, order, room, text)
         }
         Order::Plan { .. } | Order::Vet { .. } => {

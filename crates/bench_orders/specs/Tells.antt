@@ -1,7 +1,8 @@
 -- What `read_order` answers. Assumes nothing.
-use Rattle.std.specs.Prelude.{ℕ, ◌*◌, ◌≡◌, List}
+use Rattle.std.specs.Prelude.{ℕ, ◌*◌, ◌≡◌, List, Option, None, Some}
 use Rattle.meaning_save.specs.Save.{Form, form_of, save_limit}
-use Rattle.bench_words.specs.Words.{part, LiesTo, Lies, octets_of}
+use Rattle.bench_words.specs.Words.{LiesTo, Lies, octets_of}
+use Rattle.bench_words.specs.Scan.{text_of}
 use Rattle.bench_verbs.specs.Line.{Said, nothing, bad, start, room, take, join, leave, route, label, tree, free, notice, save, restore, lost, moves, layers, wrap, unwrap, plan, vet}
 use Rattle.bench_orders.specs.declared.Order.{Order}
 
@@ -11,23 +12,23 @@ meant l Order.Blank = nothing
 meant l Order.Bad = bad
 meant l (Order.Start n) = start n
 meant l (Order.Room n) = room n
-meant l (Order.Take n s e) = take n (octets_of (part s e l))
-meant l (Order.Join s e) = join (octets_of (part s e l))
-meant l (Order.Leave s e) = leave (octets_of (part s e l))
-meant l (Order.Route s e n) = route (octets_of (part s e l)) n
+meant l (Order.Take n w) = take n (octets_of (text_of w l))
+meant l (Order.Join w) = join (octets_of (text_of w l))
+meant l (Order.Leave w) = leave (octets_of (text_of w l))
+meant l (Order.Route w n) = route (octets_of (text_of w l)) n
 meant l (Order.Label n) = label n
-meant l (Order.Tree s e) = tree (octets_of (part s e l))
+meant l (Order.Tree w) = tree (octets_of (text_of w l))
 meant l Order.Free = free
-meant l (Order.Notice n k s e) = notice n k (octets_of (part s e l))
+meant l (Order.Notice n k w) = notice n k (octets_of (text_of w l))
 meant l (Order.Save b) = save (form_of b)
-meant l (Order.Restore b s e) = restore (form_of b) (octets_of (part s e l))
+meant l (Order.Restore b w) = restore (form_of b) (octets_of (text_of w l))
 meant l (Order.Lost n) = lost n
-meant l (Order.Move b s e) = moves (form_of b) (octets_of (part s e l))
-meant l (Order.Layers s e) = layers (octets_of (part s e l))
-meant l (Order.Wrap r d s e) = wrap (octets_of (part r.start r.end l)) (octets_of (part d.start d.end l)) (octets_of (part s e l))
-meant l (Order.Unwrap s e) = unwrap (octets_of (part s e l))
-meant l (Order.Plan n s e) = plan n (octets_of (part s e l))
-meant l (Order.Vet n p s e) = vet n (octets_of (part p.start p.end l)) (octets_of (part s e l))
+meant l (Order.Move b w) = moves (form_of b) (octets_of (text_of w l))
+meant l (Order.Layers w) = layers (octets_of (text_of w l))
+meant l (Order.Wrap r d w) = wrap (octets_of (text_of r l)) (octets_of (text_of d l)) (octets_of (text_of w l))
+meant l (Order.Unwrap w) = unwrap (octets_of (text_of w l))
+meant l (Order.Plan n w) = plan n (octets_of (text_of w l))
+meant l (Order.Vet n p w) = vet n (octets_of (text_of p l)) (octets_of (text_of w l))
 
 abbrev pub SaveLies : Form → List ℕ → ℕ → ℕ → Type 0
 SaveLies f l s e = LiesTo (2 * save_limit f) l s e
@@ -37,25 +38,30 @@ InLine l Order.Blank = Unit
 InLine l Order.Bad = Unit
 InLine l (Order.Start n) = Unit
 InLine l (Order.Room n) = Unit
-InLine l (Order.Take n s e) = Lies l s e
-InLine l (Order.Join s e) = Lies l s e
-InLine l (Order.Leave s e) = Lies l s e
-InLine l (Order.Route s e n) = Lies l s e
+InLine l (Order.Take n w) = Lies l w.start w.end
+InLine l (Order.Join w) = Lies l w.start w.end
+InLine l (Order.Leave w) = Lies l w.start w.end
+InLine l (Order.Route w n) = Lies l w.start w.end
 InLine l (Order.Label n) = Unit
-InLine l (Order.Tree s e) = Lies l s e
+InLine l (Order.Tree w) = Lies l w.start w.end
 InLine l Order.Free = Unit
-InLine l (Order.Notice n k s e) = Lies l s e
+InLine l (Order.Notice n k w) = Lies l w.start w.end
 InLine l (Order.Save b) = Unit
-InLine l (Order.Restore b s e) = SaveLies (form_of b) l s e
+InLine l (Order.Restore b w) = SaveLies (form_of b) l w.start w.end
 InLine l (Order.Lost n) = Unit
-InLine l (Order.Move b s e) = SaveLies (form_of b) l s e
-InLine l (Order.Layers s e) = Lies l s e
-InLine l (Order.Wrap r d s e) = Lies l r.start r.end × Lies l d.start d.end × Lies l s e
-InLine l (Order.Unwrap s e) = Lies l s e
-InLine l (Order.Plan n s e) = Lies l s e
-InLine l (Order.Vet n p s e) = Lies l p.start p.end × Lies l s e
+InLine l (Order.Move b w) = SaveLies (form_of b) l w.start w.end
+InLine l (Order.Layers w) = Lies l w.start w.end
+InLine l (Order.Wrap r d w) = Lies l r.start r.end × Lies l d.start d.end × Lies l w.start w.end
+InLine l (Order.Unwrap w) = Lies l w.start w.end
+InLine l (Order.Plan n w) = Lies l w.start w.end
+InLine l (Order.Vet n p w) = Lies l p.start p.end × Lies l w.start w.end
 
 -- what is said is what the order means
 pub record Tells (l : List ℕ) (said : Said) (r : Order) : Type 0 where
   pub means : meant l r ≡ said
   pub lies : InLine l r
+
+-- the same, or there is no order where what is said is bad
+abbrev pub TellsIf : List ℕ → Said → Option Order → Type 0
+TellsIf l said None = said ≡ bad
+TellsIf l said (Some r) = Tells l said r

@@ -163,28 +163,12 @@ pub fn on_planned(
         ((number room : ℕ) → Says (reply_to number room c (meant line.now order)) result text.new c) }
 {
     match order {
-        Order::Plan {
-            neighbour,
-            start,
-            end,
-        } => on_plan(numbers, names, neighbour, &line[start..end], text),
+        Order::Plan { neighbour, hex } => on_plan(numbers, names, neighbour, hex.of(line), text),
         Order::Vet {
             neighbour,
             sets,
-            start,
-            end,
-        } => {
-            let from = sets.start;
-            let to = sets.end;
-            on_vet(
-                numbers,
-                names,
-                neighbour,
-                &line[from..to],
-                &line[start..end],
-                text,
-            )
-        }
+            hex,
+        } => on_vet(numbers, names, neighbour, sets.of(line), hex.of(line), text),
         _ => 0,
     }
 }

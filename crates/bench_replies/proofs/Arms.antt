@@ -28,23 +28,23 @@ by-tag Order.Blank = refl
 by-tag Order.Bad = refl
 by-tag (Order.Start n) = refl
 by-tag (Order.Room n) = refl
-by-tag (Order.Take n s e) = refl
-by-tag (Order.Join s e) = refl
-by-tag (Order.Leave s e) = refl
-by-tag (Order.Route s e n) = refl
+by-tag (Order.Take n w) = refl
+by-tag (Order.Join w) = refl
+by-tag (Order.Leave w) = refl
+by-tag (Order.Route w n) = refl
 by-tag (Order.Label n) = refl
-by-tag (Order.Tree s e) = refl
+by-tag (Order.Tree w) = refl
 by-tag Order.Free = refl
-by-tag (Order.Notice n k s e) = refl
+by-tag (Order.Notice n k w) = refl
 by-tag (Order.Save b) = refl
-by-tag (Order.Restore b s e) = refl
+by-tag (Order.Restore b w) = refl
 by-tag (Order.Lost n) = refl
-by-tag (Order.Move b s e) = refl
-by-tag (Order.Layers s e) = refl
-by-tag (Order.Wrap r d s e) = refl
-by-tag (Order.Unwrap s e) = refl
-by-tag (Order.Plan n s e) = refl
-by-tag (Order.Vet n p s e) = refl
+by-tag (Order.Move b w) = refl
+by-tag (Order.Layers w) = refl
+by-tag (Order.Wrap r d w) = refl
+by-tag (Order.Unwrap w) = refl
+by-tag (Order.Plan n w) = refl
+by-tag (Order.Vet n p w) = refl
 
 -- ---- the tags of a kind, and the others
 

@@ -186,10 +186,8 @@ pub fn on_saved(
 {
     match order {
         Order::Save(second) => on_save(numbers, names, second, room, text),
-        Order::Restore { second, start, end } => {
-            on_restore(numbers, names, second, &line[start..end], text)
-        }
-        Order::Move { second, start, end } => on_move(second, &line[start..end], room, text),
+        Order::Restore { second, hex } => on_restore(numbers, names, second, hex.of(line), text),
+        Order::Move { second, hex } => on_move(second, hex.of(line), room, text),
         _ => 0,
     }
 }

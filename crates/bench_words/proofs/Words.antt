@@ -9,13 +9,17 @@ use mathlib.Core.List.{List, [], ◌∷◌, ◌++◌, append_assoc}
 use lib.ListN.{length, take, drop, get_or, set, length-append, length-drop, drop_of_length-le}
 use lib.Seq.{drop-cons, drop-drop, get_or-drop, length-take-le, take_all, set_at, take_at}
 use lib.Dec.{eqb, leb, ltb}
-use borrow.Author.Tests.{eqb-true, eqb-false, eq-eqb, ne_eqb, leb-true, ltb-true, ltb-false, lt-ltb, le-ltb, not-true, not-false}
+use borrow.Author.Tests.{eqb-true, eqb-false, eq-eqb, ne_eqb, leb-true, ltb-true, ltb-false, lt-ltb, le-ltb, lt-leb, not-true, not-false}
 use Rattle.meaning.specs.Octets.{pick, same, all}
 use Rattle.meaning.specs.Lists.{by-test, same-eq, never}
 use Rattle.octets.proofs.Parts.{front, front-more}
-use Rattle.bench_words.specs.Words.{ascii, part, LiesTo, NextWord, Puts, is_gap, uncommented, lengthen, pieces, filled, words, is_digit, value_from, value, is_number, is_hex_digit, digit, is_hex_to, octets_of, glyph, hex_of, spell, numeral}
+use Rattle.bench_words.specs.Words.{ascii, part, LiesTo, NextWord, Puts, is_gap, uncommented, lengthen, pieces, filled, words, is_digit, is_upper, is_lower, value_from, value, is_number, is_hex_digit, digit, is_hex_to, octets_of, glyph, hex_of, spell, numeral}
 use Rattle.bench_words.specs.Scan.{is_letter, letters, number_in}
-use Rattle.bench_words.specs.declared.Number.{Number}
+use Rattle.std.specs.Prelude.{Option, None, Some}
+use Rattle.std.specs.Char.{is_ascii_hexdigit}
+use Rattle.std.specs.List.{list_all, prefix_len, take_while}
+use Rattle.std.proofs.lemmas.List.Folds.{length-prefix_len}
+use Rattle.std.proofs.lemmas.List.Sums.{prefix_len-le-length}
 
 -- what a call found, and how it was tested
 pub so : {r a b : Bool} → r ≡ a → r ≡ b → a ≡ b
@@ -118,22 +122,49 @@ next_word l from s e h k p g q m = record {
         let w : s + (e - s) ≡ e = omega arith in
         rw t (words-first (drop s l) pos ∙ rw (n, drop-drop (e - s) s l, w))
 
+-- ---- what stands at the front of a line
+
+letters_is : (l : List ℕ) → prefix_len is_letter l ≡ letters l
+unfolding letters
+letters_is [] = refl
+letters_is (c ∷ cs) =
+    let more : 1 + letters cs ≡ suc (letters cs) = omega arith in
+    by-test (is_letter c) (λ h. rw (h, letters_is cs) more) (λ h. rw h refl)
+
+gaps-words : (l : List ℕ) → words l ≡ words (drop (prefix_len is_gap l) l)
+gaps-words [] = refl
+gaps-words (c ∷ cs) =
+    let more : 1 + prefix_len is_gap cs ≡ suc (prefix_len is_gap cs) = omega arith in
+    by-test (is_gap c) (λ h. rw (h, more) (words-gap c cs h ∙ gaps-words cs)) (λ h. rw h refl)
+
+gaps_end : (l : List ℕ) → is_gap (get_or (drop (prefix_len is_gap l) l) 0 0) ≡ false
+gaps_end [] = refl
+gaps_end (c ∷ cs) =
+    let more : 1 + prefix_len is_gap cs ≡ suc (prefix_len is_gap cs) = omega arith in
+    by-test (is_gap c) (λ h. rw (h, more) (gaps_end cs)) (λ h. rw h h)
+
+-- so many of them stand at the front of a line's rest, and no more than it has
+front_of : (t : ℕ → Bool) (l : List ℕ) (n k : ℕ) → k ≡ length (take_while t (take (length l - n) (drop n l))) → (k ≡ prefix_len t (drop n l)) × (k ≤ length (drop n l))
+front_of t l n k e =
+    let all : take (length l - n) (drop n l) ≡ drop n l = take_all (length l - n) (drop n l) (rw length-drop (omega arith)) in
+    let q : k ≡ prefix_len t (drop n l) = rw (all, length-prefix_len t (drop n l)) at e in
+    (q, omega (arith, prefix_len-le-length t (drop n l)))
+
+pub next_word_at : (l : List ℕ) (from g e : ℕ) → from ≤ length l → g ≡ length (take_while is_gap (take (length l - from) (drop from l)))
+    → e ≡ length (take_while is_letter (take (length l - (from + g)) (drop (from + g) l))) → NextWord l from (from + g) (from + g + e)
+next_word_at l from g e h a b =
+    let p = front_of is_gap l from g a in
+    let q = front_of is_letter l (from + g) e b in
+    let d = length-drop from l in
+    let k = length-drop (from + g) l in
+    let behind : drop (prefix_len is_gap (drop from l)) (drop from l) ≡ drop (from + g) l = rw (← p.0) (drop-drop g from l) in
+    let w : words (drop from l) ≡ words (drop (from + g) l) = rw behind at (gaps-words (drop from l)) in
+    let s : is_gap (get_or (drop (from + g) l) 0 0) ≡ false = rw behind at (gaps_end (drop from l)) in
+    let s2 : is_gap (get_or l (from + g) 0) ≡ false = rw (get_or-drop (from + g) l 0 0, add-zero (from + g)) at s in
+    let f : e ≡ letters (drop (from + g) l) = q.0 ∙ letters_is (drop (from + g) l) in
+    next_word l from (from + g) (from + g + e) (omega arith) (omega arith) w s2 (rw f refl) (omega arith)
+
 -- ---- turns of a loop over a line
-
-pub gap_more : (l : List ℕ) (i : ℕ) → i < length l → is_gap (get_or l i 0) ≡ true → words (drop i l) ≡ words (drop (i + 1) l)
-gap_more l i h g = rw (drop-cons l i 0 h, add-one i) (words-gap (get_or l i 0) (drop (suc i) l) g)
-
-pub letter-more : (l : List ℕ) (i : ℕ) → i < length l → is_letter (get_or l i 0) ≡ true → letters (drop i l) ≡ suc (letters (drop (i + 1) l))
-unfolding letters
-letter-more l i h g = rw (drop-cons l i 0 h, add-one i, g)
-
-pub letter-stop : (l : List ℕ) (i : ℕ) → i < length l → is_letter (get_or l i 0) ≡ false → letters (drop i l) ≡ 0
-unfolding letters
-letter-stop l i h g = rw (drop-cons l i 0 h, g)
-
-pub letter-end : (l : List ℕ) (i : ℕ) → length l ≤ i → letters (drop i l) ≡ 0
-unfolding letters
-letter-end l i h = rw (drop_of_length-le l {i = i} h)
 
 pub all_more : (t : ℕ → Bool) (l : List ℕ) (i : ℕ) → i < length l → t (get_or l i 0) ≡ true → all t (drop i l) ≡ all t (drop (i + 1) l)
 unfolding all
@@ -229,6 +260,13 @@ between a c b e =
     (λ h. (leb-true a c h, leb-true c b (rw h at e)))
     (λ h. let z : false ≡ true = rw h at e in absurd (never z))
 
+beyond : (a c b : ℕ) → (a ≤ c → b < c) → (leb a c && leb c b) ≡ false
+beyond a c b f = by-test (leb a c) (λ h. rw (h, lt-leb c b (f (leb-true a c h)))) (λ h. rw h refl)
+
+pub no_digit : (c : ℕ) → (48 ≤ c → 57 < c) → (65 ≤ c → 70 < c) → (97 ≤ c → 102 < c) → (0 ≡ digit c) × (0 < 16)
+unfolding digit
+no_digit c f g h = (rw (beyond 48 c 57 f, beyond 65 c 70 g, beyond 97 c 102 h) refl, omega arith)
+
 -- ---- what was written to the front
 
 pub puts-front : (ys before after : List ℕ) (r i : ℕ) → r ≡ length ys → r ≤ length before → i ≡ r → after ≡ front i ys before → Puts ys before after r
@@ -250,30 +288,35 @@ front-two src d e u v i h k p q r =
 
 -- ---- numbers
 
-pub number-letter : (w : List ℕ) → all is_digit w ≡ false → number_in w ≡ Number.None
+pub number-letter : (w : List ℕ) → all is_digit w ≡ false → number_in w ≡ None
 unfolding number_in is_number
 number-letter w e = rw e
 
-pub number-large : (w : List ℕ) → 4294967296 ≤ value_from 0 w → number_in w ≡ Number.None
+pub number-large : (w : List ℕ) → 4294967296 ≤ value_from 0 w → number_in w ≡ None
 unfolding number_in is_number value
 number-large w h = by-test (all is_digit w) (λ t. rw (t, le-ltb (value_from 0 w) 4294967296 h)) (λ t. rw t)
 
-pub number_is : (w : List ℕ) (v : ℕ) → all is_digit w ≡ true → value_from 0 w ≡ v → v < 4294967296 → number_in w ≡ Number.Is v
+pub number_is : (w : List ℕ) (v : ℕ) → all is_digit w ≡ true → value_from 0 w ≡ v → v < 4294967296 → number_in w ≡ Some v
 unfolding number_in is_number value
 number_is w v e q h = rw (e, q, lt-ltb v 4294967296 h)
 
-pub number-value : (w : List ℕ) (n : ℕ) → number_in w ≡ Number.Is n → (is_number w ≡ true) × (value w ≡ n)
+pub number-value : (w : List ℕ) (n : ℕ) → number_in w ≡ Some n → (is_number w ≡ true) × (value w ≡ n)
 unfolding number_in
 number-value w n e =
     by-test (is_number w)
-    (λ t. (t, let q : Number.Is (value w) ≡ Number.Is n = rw t at e in cc))
-    (λ t. let q : Number.None ≡ Number.Is n = rw t at e in absurd (let z : ◌≡◌ {A = ℕ} 0 1 = cc in omega arith))
+    (λ t. (t, let q : Some (value w) ≡ Some n = rw t at e in cc))
+    (λ t. let q : None ≡ Some n = rw t at e in cc)
 
-pub number-none : (w : List ℕ) → number_in w ≡ Number.None → is_number w ≡ false
+pub number-none : (w : List ℕ) → number_in w ≡ None → is_number w ≡ false
 unfolding number_in
-number-none w e = by-test (is_number w) (λ t. let q : Number.Is (value w) ≡ Number.None = rw t at e in cc) (λ t. t)
+number-none w e = by-test (is_number w) (λ t. let q : Some (value w) ≡ None = rw t at e in cc) (λ t. t)
 
 -- ---- HEX
+
+pub hex-all : (w : List ℕ) → list_all is_ascii_hexdigit w ≡ all is_hex_digit w
+unfolding all
+hex-all [] = refl
+hex-all (c ∷ cs) = by-test (is_digit c) (λ h. rw (h, hex-all cs) refl) (λ h. by-test (is_upper c) (λ u. rw (h, u, hex-all cs) refl) (λ u. by-test (is_lower c) (λ w. rw (h, u, w, hex-all cs) refl) (λ w. rw (h, u, w) refl)))
 
 and_left : (a b : Bool) → (a && b) ≡ true → a ≡ true
 and_left true b e = refl
@@ -334,8 +377,8 @@ numeral-short (suc j) n h =
 
 -- ---- the next word, by its two ends
 
-pub word_none : {l : List ℕ} {from s e : ℕ} → NextWord l from s e → s ≡ e → words (drop from l) ≡ []
-word_none {l} {from} {s} {e} w q = w.found ∙ rw (eq-eqb s e q)
+pub word_none : {l : List ℕ} {from s e : ℕ} {b : Bool} → NextWord l from s e → b ≡ eqb s e → b ≡ true → words (drop from l) ≡ []
+word_none w p q = w.found ∙ rw (sym p ∙ q)
 
-pub word_some : {l : List ℕ} {from s e : ℕ} → NextWord l from s e → (s ≡ e → ⊥) → words (drop from l) ≡ part s e l ∷ words (drop e l)
-word_some {l} {from} {s} {e} w q = w.found ∙ rw (ne_eqb s e q)
+pub word_some : {l : List ℕ} {from s e : ℕ} {b : Bool} → NextWord l from s e → b ≡ eqb s e → b ≡ false → words (drop from l) ≡ part s e l ∷ words (drop e l)
+word_some w p q = w.found ∙ rw (sym p ∙ q)

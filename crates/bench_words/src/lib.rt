@@ -1,11 +1,12 @@
 // What a line of the bench program is made of: words, decimal numbers, octets as HEX; and texts, numbers and octets written.
 #![tactic(auto)]
 
-ghost use Rattle.std.specs.Prelude.{◌≡◌, false, ◌+◌, ◌*◌, ◌/◌, ◌≤◌, ◌<◌, length, take, drop, get_or};
-ghost use Rattle.meaning.specs.Octets.{all};
-ghost use Rattle.bench_words.specs.Words.{is_gap, words, is_digit, is_upper, is_lower, is_hex_digit, digit, is_hex_to, is_hex, octets_of};
+ghost use Rattle.std.specs.Prelude.{◌≡◌, eqb, ◌+◌, ◌*◌, ◌/◌, ◌≤◌, ◌<◌, length, take};
+ghost use Rattle.std.specs.List.{list_all, take_while};
+ghost use Rattle.std.specs.Char.{is_ascii_hexdigit};
+ghost use Rattle.bench_words.specs.Words.{is_gap, digit, is_hex_to, is_hex, octets_of};
 ghost use Rattle.bench_words.specs.Words.{NextWord, numeral, glyph as glyphOf, hex_of, Puts};
-ghost use Rattle.bench_words.specs.Scan.{is_letter, letters, number_in};
+ghost use Rattle.bench_words.specs.Scan.{Within, text_of, is_letter, number_in};
 
 // The most octets that an order brings, a save aside, and their digits, as specs/Words.antt has them.
 pub const INPUT_LIMIT: usize = 4096;
@@ -21,56 +22,56 @@ pub struct Word {
     pub end: usize,
 }
 
+impl Word {
+    pub fn is_empty(self) -> bool
+        ensures { result ≡ eqb self.start self.end }
+    {
+        self.start == self.end
+    }
+
+    // Its octets, of the line that it lies in.
+    pub fn of(self, line: &[u8]) -> &[u8]
+        requires { Within self line.now }
+        ensures { result.now ≡ text_of self line.now }
+    {
+        &line[self.start..self.end]
+    }
+}
+
 fn is_gap(c: u8) -> bool
     ensures { result ≡ is_gap c }
 {
-    (c == b' ') | (c == b'\t')
+    c == b' ' || c == b'\t'
 }
 
 // A letter of a word: no gap, and no `#`.
 fn is_letter(c: u8) -> bool
     ensures { result ≡ is_letter c }
 {
-    !((c == b'#') | ((c == b' ') | (c == b'\t')))
+    !(c == b'#' || is_gap(c))
 }
 
-fn after_gaps(line: &[u8], from: usize) -> usize
-    requires { from ≤ length line.now }
-    ensures lower_bound { (from ≤ result) × (result ≤ length line.now) × (words (drop from line.now) ≡ words (drop result line.now)) }
-    ensures result_value { is_gap (get_or line.now result 0) ≡ false }
+// How many gaps stand at the front, and how many letters.
+fn gaps(line: &[u8]) -> usize
+    ensures { result ≡ length (take_while is_gap line.now) }
 {
-    let mut i = from;
-    while i < line.len() {
-        if !is_gap(line[i]) {
-            return i;
-        }
-        i += 1;
-    }
-    i
+    line.iter().take_while(|c| is_gap(**c)).count()
 }
 
-fn word_end(line: &[u8], from: usize) -> usize
-    requires { from ≤ length line.now }
-    ensures { (result ≡ from + letters (drop from line.now)) × (result ≤ length line.now) }
+fn letters(line: &[u8]) -> usize
+    ensures { result ≡ length (take_while is_letter line.now) }
 {
-    let mut i = from;
-    while i < line.len() {
-        if !is_letter(line[i]) {
-            return i;
-        }
-        i += 1;
-    }
-    i
+    line.iter().take_while(|c| is_letter(**c)).count()
 }
 
 pub fn next_word(line: &[u8], from: usize) -> Word
     requires { from ≤ length line.now }
     ensures { NextWord line.now from result.start result.end }
 {
-    let start = after_gaps(line, from);
+    let start = from + gaps(&line[from..]);
     Word {
         start,
-        end: word_end(line, start),
+        end: start + letters(&line[start..]),
     }
 }
 
@@ -80,40 +81,23 @@ pub fn put_text(out: &mut [u8], text: &[u8]) -> usize
     ensures { Puts text.now out.old out.new result }
 {
     let n = text.len();
-    octets::copy(&mut out[..n], text);
+    out[..n].copy_from_slice(text);
     n
 }
 
 // ---- numbers
 
-#[derive(Clone, Copy)]
-pub enum Number {
-    None,
-    Is(u32),
-}
-
-fn is_digit(c: u8) -> bool
-    ensures { result ≡ is_digit c }
-{
-    (b'0' <= c) & (c <= b'9')
-}
-
-pub fn read_number(word: &[u8]) -> Number
+pub fn read_number(word: &[u8]) -> Option<u32>
     ensures { result ≡ number_in word.now }
 {
-    let mut value: u64 = 0;
-    let mut i = 0;
-    while i < word.len() {
-        if !is_digit(word[i]) {
-            return Number::None;
+    let mut value: u32 = 0;
+    for c in word {
+        if !c.is_ascii_digit() {
+            return None;
         }
-        value = value * 10 + (octets::at(word, i) - 48);
-        if 4294967295 < value {
-            return Number::None;
-        }
-        i += 1;
+        value = value.checked_mul(10)?.checked_add(u32::from(*c - b'0'))?;
     }
-    Number::Is(value as u32)
+    Some(value)
 }
 
 // n in decimal, to the front of `out`.
@@ -133,66 +117,28 @@ pub fn put_number(out: &mut [u8], n: u64) -> usize
 
 // ---- octets as HEX
 
-fn is_upper(c: u8) -> bool
-    ensures { result ≡ is_upper c }
-{
-    (b'A' <= c) & (c <= b'F')
-}
-
-fn is_lower(c: u8) -> bool
-    ensures { result ≡ is_lower c }
-{
-    (b'a' <= c) & (c <= b'f')
-}
-
-fn is_hex_digit(c: u8) -> bool
-    ensures { result ≡ is_hex_digit c }
-{
-    ((b'0' <= c) & (c <= b'9')) | (((b'A' <= c) & (c <= b'F')) | ((b'a' <= c) & (c <= b'f')))
-}
-
 fn digit_of(c: u8) -> u8
     ensures { (result ≡ digit c) × (result < 16) }
 {
-    if is_digit(c) {
-        return c - 48;
+    match c {
+        b'0'..=b'9' => c - b'0',
+        b'A'..=b'F' => c - b'A' + 10,
+        b'a'..=b'f' => c - b'a' + 10,
+        _ => 0,
     }
-    if is_upper(c) {
-        return c - 55;
-    }
-    if is_lower(c) {
-        return c - 87;
-    }
-    0
 }
 
 fn all_hex_digits(word: &[u8]) -> bool
-    ensures { result ≡ all is_hex_digit word.now }
+    ensures { result ≡ list_all is_ascii_hexdigit word.now }
 {
-    let mut i = 0;
-    while i < word.len() {
-        if !is_hex_digit(word[i]) {
-            return false;
-        }
-        i += 1;
-    }
-    true
+    word.iter().all(|c| c.is_ascii_hexdigit())
 }
 
 // HEX of at most so many digits.
 pub fn is_hex_to(word: &[u8], most: usize) -> bool
     ensures { result ≡ is_hex_to most word.now }
 {
-    if octets::equal(word, b"-") {
-        return true;
-    }
-    if most < word.len() {
-        return false;
-    }
-    if word.len() % 2 != 0 {
-        return false;
-    }
-    all_hex_digits(word)
+    octets::equal(word, b"-") || (word.len() <= most && word.len() % 2 == 0 && all_hex_digits(word))
 }
 
 pub fn is_hex(word: &[u8]) -> bool
@@ -208,10 +154,8 @@ pub fn decode_hex(hex: &[u8], out: &mut [u8]) -> usize
     ensures upper_bound { (result ≤ length out.new) × (result ≡ length (take result out.new)) }
 {
     let n = hex.len() / 2;
-    let mut i = 0;
-    while i < n {
+    for i in 0..n {
         out[i] = digit_of(hex[i * 2]) * 16 + digit_of(hex[i * 2 + 1]);
-        i += 1;
     }
     n
 }
@@ -220,10 +164,7 @@ fn glyph(d: u8) -> u8
     requires { d < 16 }
     ensures { result ≡ glyphOf d }
 {
-    if d < 10 {
-        return 48 + d;
-    }
-    87 + d
+    if d < 10 { b'0' + d } else { b'a' + (d - 10) }
 }
 
 // Octets as HEX in lower case, to the front of `out`.
@@ -232,11 +173,9 @@ pub fn put_hex(out: &mut [u8], octets: &[u8]) -> usize
     ensures puts { Puts (hex_of octets.now) out.old out.new result }
     ensures value { result ≡ length octets.now * 2 }
 {
-    let mut i = 0;
-    while i < octets.len() {
-        out[i * 2] = glyph(octets[i] / 16);
-        out[i * 2 + 1] = glyph(octets[i] % 16);
-        i += 1;
+    for (i, octet) in octets.iter().enumerate() {
+        out[i * 2] = glyph(*octet / 16);
+        out[i * 2 + 1] = glyph(*octet % 16);
     }
     octets.len() * 2
 }

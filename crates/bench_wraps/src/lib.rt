@@ -7,15 +7,13 @@ ghost use Rattle.meaning.specs.Card.{Card};
 ghost use Rattle.meaning_layers.specs.Layers.{unwrap};
 ghost use Rattle.bench_layers.specs.LayerText.{unwrap_line};
 ghost use Rattle.bench_lines.specs.Text.{text_space};
-ghost use Rattle.bench_words.specs.Words.{octets_of, hex_limit, Lies};
+ghost use Rattle.bench_words.specs.Words.{octets_of, hex_limit};
 ghost use Rattle.bench_verbs.specs.Line.{Said};
 ghost use Rattle.bench_orders.specs.Tells.{meant, InLine};
-ghost use Rattle.bench_orders.specs.declared.Order.{Order};
 ghost use Rattle.bench_replies.specs.Kinds.{Kind, kind_of};
 ghost use Rattle.bench_replies.specs.Reply.{reply_to, Says};
 
 use bench_orders::Order;
-use bench_words::Word;
 use meaning::NAME_LIMIT;
 
 fn output() -> [u8; NAME_LIMIT]
@@ -85,46 +83,17 @@ fn on_unwrap(hex: &[u8], room: u32, text: &mut [u8]) -> usize
     tell_unwrapped(&name[..n], bench_replies::lent(&mut out, room), text)
 }
 
-// The three words lie in the line.
-fn wrap_words(
-    line: &[u8],
-    root: Word,
-    eight: Word,
-    start: usize,
-    end: usize,
-    room: u32,
-    text: &mut [u8],
-) -> usize
-    requires { Lies line.now root.start root.end × Lies line.now eight.start eight.end × Lies line.now start end × (text_space ≤ length text.old) }
-    ensures { (number : ℕ) (c : Card) → Says (reply_to number room c (meant line.now (Order.Wrap root eight start end))) result text.new c }
-{
-    let root_start = root.start;
-    let root_end = root.end;
-    let eight_start = eight.start;
-    let eight_end = eight.end;
-    on_wrap(
-        &line[root_start..root_end],
-        &line[eight_start..eight_end],
-        &line[start..end],
-        room,
-        text,
-    )
-}
-
 // An order on layers: no other comes here.
 pub fn on_layered(line: &[u8], order: Order, room: u32, text: &mut [u8]) -> usize
     requires { InLine line.now order × (kind_of order ≡ Kind.layers) × (text_space ≤ length text.old) }
     ensures { (number : ℕ) (c : Card) → Says (reply_to number room c (meant line.now order)) result text.new c }
 {
     match order {
-        Order::Layers { start, end } => on_layers(&line[start..end], text),
-        Order::Wrap {
-            root,
-            eight,
-            start,
-            end,
-        } => wrap_words(line, root, eight, start, end, room, text),
-        Order::Unwrap { start, end } => on_unwrap(&line[start..end], room, text),
+        Order::Layers(hex) => on_layers(hex.of(line), text),
+        Order::Wrap { root, eight, hex } => {
+            on_wrap(root.of(line), eight.of(line), hex.of(line), room, text)
+        }
+        Order::Unwrap(hex) => on_unwrap(hex.of(line), room, text),
         _ => 0,
     }
 }

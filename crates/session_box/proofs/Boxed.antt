@@ -30,8 +30,8 @@ reply-on number b l a t = let told : told_of l ≡ meant l a = sym t.means in rw
 bench-only : (a : Ask) → is_own a ≡ false → a ≡ Ask.Bench
 unfolding is_own
 bench-only Ask.Bench e = refl
-bench-only (Ask.Octets n x y) e = let z : ◌≡◌ {A = ℕ} 0 1 = cc in absurd (omega arith)
-bench-only (Ask.Pack n x y) e = let z : ◌≡◌ {A = ℕ} 0 1 = cc in absurd (omega arith)
+bench-only (Ask.Octets n w) e = let z : ◌≡◌ {A = ℕ} 0 1 = cc in absurd (omega arith)
+bench-only (Ask.Pack n w) e = let z : ◌≡◌ {A = ℕ} 0 1 = cc in absurd (omega arith)
 bench-only (Ask.Lost n) e = let z : ◌≡◌ {A = ℕ} 0 1 = cc in absurd (omega arith)
 
 module _ (number room : ℕ) (c : Card) (streams : List Stream) (l : List ℕ) (a : Ask) (t : Tells l (told_of l) a) where

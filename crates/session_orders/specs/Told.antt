@@ -1,9 +1,8 @@
 -- What a line says to the session box: one of its own orders, or one of the bench. Assumes nothing.
-use Rattle.std.specs.Prelude.{ℕ, Bool, ◌||◌, List, [], ◌∷◌, length, leb, ltb}
+use Rattle.std.specs.Prelude.{ℕ, Bool, ◌||◌, List, [], ◌∷◌, Option, None, Some, length, leb, ltb}
 use Rattle.meaning.specs.Octets.{pick, same}
 use Rattle.bench_words.specs.Words.{ascii, words, value, is_number, is_hex, octets_of}
 use Rattle.bench_words.specs.Scan.{number_in}
-use Rattle.bench_words.specs.declared.Number.{Number}
 use Rattle.bench_verbs.specs.Line.{Said, line_limit, order_of}
 
 -- octets: of a neighbour's stream. pack: the messages to a neighbour in these records. lost: one of the neighbours that have a stream here.
@@ -30,10 +29,10 @@ number_hex (n ∷ h ∷ []) = pick (is_number n) (pick (is_hex h) (given (value 
 number_hex (n ∷ h ∷ w ∷ ws) = none
 
 -- a number alone
-unfoldable pub lone_number : List (List ℕ) → Number
-lone_number [] = Number.None
+unfoldable pub lone_number : List (List ℕ) → Option ℕ
+lone_number [] = None
 lone_number (n ∷ []) = number_in n
-lone_number (n ∷ w ∷ ws) = Number.None
+lone_number (n ∷ w ∷ ws) = None
 
 -- ---- the box's own orders; what is none of them is the bench's
 
@@ -50,9 +49,9 @@ pack_by other none = other
 pack_by other (given n o) = pack n o
 
 -- the loss of another neighbour empties no stream
-unfoldable pub lost_by : Told → Number → Told
-lost_by other Number.None = other
-lost_by other (Number.Is n) = pick (ltb n stream_count) (lost n) other
+unfoldable pub lost_by : Told → Option ℕ → Told
+lost_by other None = other
+lost_by other (Some n) = pick (ltb n stream_count) (lost n) other
 
 -- by what the bench reads in it: `octets` and `pack` are bad lines there
 unfoldable pub told_by : Told → List (List ℕ) → Told

@@ -21,6 +21,8 @@ use Rattle.session.specs.Session.{after_loss}
 use Rattle.session.specs.Lent.{stream_of}
 use Rattle.session.specs.Pack.{messages_to, packed, pack_refusal, packed_by, pack}
 use Rattle.bench_words.specs.Words.{ascii, part, octets_of, Puts, input_limit}
+use Rattle.bench_words.specs.Scan.{text_of}
+use Rattle.bench_words.specs.declared.Word.{Word}
 use Rattle.bench_verbs.specs.Line.{Said}
 use Rattle.bench_lines.specs.Text.{event_line, text_space}
 use Rattle.bench_replies.specs.Reply.{event_room, reply_to, Says}
@@ -86,8 +88,8 @@ says-loss n room c ns bs s h p t l number =
 pub own-told : (a : Ask) → OneOf (1 ∷ 2 ∷ 3 ∷ []) (tag_of the_type a) → true ≡ is_own a
 unfolding is_own
 own-told Ask.Bench h = absurd (miss (1 ∷ 2 ∷ 3 ∷ []) 0 tt h)
-own-told (Ask.Octets n s e) h = refl
-own-told (Ask.Pack n s e) h = refl
+own-told (Ask.Octets n w) h = refl
+own-told (Ask.Pack n w) h = refl
 own-told (Ask.Lost n) h = refl
 
 pub own-none : (a : Ask) → a ≡ Ask.Bench → false ≡ is_own a
@@ -109,11 +111,11 @@ unfolding box_after stream_at
 same-streams room c streams d h e = record { short = h; line = e; leaves = refl; next = refl; all = sym (set-get_or streams 0 empty) }
 
 module _ (room : ℕ) (c : Card) (streams : List Stream) (l : List ℕ) (a : Ask) where
-  pub own-octets : (n x e : ℕ) {place r : ℕ} {text : List ℕ} {c' : Card} {streams' : List Stream} → a ≡ Ask.Octets n x e → place ≡ stream_for (meant l (Ask.Octets n x e))
-      → ((number : ℕ) → BoxSays (box_on place number (box_of room c streams) (Told.octets n (octets_of (part x e l)))) r text c' room streams')
+  pub own-octets : (n : ℕ) (w : Word) {place r : ℕ} {text : List ℕ} {c' : Card} {streams' : List Stream} → a ≡ Ask.Octets n w → place ≡ stream_for (meant l (Ask.Octets n w))
+      → ((number : ℕ) → BoxSays (box_on place number (box_of room c streams) (Told.octets n (octets_of (text_of w l)))) r text c' room streams')
       → (number : ℕ) → BoxSays (box_on (stream_for (meant l a)) number (box_of room c streams) (meant l a)) r text c' room streams'
   unfolding meant
-  own-octets n x e q p h number = rw (q, ← p) (h number)
+  own-octets n w q p h number = rw (q, ← p) (h number)
 
   pub own-lost : (n : ℕ) {r : ℕ} {text : List ℕ} {c' : Card} {streams' : List Stream} → a ≡ Ask.Lost n
       → ((number : ℕ) → BoxSays (box_on n number (box_of room c streams) (Told.lost n)) r text c' room streams')
@@ -121,10 +123,10 @@ module _ (room : ℕ) (c : Card) (streams : List Stream) (l : List ℕ) (a : Ask
   unfolding meant stream_for
   own-lost n q h number = rw q (h number)
 
-  pub own-pack : (n x e : ℕ) {r : ℕ} {text : List ℕ} → a ≡ Ask.Pack n x e → r ≤ text_space
-      → take r text ≡ event_line (ascii "pack") (pack own n (pack_room room) (octets_of (part x e l))).answer (pack own n (pack_room room) (octets_of (part x e l))).octets
+  pub own-pack : (n : ℕ) (w : Word) {r : ℕ} {text : List ℕ} → a ≡ Ask.Pack n w → r ≤ text_space
+      → take r text ≡ event_line (ascii "pack") (pack own n (pack_room room) (octets_of (text_of w l))).answer (pack own n (pack_room room) (octets_of (text_of w l))).octets
       → (number : ℕ) → BoxSays (box_on (stream_for (meant l a)) number (box_of room c streams) (meant l a)) r text c room streams
   unfolding meant stream_for box_on done_by
-  own-pack n x e {r} q h g number =
+  own-pack n w {r} q h g number =
       let few : r ≤ turns_space = omega (arith, h) in
       rw q (same-streams room c streams _ few g)

@@ -24,8 +24,8 @@ box_of room c streams = record { card = c; room = room; streams = streams }
 
 unfoldable pub is_own : Ask → Bool
 is_own Ask.Bench = false
-is_own (Ask.Octets n s e) = true
-is_own (Ask.Pack n s e) = true
+is_own (Ask.Octets n w) = true
+is_own (Ask.Pack n w) = true
 is_own (Ask.Lost n) = true
 
 unfoldable pub box_on : ℕ → ℕ → Box → Told → BoxReply

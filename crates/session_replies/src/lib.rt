@@ -294,11 +294,7 @@ pub fn answer(
 {
     match ask {
         Ask::Bench => 0,
-        Ask::Octets {
-            neighbour,
-            start,
-            end,
-        } => {
+        Ask::Octets { neighbour, hex } => {
             let n = session_orders::stream_of(ask) as usize;
             on_octets(
                 numbers,
@@ -306,16 +302,12 @@ pub fn answer(
                 &mut streams[n],
                 &mut buffers[n],
                 neighbour,
-                &line[start..end],
+                hex.of(line),
                 room,
                 text,
             )
         }
-        Ask::Pack {
-            neighbour,
-            start,
-            end,
-        } => on_pack(neighbour, &line[start..end], room, text),
+        Ask::Pack { neighbour, hex } => on_pack(neighbour, hex.of(line), room, text),
         Ask::Lost(neighbour) => {
             let n = neighbour as usize;
             tell_loss(numbers, names, &mut streams[n], neighbour, room, text)

@@ -16,22 +16,13 @@ pub on_counted-requires : goal.on_counted-requires
 on_counted-requires c =
     (of-kind Kind.count c.args.order c.in-Bad.in-Bad-own.keys2, c.requires.1)
 
-pub slice_bounds-on_tree-count : goal.slice_bounds-on_tree-count
-slice_bounds-on_tree-count c =
-    (lies _ _ _ c.requires.0 c.in-Tree.is).0
-
-pub slice_bounds-on_tree-start : goal.slice_bounds-on_tree-start
-slice_bounds-on_tree-start c =
-    (lies _ _ _ c.requires.0 c.in-Tree.is).0
-
-pub slice_bounds-on_tree-end : goal.slice_bounds-on_tree-end
-slice_bounds-on_tree-end c =
-    (lies _ _ _ c.requires.0 c.in-Tree.is).1
+pub of-requires : goal.of-requires
+of-requires c =
+    let word = lies _ _ _ c.requires.0 c.in-Tree.is in
+    (word.0, word.1)
 
 pub on_tree-requires : goal.on_tree-requires
-on_tree-requires c =
-    let the-order2 = c.in-Tree in
-    (part-short _ _ _ _ (lies _ _ _ c.requires.0 the-order2.is), c.requires.1)
+on_tree-requires c = (rw c.of.ensures (part-short _ _ _ _ (lies _ _ _ c.requires.0 c.in-Tree.is)), c.requires.1)
 
 pub on_saved-requires : goal.on_saved-requires
 on_saved-requires c =
@@ -65,8 +56,7 @@ returns-in-Label c =
 pub returns-in-Tree : goal.returns-in-Tree
 unfolding meant
 returns-in-Tree c =
-    let the-order2 = c.in-Tree in
-    rw the-order2.is (c.on_tree.ensures _ _)
+    rw c.in-Tree.is (rw c.of.ensures at (c.on_tree.ensures c.args.number c.args.room))
 
 pub returns-in-Save : goal.returns-in-Save
 returns-in-Save c = c.on_saved.ensures _

@@ -1,70 +1,58 @@
-use mathlib.Core.Path.{refl, ◌∙◌}
-use lib.ListN.{take}
+use Rattle.std.proofs.Common.{refl, sym, ◌∙◌}
+use borrow.Enum.Refused.{opened}
 use Rattle.bench_verbs.specs.Line.{Said, does}
 use Rattle.bench_orders.specs.Tells.{meant}
-use Rattle.bench_orders.proofs.Verbs.{one_number, no_number, first-hex, no-first-hex, hex-behind, number-hex, no-number-hex, lies, two-bad}
-use borrow.Author.Rules.{rules}
-use borrow.Enum.Refused.{opened}
+use Rattle.bench_orders.proofs.Verbs.{number-of, no_number, number-then, no-number-then, found, not-found, hex-of, no-hex, hex-then, no-hex-then, two-bad}
 use Rattle.bench_orders.proofs.with_two.Goals as goal
 
-pub returns-in_default-number_with_hex : goal.returns-in_default-number_with_hex
+pub returns-in_err-number_at-in-Take : goal.returns-in_err-number_at-in-Take
 unfolding does meant
-returns-in_default-number_with_hex c =
-    record {
-      means = rw c.in-Take.is (no-number-hex Said.take _ _ _ c.number_with_hex.ensures c.in_default-number_with_hex.is);
-      lies = tt;
-    }
+returns-in_err-number_at-in-Take c = rw (c.from_residual.ensures, c.in-Take.is) (no-number-then Said.take _ _ (sym c.number_at.ensures ∙ c.in_err-number_at-in-Take.was))
 
-pub returns-in_default-read_number : goal.returns-in_default-read_number
+pub returns-in_err-hex_at-in-Take : goal.returns-in_err-hex_at-in-Take
 unfolding does meant
-returns-in_default-read_number c =
-    let the-is-hex = c.is_hex in
-    let the-if1 = c.if-is_hex in
-    record {
-      means = rw c.in-Route.is (no_number _ _ _ c.read_number.ensures c.in_default-read_number.is ∙ first-hex Said.route _ _ _ the-is-hex.ensures the-if1.true);
-      lies = tt;
-    }
+returns-in_err-hex_at-in-Take c = 
+    rw (c.from_residual-in_err-hex_at-in-Take.ensures, c.in-Take.is)
+    (number-then Said.take _ _ _ (sym c.number_at.ensures ∙ c.in_ok-number_at-in-Take.was) ∙ no-hex _ _ (not-found c.args.line.now c.args.second _ c.hex_at.ensures c.in_err-hex_at-in-Take.was))
 
-pub returns-then-is_hex : goal.returns-then-is_hex
+pub returns-in_ok-hex_at-in-Take : goal.returns-in_ok-hex_at-in-Take
 unfolding does meant
-returns-then-is_hex c =
-    let the-if1 = c.if-is_hex in
-    record {
-      means = rw c.in-Route.is (one_number _ _ _ _ c.read_number.ensures c.in-Is-read_number.is ∙ first-hex Said.route _ _ _ c.is_hex.ensures the-if1.true);
-      lies = lies _ _ _ _ c.requires.0 c.requires.1 c.is_hex.ensures the-if1.true;
-    }
+returns-in_ok-hex_at-in-Take c = 
+    let h = found _ _ _ _ c.requires.1 c.hex_at.ensures c.in_ok-hex_at-in-Take.was in
+    record { means = rw c.in-Take.is (sym (number-then Said.take _ _ _ (sym c.number_at.ensures ∙ c.in_ok-number_at-in-Take.was) ∙ hex-of _ _ _ _ h)); lies = h.lies }
 
-pub returns-in_default-number_with_hex-2 : goal.returns-in_default-number_with_hex-2
+pub returns-in_err-hex_at-in-Route : goal.returns-in_err-hex_at-in-Route
 unfolding does meant
-returns-in_default-number_with_hex-2 c =
-    record {
-      means = rw c.in-Plan.is (no-number-hex Said.plan _ _ _ c.number_with_hex-in-Plan.ensures c.in_default-number_with_hex-2.is);
-      lies = tt;
-    }
+returns-in_err-hex_at-in-Route c = rw (c.from_residual-in_err-hex_at-in-Route.ensures, c.in-Route.is) (no-hex-then Said.route _ _ (not-found c.args.line.now c.args.first _ c.hex_at-in-Route.ensures c.in_err-hex_at-in-Route.was))
 
-pub returns-in-Is : goal.returns-in-Is
+pub returns-in_err-number_at-in-Route : goal.returns-in_err-number_at-in-Route
 unfolding does meant
-returns-in-Is c =
-    record {
-      means = rw c.in-Take.is (number-hex Said.take _ _ _ _ c.number_with_hex.ensures c.in-Is.is);
-      lies = lies _ _ _ _ c.requires.2 c.requires.3 refl (hex-behind _ _ _ _ c.number_with_hex.ensures c.in-Is.is);
-    }
+returns-in_err-number_at-in-Route c = 
+    let h = found _ _ _ _ c.requires.0 c.hex_at-in-Route.ensures c.in_ok-hex_at-in-Route.was in
+    rw (c.from_residual-in_err-number_at-in-Route.ensures, c.in-Route.is)
+    (hex-then Said.route _ _ _ _ h ∙ no_number _ _ (sym c.number_at-in-Route.ensures ∙ c.in_err-number_at-in-Route.was))
 
-pub returns-else-is_hex : goal.returns-else-is_hex
+pub returns-in_ok-number_at-in-Route : goal.returns-in_ok-number_at-in-Route
 unfolding does meant
-returns-else-is_hex c =
-    record {
-      means = rw c.in-Route.is (no-first-hex Said.route _ _ _ c.is_hex.ensures c.if-is_hex.false);
-      lies = tt;
-    }
+returns-in_ok-number_at-in-Route c = 
+    let h = found _ _ _ _ c.requires.0 c.hex_at-in-Route.ensures c.in_ok-hex_at-in-Route.was in
+    record { means = rw c.in-Route.is (sym (hex-then Said.route _ _ _ _ h ∙ number-of _ _ _ (sym c.number_at-in-Route.ensures ∙ c.in_ok-number_at-in-Route.was))); lies = h.lies }
 
-pub returns-in-Is-number_with_hex : goal.returns-in-Is-number_with_hex
+pub returns-in_err-number_at-in-Plan : goal.returns-in_err-number_at-in-Plan
 unfolding does meant
-returns-in-Is-number_with_hex c =
-    record {
-      means = rw c.in-Plan.is (number-hex Said.plan _ _ _ _ c.number_with_hex-in-Plan.ensures c.in-Is-number_with_hex.is);
-      lies = lies _ _ _ _ c.requires.2 c.requires.3 refl (hex-behind _ _ _ _ c.number_with_hex-in-Plan.ensures c.in-Is-number_with_hex.is);
-    }
+returns-in_err-number_at-in-Plan c = rw (c.from_residual-in_err-number_at-in-Plan.ensures, c.in-Plan.is) (no-number-then Said.plan _ _ (sym c.number_at-in-Plan.ensures ∙ c.in_err-number_at-in-Plan.was))
+
+pub returns-in_err-hex_at-in-Plan : goal.returns-in_err-hex_at-in-Plan
+unfolding does meant
+returns-in_err-hex_at-in-Plan c = 
+    rw (c.from_residual-in_err-hex_at-in-Plan.ensures, c.in-Plan.is)
+    (number-then Said.plan _ _ _ (sym c.number_at-in-Plan.ensures ∙ c.in_ok-number_at-in-Plan.was) ∙ no-hex _ _ (not-found c.args.line.now c.args.second _ c.hex_at-in-Plan.ensures c.in_err-hex_at-in-Plan.was))
+
+pub returns-in_ok-hex_at-in-Plan : goal.returns-in_ok-hex_at-in-Plan
+unfolding does meant
+returns-in_ok-hex_at-in-Plan c = 
+    let h = found _ _ _ _ c.requires.1 c.hex_at-in-Plan.ensures c.in_ok-hex_at-in-Plan.was in
+    record { means = rw c.in-Plan.is (sym (number-then Said.plan _ _ _ (sym c.number_at-in-Plan.ensures ∙ c.in_ok-number_at-in-Plan.was) ∙ hex-of _ _ _ _ h)); lies = h.lies }
 
 pub returns-in_default : goal.returns-in_default
-returns-in_default c = two-bad _ c.args.verb _ _ (opened c.in_default.in_default-own.keys4)
+returns-in_default c = two-bad c.args.verb _ _ (opened c.in_default.in_default-own.keys4)

@@ -1,16 +1,9 @@
-use Rattle.bench_words.proofs.Words.{octets-length, octets-at, puts-front}
-use Prim.Native.Nat.{◌-◌, ◌/◌, ◌≤◌, ◌<◌}
-use native.Mathlib.Omega.{arith}
-use mathlib.Core.Path.{◌≡◌, refl, sym}
-use lib.ListN.{length, length-set}
-use borrow.Author.Rules.{rules}
-use Rattle.octets.proofs.Parts.{front, front-more}
+use Rattle.std.proofs.Common.{◌≡◌, ◌<◌, ◌≤◌, ◌/◌, sym, length, arith}
+use Rattle.std.proofs.lemmas.List.{length-take-le}
+use Rattle.octets.proofs.Parts.{front-more}
 use Rattle.bench_words.specs.Words.{octets_of}
-use lib.Seq.{length-take-le}
+use Rattle.bench_words.proofs.Words.{octets-length, octets-at, puts-front}
 use Rattle.bench_words.proofs.decode_hex.Goals as goal
-
-pub loop-i-init : goal.loop-i-init
-loop-i-init c = (omega arith, refl, refl)
 
 pub loop-i-preserved : goal.loop-i-preserved
 loop-i-preserved c =
@@ -19,13 +12,14 @@ loop-i-preserved c =
     let k : the-loop.i < length (octets_of c.args.hex.now) = omega (arith, octets-length c.args.hex.now) in
     let d = c.digit_of.ensures.0 in
     let e = c.digit_of-in-loop-i.ensures.0 in
-    (omega arith, simp length-set the-loop.invariant.1, front-more (octets_of c.args.hex.now) c.args.out.now the-loop.out 0 _ the-loop.i k (omega arith) the-loop.invariant.2 (rw (d, e) (sym (octets-at c.args.hex.now the-loop.i h))))
-
-pub shape_of-out : goal.shape_of-out
-shape_of-out c = c.loop-i.invariant.1
+    front-more (octets_of c.args.hex.now) c.args.out.now the-loop.out 0 _ the-loop.i k (omega arith) the-loop.invariant (rw (d, e) (sym (octets-at c.args.hex.now the-loop.i h)))
 
 pub returns : goal.returns
 returns c =
     let a = c.args in
     let n = length a.hex.now / 2 in
-    let w : n ≤ length c.loop-i.out = omega arith in record { puts = puts-front (octets_of a.hex.now) a.out.now c.loop-i.out n c.loop-i.i (sym (octets-length a.hex.now)) (omega arith) (omega arith) c.loop-i.invariant.2; upper_bound = (w, sym (length-take-le n c.loop-i.out w)) }
+    let w : n ≤ length c.loop-i.out = omega arith in
+    record {
+      puts = puts-front (octets_of a.hex.now) a.out.now c.loop-i.out n c.loop-i.i (sym (octets-length a.hex.now)) (omega arith) (omega arith) c.loop-i.invariant;
+      upper_bound = (w, sym (length-take-le n c.loop-i.out w));
+    }

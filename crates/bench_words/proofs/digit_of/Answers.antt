@@ -1,56 +1,31 @@
-use native.Mathlib.Omega.{arith}
-use mathlib.Core.Path.{◌≡◌, refl, sym, ◌∙◌}
-use mathlib.Core.Bool.{true, false}
-use Rattle.bench_words.specs.Words.{digit, is_digit, is_upper, is_lower}
-use Rattle.bench_words.proofs.Words.{between}
-use borrow.Author.Rules.{rules}
+use Rattle.std.proofs.Common.{arith}
+use borrow.Author.Tests.{le-leb, lt-leb}
+use Rattle.bench_words.specs.Words.{digit}
+use Rattle.bench_words.proofs.Words.{no_digit}
 use Rattle.bench_words.proofs.digit_of.Goals as goal
 
-pub overflow_sub-result : goal.overflow_sub-result
-overflow_sub-result c = (between 48 c.args.c 57 (sym c.is_digit.ensures ∙ c.if-is_digit.true)).0
-
-pub returns-then-is_digit : goal.returns-then-is_digit
+pub returns-in-48-to-57 : goal.returns-in-48-to-57
 unfolding digit
-returns-then-is_digit c =
-    let d : is_digit c.args.c ≡ true = sym c.is_digit.ensures ∙ c.if-is_digit.true in
-    let b = between 48 c.args.c 57 d in
-    (rw d refl, omega arith)
+returns-in-48-to-57 c = (rw (le-leb 48 c.args.c (omega arith), le-leb c.args.c 57 (omega arith)), omega arith)
 
-pub overflow_sub-result-then-is_upper : goal.overflow_sub-result-then-is_upper
-overflow_sub-result-then-is_upper c =
-    let b = between 65 c.args.c 70 (sym c.is_upper.ensures ∙ c.if-is_upper.true) in
-    omega arith
-
-pub returns-then-is_upper : goal.returns-then-is_upper
+pub returns-in-65-to-70 : goal.returns-in-65-to-70
 unfolding digit
-returns-then-is_upper c =
-    let d : is_digit c.args.c ≡ false = sym c.is_digit.ensures ∙ c.if-is_digit.false in
-    let u : is_upper c.args.c ≡ true = sym c.is_upper.ensures ∙ c.if-is_upper.true in
-    let b = between 65 c.args.c 70 u in
-    (rw (d, u) refl, omega arith)
+returns-in-65-to-70 c =
+    (rw (le-leb 48 c.args.c (omega arith), lt-leb c.args.c 57 (omega arith), le-leb 65 c.args.c (omega arith), le-leb c.args.c 70 (omega arith)) (omega arith), omega arith)
 
-pub overflow_sub-result-then-is_lower : goal.overflow_sub-result-then-is_lower
-overflow_sub-result-then-is_lower c =
-    let b = between 97 c.args.c 102 (sym c.is_lower.ensures ∙ c.if-is_lower.true) in
-    omega arith
-
-pub returns-then-is_lower : goal.returns-then-is_lower
+pub returns-in-97-to-102 : goal.returns-in-97-to-102
 unfolding digit
-returns-then-is_lower c =
-    let the-is-digit = c.is_digit in
-    let the-if1 = c.if-is_digit in
-    let d : is_digit c.args.c ≡ false = sym the-is-digit.ensures ∙ the-if1.false in
-    let u : is_upper c.args.c ≡ false = sym c.is_upper.ensures ∙ c.if-is_upper.false in
-    let l : is_lower c.args.c ≡ true = sym c.is_lower.ensures ∙ c.if-is_lower.true in
-    let b = between 97 c.args.c 102 l in
-    (rw (d, u, l) refl, omega arith)
+returns-in-97-to-102 c =
+    (rw (le-leb 48 c.args.c (omega arith), lt-leb c.args.c 57 (omega arith), le-leb 65 c.args.c (omega arith), lt-leb c.args.c 70 (omega arith), le-leb 97 c.args.c (omega arith), le-leb c.args.c 102 (omega arith)) (omega arith), omega arith)
 
-pub returns : goal.returns
-unfolding digit
-returns c =
-    let the-is-digit = c.is_digit in
-    let the-if1 = c.if-is_digit in
-    let d : is_digit c.args.c ≡ false = sym the-is-digit.ensures ∙ the-if1.false in
-    let u : is_upper c.args.c ≡ false = sym c.is_upper.ensures ∙ c.if-is_upper.false in
-    let l : is_lower c.args.c ≡ false = sym c.is_lower.ensures ∙ c.if-is_lower.false in
-    (rw (d, u, l) refl, omega arith)
+pub returns-in_default : goal.returns-in_default
+returns-in_default c = no_digit c.args.c (λ h. omega arith) (λ h. omega arith) (λ h. omega arith)
+
+pub returns-in_default-2 : goal.returns-in_default-2
+returns-in_default-2 c = no_digit c.args.c (λ h. omega arith) (λ h. omega arith) (λ h. omega arith)
+
+pub returns-in_default-3 : goal.returns-in_default-3
+returns-in_default-3 c = no_digit c.args.c (λ h. omega arith) (λ h. omega arith) (λ h. omega arith)
+
+pub returns-in_default-4 : goal.returns-in_default-4
+returns-in_default-4 c = no_digit c.args.c (λ h. omega arith) (λ h. omega arith) (λ h. omega arith)

@@ -1,27 +1,28 @@
-use native.Mathlib.Omega.{arith}
-use lib.ListN.{length}
-use borrow.Author.Tests.{eq-eqb, ne_eqb, le-leb, lt-leb}
+use Rattle.std.proofs.Common.{◌≡◌, false, true, length, sym, ◌∙◌}
+use borrow.Author.Tests.{le-leb, lt-leb}
 use Rattle.bench_words.specs.Words.{ascii, is_hex_to}
-use Rattle.bench_words.proofs.Words.{so}
-use borrow.Author.Rules.{rules}
+use Rattle.bench_words.proofs.Words.{so, hex-all}
 use Rattle.bench_words.proofs.is_hex_to.Goals as goal
+use Rattle.bench_words.proofs.is_hex_to.Goals.{then-word-most, else-word-most}
 
 pub returns-then-equal : goal.returns-then-equal
 unfolding is_hex_to ascii
-returns-then-equal c = rw (so c.equal.ensures c.if-equal.true)
+returns-then-equal c = rw (so c.equal.ensures c.if-equal.true) c.if-equal.true
 
-pub returns-then-most-word : goal.returns-then-most-word
+pub returns-then-word-eq0 : goal.returns-then-word-eq0
 unfolding is_hex_to ascii
-returns-then-most-word c =
-    rw (so c.equal.ensures c.if-equal.false, lt-leb (length c.args.word.now) c.args.most (omega arith))
+returns-then-word-eq0 c =
+    let n = length c.args.word.now in
+    elim c.if-word-most.branch [
+      | then-word-most w ↦ rw (so c.equal.ensures c.if-equal.false, le-leb n c.args.most w.if-word-most.true, sym w.value-is ∙ c.if-word-eq0.true) (c.all_hex_digits.ensures ∙ hex-all c.args.word.now)
+      | else-word-most w ↦ let z : false ≡ true = sym (lt-leb n c.args.most w.if-word-most.false) ∙ sym w.value-is ∙ c.if-word-eq0.true in cc
+    ]
 
-pub returns-then-word-ne0 : goal.returns-then-word-ne0
+pub returns-else-word-eq0 : goal.returns-else-word-eq0
 unfolding is_hex_to ascii
-returns-then-word-ne0 c =
-    rw (so c.equal.ensures c.if-equal.false, le-leb (length c.args.word.now) c.args.most (omega arith), ne_eqb _ _ c.if-word-ne0.true)
-
-pub returns : goal.returns
-unfolding is_hex_to ascii
-returns c =
-    let the-equal = c.equal in
-    rw (so the-equal.ensures c.if-equal.false, le-leb (length c.args.word.now) c.args.most (omega arith), eq-eqb _ _ c.if-word-ne0.false) c.all_hex_digits.ensures
+returns-else-word-eq0 c =
+    let n = length c.args.word.now in
+    elim c.if-word-most.branch [
+      | then-word-most w ↦ rw (so c.equal.ensures c.if-equal.false, le-leb n c.args.most w.if-word-most.true, sym w.value-is ∙ c.if-word-eq0.false) c.if-word-eq0.false
+      | else-word-most w ↦ rw (so c.equal.ensures c.if-equal.false, lt-leb n c.args.most w.if-word-most.false) c.if-word-eq0.false
+    ]

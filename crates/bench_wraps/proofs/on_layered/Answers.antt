@@ -4,63 +4,61 @@ use Rattle.bench_replies.specs.Kinds.{Kind}
 use Rattle.bench_replies.proofs.Arms.{of_others}
 use Rattle.bench_replies.proofs.Reply.{lies}
 use Rattle.bench_words.proofs.Words.{part-short}
-use borrow.Author.Rules.{rules}
 use borrow.Enum.Refused.{opened}
 use Rattle.bench_wraps.proofs.on_layered.Goals as goal
 
-pub slice_bounds-on_layers-count : goal.slice_bounds-on_layers-count
-slice_bounds-on_layers-count c =
-    (lies _ _ _ c.requires.0 c.in-Layers.is).0
-
-pub slice_bounds-on_layers-start : goal.slice_bounds-on_layers-start
-slice_bounds-on_layers-start c =
-    (lies _ _ _ c.requires.0 c.in-Layers.is).0
-
-pub slice_bounds-on_layers-end : goal.slice_bounds-on_layers-end
-slice_bounds-on_layers-end c =
-    (lies _ _ _ c.requires.0 c.in-Layers.is).1
+pub of-requires : goal.of-requires
+of-requires c =
+    let word = lies _ _ _ c.requires.0 c.in-Layers.is in
+    (word.0, word.1)
 
 pub on_layers-requires : goal.on_layers-requires
-on_layers-requires c =
-    (part-short _ _ _ _ (lies _ _ _ c.requires.0 c.in-Layers.is), c.requires.2)
+on_layers-requires c = (rw c.of.ensures (part-short _ _ _ _ (lies _ _ _ c.requires.0 c.in-Layers.is)), c.requires.2)
 
-pub wrap_words-requires : goal.wrap_words-requires
-wrap_words-requires c =
+pub of-requires-in-Wrap : goal.of-requires-in-Wrap
+of-requires-in-Wrap c =
     let words = lies _ _ _ c.requires.0 c.in-Wrap.is in
-    (words.0, words.1, words.2, c.requires.2)
+    (words.0.0, words.0.1)
 
-pub slice_bounds-on_unwrap-count : goal.slice_bounds-on_unwrap-count
-slice_bounds-on_unwrap-count c =
-    (lies _ _ _ c.requires.0 c.in-Unwrap.is).0
+pub of-requires-in-Wrap-2 : goal.of-requires-in-Wrap-2
+of-requires-in-Wrap-2 c =
+    let words = lies _ _ _ c.requires.0 c.in-Wrap.is in
+    (words.1.0, words.1.1)
 
-pub slice_bounds-on_unwrap-start : goal.slice_bounds-on_unwrap-start
-slice_bounds-on_unwrap-start c =
-    (lies _ _ _ c.requires.0 c.in-Unwrap.is).0
+pub of-requires-in-Wrap-3 : goal.of-requires-in-Wrap-3
+of-requires-in-Wrap-3 c =
+    let words = lies _ _ _ c.requires.0 c.in-Wrap.is in
+    (words.2.0, words.2.1)
 
-pub slice_bounds-on_unwrap-end : goal.slice_bounds-on_unwrap-end
-slice_bounds-on_unwrap-end c =
-    (lies _ _ _ c.requires.0 c.in-Unwrap.is).1
+pub on_wrap-requires : goal.on_wrap-requires
+on_wrap-requires c =
+    let words = lies _ _ _ c.requires.0 c.in-Wrap.is in
+    (
+      rw c.of-in-Wrap.ensures (part-short _ _ _ _ words.0),
+      rw c.of-in-Wrap-2.ensures (part-short _ _ _ _ words.1),
+      rw c.of-in-Wrap-3.ensures (part-short _ _ _ _ words.2),
+      c.requires.2,
+    )
+
+pub of-requires-in-Unwrap : goal.of-requires-in-Unwrap
+of-requires-in-Unwrap c =
+    let word = lies _ _ _ c.requires.0 c.in-Unwrap.is in
+    (word.0, word.1)
 
 pub on_unwrap-requires : goal.on_unwrap-requires
-on_unwrap-requires c =
-    (part-short _ _ _ _ (lies _ _ _ c.requires.0 c.in-Unwrap.is), c.requires.2)
+on_unwrap-requires c = (rw c.of-in-Unwrap.ensures (part-short _ _ _ _ (lies _ _ _ c.requires.0 c.in-Unwrap.is)), c.requires.2)
 
 pub returns-in-Layers : goal.returns-in-Layers
 unfolding meant
-returns-in-Layers c =
-    let the-order = c.in-Layers in
-    λ number d. rw the-order.is (c.on_layers.ensures number _ d)
+returns-in-Layers c = λ number d. rw c.in-Layers.is (rw c.of.ensures at (c.on_layers.ensures number c.args.room d))
 
 pub returns-in-Wrap : goal.returns-in-Wrap
-returns-in-Wrap c =
-    let the-order2 = c.in-Wrap in
-    λ number d. rw the-order2.is (c.wrap_words.ensures number d)
+unfolding meant
+returns-in-Wrap c = λ number d. rw c.in-Wrap.is (rw (c.of-in-Wrap.ensures, c.of-in-Wrap-2.ensures, c.of-in-Wrap-3.ensures) at (c.on_wrap.ensures number d))
 
 pub returns-in-Unwrap : goal.returns-in-Unwrap
 unfolding meant
-returns-in-Unwrap c =
-    let the-order3 = c.in-Unwrap in
-    λ number d. rw the-order3.is (c.on_unwrap.ensures number d)
+returns-in-Unwrap c = λ number d. rw c.in-Unwrap.is (rw c.of-in-Unwrap.ensures at (c.on_unwrap.ensures number d))
 
 pub returns-in_default : goal.returns-in_default
 returns-in_default c = λ number d. absurd (of_others Kind.layers c.args.order (opened c.in_default.in_default-own.keys4) c.requires.1)

@@ -1,22 +1,21 @@
 use Rattle.bench_words.proofs.Words.{word_none, word_some}
 use Rattle.session_orders.specs.Told.{lone_number}
-use borrow.Author.Rules.{rules}
 use Rattle.session_orders.proofs.lone_number.Goals as goal
 
-pub returns-then-start-end : goal.returns-then-start-end
+pub returns-then-is_empty : goal.returns-then-is_empty
 unfolding lone_number
-returns-then-start-end c = rw (word_none c.next_word-first.ensures c.if-start-end.true)
+returns-then-is_empty c = rw (word_none c.next_word-first.ensures c.is_empty.ensures c.if-is_empty.true)
 
-pub returns-then-second : goal.returns-then-second
+pub returns-then-is_empty-2 : goal.returns-then-is_empty-2
 unfolding lone_number
-returns-then-second c =
-    let the-next-word = c.next_word-first in
-    let the-if1 = c.if-start-end in
-    let the-next-word2 = c.next_word-second in
-    rw (word_some the-next-word.ensures the-if1.false, word_none the-next-word2.ensures c.if-second.true) c.read_number.ensures
+returns-then-is_empty-2 c =
+    rw (
+      word_some c.next_word-first.ensures c.is_empty.ensures c.if-is_empty.false,
+      word_none c.next_word-second.ensures c.is_empty-2.ensures c.if-is_empty-2.true,
+      ← c.of.ensures,
+    ) c.read_number.ensures
 
 pub returns : goal.returns
 unfolding lone_number
 returns c =
-    let the-next-word = c.next_word-first in
-    rw (word_some the-next-word.ensures c.if-start-end.false, word_some c.next_word-second.ensures c.if-second.false)
+    rw (word_some c.next_word-first.ensures c.is_empty.ensures c.if-is_empty.false, word_some c.next_word-second.ensures c.is_empty-2.ensures c.if-is_empty-2.false)

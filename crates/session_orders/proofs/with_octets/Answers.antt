@@ -1,20 +1,12 @@
-use mathlib.Core.Path.{refl}
-use Rattle.session_orders.specs.Told.{may_offer}
+use Rattle.std.proofs.Common.{sym, ◌∙◌}
 use Rattle.session_orders.proofs.Asked.{octets-none, octets-taken, octets-passed}
-use borrow.Author.Rules.{rules}
 use Rattle.session_orders.proofs.with_octets.Goals as goal
 
-pub returns-in_default : goal.returns-in_default
-returns-in_default c = octets-none _ _ _ c.number_hex.ensures c.in_default.is
+pub returns-in_err-neighbour : goal.returns-in_err-neighbour
+returns-in_err-neighbour c = rw c.from_residual.ensures (octets-none _ _ _ c.number_hex.ensures c.in_err-neighbour.was)
 
-pub returns-then-neighbour : goal.returns-then-neighbour
-unfolding may_offer
-returns-then-neighbour c =
-    let the-number-hex = c.number_hex in
-    octets-taken _ _ _ the-number-hex.ensures _ _ _ _ c.in-Is.is refl c.if-neighbour.true
+pub returns-then-may_offer : goal.returns-then-may_offer
+returns-then-may_offer c = octets-taken _ _ _ c.number_hex.ensures _ c.in_ok-neighbour.was (sym c.may_offer.ensures ∙ c.if-may_offer.true)
 
-pub returns : goal.returns
-unfolding may_offer
-returns c =
-    let the-number-hex = c.number_hex in
-    octets-passed _ _ _ the-number-hex.ensures _ _ _ _ c.in-Is.is refl c.if-neighbour.false
+pub returns-else-may_offer : goal.returns-else-may_offer
+returns-else-may_offer c = octets-passed _ _ _ c.number_hex.ensures _ c.in_ok-neighbour.was (sym c.may_offer.ensures ∙ c.if-may_offer.false)
