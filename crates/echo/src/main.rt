@@ -28,11 +28,9 @@ fn fill(s: &mut [u8], first: u8)
     ensures { length s.new ≡ length s.old }
 {
     let mut octet = first;
-    let mut i = 0;
-    while i < s.len() {
-        s[i] = octet;
-        octet = std::num::wrapping_add_u8(octet, 1);
-        i += 1;
+    for place in s.iter_mut() {
+        *place = octet;
+        octet = octet.wrapping_add(1);
     }
 }
 
@@ -169,9 +167,7 @@ fn count(family: u8, root: u8) -> u64
     ensures { result ≤ opaque_limit }
 {
     let mut kept = 0;
-    let mut opaque = SHORTEST - 1;
-    while opaque < LONGEST {
-        opaque += 1;
+    for opaque in SHORTEST..LONGEST + 1 {
         if is_kept_at(family, root, opaque) {
             kept += 1;
         }
