@@ -4,10 +4,11 @@ use native.Mathlib.Omega.{arith}
 use mathlib.Core.Path.{◌≡◌, sym, ap, ◌∙◌}
 use mathlib.Core.Bool.{Bool}
 use mathlib.Core.List.{List}
-use lib.ListN.{length, take, drop, replicate, length-drop, length-replicate}
+use lib.ListN.{length, take, drop, get_or, replicate, length-drop, length-replicate}
 use lib.Seq.{ext_get_or, get_or-take, get_or-drop, length-take-le}
 use Rattle.meaning.specs.Octets.{same}
-use Rattle.meaning.specs.Lists.{get_d-all}
+use Rattle.meaning.specs.Lists.{by-test, same-eq, same_refl, get_d-all}
+use Rattle.std.specs.Prelude.{◌↔◌, IsTrue, EachIndex}
 
 -- as many zeros as a list has elements
 abbrev pub zeros_for : List ℕ → List ℕ
@@ -27,3 +28,17 @@ zeros-part k i n h =
 -- a part that is compared with zeros is compared with that part of as many zeros as there are octets
 pub zeros-there : (k i : ℕ) (s : List ℕ) (r : Bool) → i + k ≤ length s → r ≡ same (take k (drop i s)) (replicate k 0) → r ≡ same (take k (drop i s)) (take k (drop i (zeros_for s)))
 zeros-there k i s r h e = e ∙ ap (same (take k (drop i s))) (sym (zeros-part k i (length s) h))
+
+-- whether each is 0 is whether they are as many zeros
+pub zeros_by : (s : List ℕ) (r : Bool) → IsTrue r ↔ EachIndex s (λ k. get_or s k 0 ≡ 0) → r ≡ same s (zeros_for s)
+zeros_by s r h =
+    let n = zeros-length s in
+    by-test r
+    (λ t. let e : s ≡ zeros_for s = ext_get_or 0 s (zeros_for s) (sym n) (λ k l. h.0 t k l ∙ sym (get_d-all (length s) k 0)) in
+    t ∙ sym (ap (same s) (sym e) ∙ same_refl s))
+    (λ f. f ∙ sym
+    (by-test (same s (zeros_for s))
+    (λ t.
+    let e = same-eq s (zeros_for s) t in
+    t ∙ sym (h.1 (λ k l. ap (λ (x : List ℕ). get_or x k 0) e ∙ get_d-all (length s) k 0)) ∙ f)
+    (λ t. t)))

@@ -76,10 +76,8 @@ fn equal_few(a: &[u8], b: &[u8]) -> bool
     if a.len() == 4 {
         return equal_four(a, 0, b, 0);
     }
-    let mut n = a.len();
-    while 0 < n {
-        n -= 1;
-        if a[n] != b[n] {
+    for i in (0..a.len()).rev() {
+        if a[i] != b[i] {
             return false;
         }
     }
@@ -122,14 +120,7 @@ fn zero_eight(s: &[u8], i: usize) -> bool
 fn zero_few(s: &[u8]) -> bool
     ensures { result ≡ same s.now (replicate (length s.now) 0) }
 {
-    let mut n = s.len();
-    while 0 < n {
-        n -= 1;
-        if s[n] != 0 {
-            return false;
-        }
-    }
-    true
+    s.iter().all(|x| *x == 0)
 }
 
 // Whether all are zeros, by eights as `equal`.
@@ -151,15 +142,21 @@ pub fn is_zero(s: &[u8]) -> bool
 
 // ---- copies
 
+// Element by element: of a fixed number of octets this is one load and one store when compiled, where `copy_from_slice` is a test and two copies.
+fn lay<T: Copy>(dst: &mut [T], src: &[T])
+    requires { length src.now ≡ length dst.old }
+    ensures { dst.new ≡ src.now }
+{
+    for i in 0..src.len() {
+        dst[i] = src[i];
+    }
+}
+
 pub fn copy(dst: &mut [u8], src: &[u8])
     requires { length src.now ≡ length dst.old }
     ensures { dst.new ≡ src.now }
 {
-    let mut i = 0;
-    while i < src.len() {
-        dst[i] = src[i];
-        i += 1;
-    }
+    lay(dst, src);
 }
 
 // Eight octets that are copied at once: all are read before one is written, which is one load and one store when compiled.
@@ -317,11 +314,7 @@ pub fn copy_numbers(dst: &mut [u64], src: &[u64])
     requires { length src.now ≡ length dst.old }
     ensures { dst.new ≡ src.now }
 {
-    let mut i = 0;
-    while i < src.len() {
-        dst[i] = src[i];
-        i += 1;
-    }
+    lay(dst, src);
 }
 
 fn copy_eight(s: &mut [u8], from: usize, to: usize)
@@ -336,10 +329,8 @@ fn copy_few(s: &mut [u8], from: usize, to: usize, n: usize)
     requires { (from + n ≤ to) × (to + n ≤ length s.old) }
     ensures { s.new ≡ mid to n s.old (take n (drop from s.old)) }
 {
-    let mut i = 0;
-    while i < n {
+    for i in 0..n {
         s[to + i] = s[from + i];
-        i += 1;
     }
 }
 
@@ -364,10 +355,15 @@ pub fn copy_within(s: &mut [u8], from: usize, to: usize, n: usize)
 pub fn zero(dst: &mut [u64])
     ensures { dst.new ≡ replicate (length dst.old) 0 }
 {
-    let mut i = 0;
-    while i < dst.len() {
-        dst[i] = 0;
-        i += 1;
+    dst.fill(0);
+}
+
+fn shift<T: Copy>(d: &mut [T], w: usize)
+    requires { w ≤ length d.old }
+    ensures { d.new ≡ shifted w d.old }
+{
+    for i in 0..d.len() - w {
+        d[i] = d[i + w];
     }
 }
 
@@ -375,22 +371,12 @@ pub fn shift_octets(d: &mut [u8], w: usize)
     requires { w ≤ length d.old }
     ensures { d.new ≡ shifted w d.old }
 {
-    let n = d.len() - w;
-    let mut i = 0;
-    while i < n {
-        d[i] = d[i + w];
-        i += 1;
-    }
+    shift(d, w);
 }
 
 pub fn shift_numbers(d: &mut [u64], w: usize)
     requires { w ≤ length d.old }
     ensures { d.new ≡ shifted w d.old }
 {
-    let n = d.len() - w;
-    let mut i = 0;
-    while i < n {
-        d[i] = d[i + w];
-        i += 1;
-    }
+    shift(d, w);
 }

@@ -10,7 +10,7 @@ use Rattle.octets.proofs.Parts.{mid-more, mid_none, mid-before}
 use Rattle.octets.proofs.copy_few.Goals as goal
 
 pub loop-i-init : goal.loop-i-init
-loop-i-init c = (omega arith, refl, mid_none c.args.to c.args.s.now)
+loop-i-init c = mid_none c.args.to c.args.s.now
 
 pub loop-i-preserved : goal.loop-i-preserved
 loop-i-preserved c =
@@ -18,17 +18,11 @@ loop-i-preserved c =
     let i = c.loop-i.i in
     let h : i < length (drop a.from a.s.now) = simp length-drop (omega arith) in
     let unmoved : get_or c.loop-i.s (a.from + i) 0 ≡ get_or a.s.now (a.from + i) 0 =
-    ap (λ (s : List ℕ). get_or s (a.from + i) 0) c.loop-i.invariant.2
-    ∙ mid-before a.to i a.s.now (take i (drop a.from a.s.now)) 0 (a.from + i) (omega arith) (omega arith) in (
-      omega arith,
-      simp length-set c.loop-i.invariant.1,
-      mid-more (drop a.from a.s.now) a.s.now c.loop-i.s 0 _ a.to i h (omega arith) c.loop-i.invariant.2 (unmoved ∙ sym (get_or-drop a.from a.s.now i 0)),
-    )
-
-pub shape_of-s : goal.shape_of-s
-shape_of-s c = c.loop-i.invariant.1
+    ap (λ (s : List ℕ). get_or s (a.from + i) 0) c.loop-i.invariant
+    ∙ mid-before a.to i a.s.now (take i (drop a.from a.s.now)) 0 (a.from + i) (omega arith) (omega arith) in
+    mid-more (drop a.from a.s.now) a.s.now c.loop-i.s 0 _ a.to i h (omega arith) c.loop-i.invariant (unmoved ∙ sym (get_or-drop a.from a.s.now i 0))
 
 pub returns : goal.returns
 returns c =
     let e : c.loop-i.i ≡ c.args.n = omega arith in
-    rw (← e) c.loop-i.invariant.2
+    rw (← e) c.loop-i.invariant
