@@ -193,22 +193,6 @@ copied_more s e from to m i k le lk h l p =
 
 -- ---- a text by eights and by fours
 
-first_of : (s : List ℕ) (i j k : ℕ) → j ≡ i + 1 → i < length s → take (suc k) (drop i s) ≡ get_or s i 0 ∷ take k (drop j s)
-first_of s i j k e h = rw (drop-cons s i 0 h, e, add-one i) refl
-
-pub four-of : (s : List ℕ) (i : ℕ) → i + 4 ≤ length s → (get_or s i 0 ∷ get_or s (i + 1) 0 ∷ get_or s (i + 2) 0 ∷ get_or s (i + 3) 0 ∷ []) ≡ take 4 (drop i s)
-four-of s i h =
-    sym
-    (rw (first_of s i (i + 1) 3 refl (omega arith), first_of s (i + 1) (i + 2) 2 (omega arith) (omega arith), first_of s (i + 2) (i + 3) 1 (omega arith) (omega arith), first_of s (i + 3) (i + 4) 0 (omega arith) (omega arith))
-    refl)
-
-pub eight-of : (s : List ℕ) (i : ℕ) → i + 8 ≤ length s
-    → (get_or s i 0 ∷ get_or s (i + 1) 0 ∷ get_or s (i + 2) 0 ∷ get_or s (i + 3) 0 ∷ get_or s (i + 4) 0 ∷ get_or s (i + 5) 0 ∷ get_or s (i + 6) 0 ∷ get_or s (i + 7) 0 ∷ []) ≡ take 8 (drop i s)
-eight-of s i h =
-    sym
-    (rw (first_of s i (i + 1) 7 refl (omega arith), first_of s (i + 1) (i + 2) 6 (omega arith) (omega arith), first_of s (i + 2) (i + 3) 5 (omega arith) (omega arith), first_of s (i + 3) (i + 4) 4 (omega arith) (omega arith), first_of s (i + 4) (i + 5) 3 (omega arith) (omega arith), first_of s (i + 5) (i + 6) 2 (omega arith) (omega arith), first_of s (i + 6) (i + 7) 1 (omega arith) (omega arith), first_of s (i + 7) (i + 8) 0 (omega arith) (omega arith))
-    refl)
-
 -- a part whose length is written as a difference
 pub mid-put : (t n k : ℕ) (d e l : List ℕ) → n ≡ k → e ≡ l → mid t n d e ≡ mid t k d l
 mid-put t n k d e l p y = rw (p, y) refl

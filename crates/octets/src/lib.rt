@@ -159,87 +159,32 @@ pub fn copy(dst: &mut [u8], src: &[u8])
     lay(dst, src);
 }
 
-// Eight octets that are copied at once: all are read before one is written, which is one load and one store when compiled.
-#[derive(Clone, Copy)]
-struct Eight {
-    a: u8,
-    b: u8,
-    c: u8,
-    d: u8,
-    e: u8,
-    f: u8,
-    g: u8,
-    h: u8,
-}
-
-fn eight_at(s: &[u8], i: usize) -> Eight
-    requires { i + 8 ≤ length s.now }
-    ensures { (result.a ∷ result.b ∷ result.c ∷ result.d ∷ result.e ∷ result.f ∷ result.g ∷ result.h ∷ []) ≡ take 8 (drop i s.now) }
+// N octets that are copied at once: all are read before one is written, which for eight and for four is one load and one store when compiled.
+fn part_at<const N: usize>(s: &[u8], i: usize) -> [u8; N]
+    requires { i + N ≤ length s.now }
+    ensures { result ≡ take N (drop i s.now) }
 {
-    Eight {
-        a: s[i],
-        b: s[i + 1],
-        c: s[i + 2],
-        d: s[i + 3],
-        e: s[i + 4],
-        f: s[i + 5],
-        g: s[i + 6],
-        h: s[i + 7],
-    }
+    let end = i + N;
+    let mut x = [0; N];
+    lay(&mut x, &s[i..end]);
+    x
 }
 
-fn put_eight(s: &mut [u8], i: usize, x: Eight)
-    requires { i + 8 ≤ length s.old }
-    ensures { s.new ≡ mid i 8 s.old (x.a ∷ x.b ∷ x.c ∷ x.d ∷ x.e ∷ x.f ∷ x.g ∷ x.h ∷ []) }
+fn put_part<const N: usize>(s: &mut [u8], i: usize, x: [u8; N])
+    requires { i + N ≤ length s.old }
+    ensures { s.new ≡ mid i N s.old x.entry }
 {
-    let end = i + 8;
-    copy(&mut s[i..end], &[x.a, x.b, x.c, x.d, x.e, x.f, x.g, x.h]);
+    let end = i + N;
+    lay(&mut s[i..end], &x);
 }
 
-// From a place of one slice to the same place of another, and from one place of a slice to another.
-fn lay_eight(dst: &mut [u8], src: &[u8], i: usize)
-    requires { (i + 8 ≤ length dst.old) × (i + 8 ≤ length src.now) }
-    ensures { dst.new ≡ mid i 8 dst.old (take 8 (drop i src.now)) }
+// From a place of one slice to the same place of another.
+fn lay_part<const N: usize>(dst: &mut [u8], src: &[u8], i: usize)
+    requires { (i + N ≤ length dst.old) × (i + N ≤ length src.now) }
+    ensures { dst.new ≡ mid i N dst.old (take N (drop i src.now)) }
 {
-    let x = eight_at(src, i);
-    put_eight(dst, i, x);
-}
-
-// The same of four octets, for a text that has no eight.
-#[derive(Clone, Copy)]
-struct Four {
-    a: u8,
-    b: u8,
-    c: u8,
-    d: u8,
-}
-
-fn four_octets_at(s: &[u8], i: usize) -> Four
-    requires { i + 4 ≤ length s.now }
-    ensures { (result.a ∷ result.b ∷ result.c ∷ result.d ∷ []) ≡ take 4 (drop i s.now) }
-{
-    Four {
-        a: s[i],
-        b: s[i + 1],
-        c: s[i + 2],
-        d: s[i + 3],
-    }
-}
-
-fn put_four(s: &mut [u8], i: usize, x: Four)
-    requires { i + 4 ≤ length s.old }
-    ensures { s.new ≡ mid i 4 s.old (x.a ∷ x.b ∷ x.c ∷ x.d ∷ []) }
-{
-    let end = i + 4;
-    copy(&mut s[i..end], &[x.a, x.b, x.c, x.d]);
-}
-
-fn lay_four(dst: &mut [u8], src: &[u8], i: usize)
-    requires { (i + 4 ≤ length dst.old) × (i + 4 ≤ length src.now) }
-    ensures { dst.new ≡ mid i 4 dst.old (take 4 (drop i src.now)) }
-{
-    let x = four_octets_at(src, i);
-    put_four(dst, i, x);
+    let x = part_at::<N>(src, i);
+    put_part(dst, i, x);
 }
 
 // Fewer than eight: the first four and the last four, which may be some of the first, and fewer than four one by one.
@@ -252,8 +197,8 @@ fn copy_short(dst: &mut [u8], src: &[u8])
         return;
     }
     let last = src.len() - 4;
-    lay_four(dst, src, 0);
-    lay_four(dst, src, last);
+    lay_part::<4>(dst, src, 0);
+    lay_part::<4>(dst, src, last);
 }
 
 // Where the second of three eights begins that are to cover n octets and eight: behind the first, or with the last.
@@ -270,9 +215,9 @@ fn copy_three(dst: &mut [u8], src: &[u8])
 {
     let last = src.len() - 8;
     let second = second_eight(last);
-    lay_eight(dst, src, 0);
-    lay_eight(dst, src, second);
-    lay_eight(dst, src, last);
+    lay_part::<8>(dst, src, 0);
+    lay_part::<8>(dst, src, second);
+    lay_part::<8>(dst, src, last);
 }
 
 // The same as `copy`, for a text whose length nobody foresees: by eights, of which the last goes over some that are there already, where
@@ -292,10 +237,10 @@ pub fn copy_text(dst: &mut [u8], src: &[u8])
     let last = src.len() - 8;
     let mut i = 0;
     while i < last {
-        lay_eight(dst, src, i);
+        lay_part::<8>(dst, src, i);
         i += 8;
     }
-    lay_eight(dst, src, last);
+    lay_part::<8>(dst, src, last);
 }
 
 // The same for a text that is most often of fewer than eight, as a root or an opaque value: those few are copied in the caller when compiled.
@@ -321,8 +266,8 @@ fn copy_eight(s: &mut [u8], from: usize, to: usize)
     requires { (from + 8 ≤ length s.old) × (to + 8 ≤ length s.old) }
     ensures { s.new ≡ mid to 8 s.old (take 8 (drop from s.old)) }
 {
-    let x = eight_at(s, from);
-    put_eight(s, to, x);
+    let x = part_at::<8>(s, from);
+    put_part(s, to, x);
 }
 
 fn copy_few(s: &mut [u8], from: usize, to: usize, n: usize)

@@ -5,4 +5,4 @@ use Rattle.octets.proofs.copy_eight.Goals as goal
 pub returns : goal.returns
 returns c =
     let a = c.args in
-    mid-same a.to 8 a.s.now _ _ _ c.put_eight.ensures c.eight_at-x.ensures
+    mid-same a.to 8 a.s.now _ _ _ c.put_part.ensures c.part_at-x.ensures

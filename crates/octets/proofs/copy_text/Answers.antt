@@ -11,7 +11,7 @@ loop-i-init c = (refl, omega arith, laid_none _ _ c.requires)
 
 pub loop-i-preserved : goal.loop-i-preserved
 loop-i-preserved c =
-    (c.dst-in-loop-i-1.given ∙ c.loop-i.invariant.0, omega arith, laid_more 8 c.loop-i.i c.loop-i.i c.args.src.now _ _ c.loop-i.invariant.2 (omega arith) (omega arith) c.lay_eight.ensures)
+    (c.dst-in-loop-i-1.given ∙ c.loop-i.invariant.0, omega arith, laid_more 8 c.loop-i.i c.loop-i.i c.args.src.now _ _ c.loop-i.invariant.2 (omega arith) (omega arith) c.lay_part.ensures)
 
 pub shape_of-dst : goal.shape_of-dst
 shape_of-dst c =
@@ -21,4 +21,4 @@ shape_of-dst c =
 pub returns : goal.returns
 returns c =
     let last = length c.args.src.now - 8 in
-    laid-all (last + 8) c.args.src.now _ (laid_more 8 c.loop-i.i last c.args.src.now _ _ c.loop-i.invariant.2 (omega arith) (omega arith) c.lay_eight-2.ensures) (omega arith)
+    laid-all (last + 8) c.args.src.now _ (laid_more 8 c.loop-i.i last c.args.src.now _ _ c.loop-i.invariant.2 (omega arith) (omega arith) c.lay_part-2.ensures) (omega arith)

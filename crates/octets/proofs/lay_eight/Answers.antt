@@ -1,8 +1,0 @@
-use borrow.Author.Rules.{rules}
-use Rattle.octets.proofs.Parts.{mid-same}
-use Rattle.octets.proofs.lay_eight.Goals as goal
-
-pub returns : goal.returns
-returns c =
-    let a = c.args in
-    mid-same a.i 8 a.dst.now _ _ _ c.put_eight.ensures c.eight_at-x.ensures
