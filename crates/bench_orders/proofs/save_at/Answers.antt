@@ -8,7 +8,7 @@ pub returns-then-is_hex_to : goal.returns-then-is_hex_to
 unfolding form_of is_save_hex
 returns-then-is_hex_to c =
     elim c.if-second.branch [
-      then-second w ↦ rw (w.if-second.true, sym (rw (w.most-is, c.of.ensures) at c.is_hex_to.ensures) ∙ c.if-is_hex_to.true)
+      | then-second w ↦ rw (w.if-second.true, sym (rw (w.most-is, c.of.ensures) at c.is_hex_to.ensures) ∙ c.if-is_hex_to.true)
       | else-second w ↦ rw (w.if-second.false, sym (rw (w.most-is, c.of.ensures) at c.is_hex_to.ensures) ∙ c.if-is_hex_to.true)
     ]
 
@@ -16,6 +16,6 @@ pub returns-else-is_hex_to : goal.returns-else-is_hex_to
 unfolding form_of is_save_hex
 returns-else-is_hex_to c =
     elim c.if-second.branch [
-      then-second w ↦ rw (w.if-second.true, sym (rw (w.most-is, c.of.ensures) at c.is_hex_to.ensures) ∙ c.if-is_hex_to.false)
+      | then-second w ↦ rw (w.if-second.true, sym (rw (w.most-is, c.of.ensures) at c.is_hex_to.ensures) ∙ c.if-is_hex_to.false)
       | else-second w ↦ rw (w.if-second.false, sym (rw (w.most-is, c.of.ensures) at c.is_hex_to.ensures) ∙ c.if-is_hex_to.false)
     ]

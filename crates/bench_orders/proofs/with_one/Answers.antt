@@ -43,7 +43,7 @@ returns-in_err-hex_at-in-Join c = rw (c.from_residual-in_err-hex_at-in-Join.ensu
 
 pub returns-in_ok-hex_at-in-Join : goal.returns-in_ok-hex_at-in-Join
 unfolding does meant
-returns-in_ok-hex_at-in-Join c = 
+returns-in_ok-hex_at-in-Join c =
     let h = found _ _ _ _ c.requires c.hex_at.ensures c.in_ok-hex_at-in-Join.was in
     record { means = rw c.in-Join.is (sym (hex-of Said.join _ _ _ h)); lies = h.lies }
 
@@ -53,7 +53,7 @@ returns-in_err-hex_at-in-Leave c = rw (c.from_residual-in_err-hex_at-in-Leave.en
 
 pub returns-in_ok-hex_at-in-Leave : goal.returns-in_ok-hex_at-in-Leave
 unfolding does meant
-returns-in_ok-hex_at-in-Leave c = 
+returns-in_ok-hex_at-in-Leave c =
     let h = found _ _ _ _ c.requires c.hex_at-in-Leave.ensures c.in_ok-hex_at-in-Leave.was in
     record { means = rw c.in-Leave.is (sym (hex-of Said.leave _ _ _ h)); lies = h.lies }
 
@@ -63,7 +63,7 @@ returns-in_err-hex_at-in-Tree c = rw (c.from_residual-in_err-hex_at-in-Tree.ensu
 
 pub returns-in_ok-hex_at-in-Tree : goal.returns-in_ok-hex_at-in-Tree
 unfolding does meant
-returns-in_ok-hex_at-in-Tree c = 
+returns-in_ok-hex_at-in-Tree c =
     let h = found _ _ _ _ c.requires c.hex_at-in-Tree.ensures c.in_ok-hex_at-in-Tree.was in
     record { means = rw c.in-Tree.is (sym (hex-of Said.tree _ _ _ h)); lies = h.lies }
 
@@ -73,7 +73,7 @@ returns-in_err-hex_at-in-Layers c = rw (c.from_residual-in_err-hex_at-in-Layers.
 
 pub returns-in_ok-hex_at-in-Layers : goal.returns-in_ok-hex_at-in-Layers
 unfolding does meant
-returns-in_ok-hex_at-in-Layers c = 
+returns-in_ok-hex_at-in-Layers c =
     let h = found _ _ _ _ c.requires c.hex_at-in-Layers.ensures c.in_ok-hex_at-in-Layers.was in
     record { means = rw c.in-Layers.is (sym (hex-of Said.layers _ _ _ h)); lies = h.lies }
 
@@ -83,7 +83,7 @@ returns-in_err-hex_at-in-Unwrap c = rw (c.from_residual-in_err-hex_at-in-Unwrap.
 
 pub returns-in_ok-hex_at-in-Unwrap : goal.returns-in_ok-hex_at-in-Unwrap
 unfolding does meant
-returns-in_ok-hex_at-in-Unwrap c = 
+returns-in_ok-hex_at-in-Unwrap c =
     let h = found _ _ _ _ c.requires c.hex_at-in-Unwrap.ensures c.in_ok-hex_at-in-Unwrap.was in
     record { means = rw c.in-Unwrap.is (sym (hex-of Said.unwrap _ _ _ h)); lies = h.lies }
 
@@ -93,7 +93,7 @@ returns-in_err-save_at-in-Restore c = rw (c.from_residual-in_err-save_at-in-Rest
 
 pub returns-in_ok-save_at-in-Restore : goal.returns-in_ok-save_at-in-Restore
 unfolding does meant
-returns-in_ok-save_at-in-Restore c = 
+returns-in_ok-save_at-in-Restore c =
     let h = found-save Said.restore _ _ _ _ _ c.requires c.save_at.ensures c.in_ok-save_at-in-Restore.was in
     record { means = rw c.in-Restore.is h.means; lies = h.lies }
 
@@ -103,7 +103,7 @@ returns-in_err-save_at-in-Move c = rw (c.from_residual-in_err-save_at-in-Move.en
 
 pub returns-in_ok-save_at-in-Move : goal.returns-in_ok-save_at-in-Move
 unfolding does meant
-returns-in_ok-save_at-in-Move c = 
+returns-in_ok-save_at-in-Move c =
     let h = found-save Said.moves _ _ _ _ _ c.requires c.save_at-in-Move.ensures c.in_ok-save_at-in-Move.was in
     record { means = rw c.in-Move.is h.means; lies = h.lies }
 

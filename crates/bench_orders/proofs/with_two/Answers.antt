@@ -11,13 +11,13 @@ returns-in_err-number_at-in-Take c = rw (c.from_residual.ensures, c.in-Take.is) 
 
 pub returns-in_err-hex_at-in-Take : goal.returns-in_err-hex_at-in-Take
 unfolding does meant
-returns-in_err-hex_at-in-Take c = 
+returns-in_err-hex_at-in-Take c =
     rw (c.from_residual-in_err-hex_at-in-Take.ensures, c.in-Take.is)
     (number-then Said.take _ _ _ (sym c.number_at.ensures ∙ c.in_ok-number_at-in-Take.was) ∙ no-hex _ _ (not-found c.args.line.now c.args.second _ c.hex_at.ensures c.in_err-hex_at-in-Take.was))
 
 pub returns-in_ok-hex_at-in-Take : goal.returns-in_ok-hex_at-in-Take
 unfolding does meant
-returns-in_ok-hex_at-in-Take c = 
+returns-in_ok-hex_at-in-Take c =
     let h = found _ _ _ _ c.requires.1 c.hex_at.ensures c.in_ok-hex_at-in-Take.was in
     record { means = rw c.in-Take.is (sym (number-then Said.take _ _ _ (sym c.number_at.ensures ∙ c.in_ok-number_at-in-Take.was) ∙ hex-of _ _ _ _ h)); lies = h.lies }
 
@@ -27,14 +27,14 @@ returns-in_err-hex_at-in-Route c = rw (c.from_residual-in_err-hex_at-in-Route.en
 
 pub returns-in_err-number_at-in-Route : goal.returns-in_err-number_at-in-Route
 unfolding does meant
-returns-in_err-number_at-in-Route c = 
+returns-in_err-number_at-in-Route c =
     let h = found _ _ _ _ c.requires.0 c.hex_at-in-Route.ensures c.in_ok-hex_at-in-Route.was in
     rw (c.from_residual-in_err-number_at-in-Route.ensures, c.in-Route.is)
     (hex-then Said.route _ _ _ _ h ∙ no_number _ _ (sym c.number_at-in-Route.ensures ∙ c.in_err-number_at-in-Route.was))
 
 pub returns-in_ok-number_at-in-Route : goal.returns-in_ok-number_at-in-Route
 unfolding does meant
-returns-in_ok-number_at-in-Route c = 
+returns-in_ok-number_at-in-Route c =
     let h = found _ _ _ _ c.requires.0 c.hex_at-in-Route.ensures c.in_ok-hex_at-in-Route.was in
     record { means = rw c.in-Route.is (sym (hex-then Said.route _ _ _ _ h ∙ number-of _ _ _ (sym c.number_at-in-Route.ensures ∙ c.in_ok-number_at-in-Route.was))); lies = h.lies }
 
@@ -44,13 +44,13 @@ returns-in_err-number_at-in-Plan c = rw (c.from_residual-in_err-number_at-in-Pla
 
 pub returns-in_err-hex_at-in-Plan : goal.returns-in_err-hex_at-in-Plan
 unfolding does meant
-returns-in_err-hex_at-in-Plan c = 
+returns-in_err-hex_at-in-Plan c =
     rw (c.from_residual-in_err-hex_at-in-Plan.ensures, c.in-Plan.is)
     (number-then Said.plan _ _ _ (sym c.number_at-in-Plan.ensures ∙ c.in_ok-number_at-in-Plan.was) ∙ no-hex _ _ (not-found c.args.line.now c.args.second _ c.hex_at-in-Plan.ensures c.in_err-hex_at-in-Plan.was))
 
 pub returns-in_ok-hex_at-in-Plan : goal.returns-in_ok-hex_at-in-Plan
 unfolding does meant
-returns-in_ok-hex_at-in-Plan c = 
+returns-in_ok-hex_at-in-Plan c =
     let h = found _ _ _ _ c.requires.1 c.hex_at-in-Plan.ensures c.in_ok-hex_at-in-Plan.was in
     record { means = rw c.in-Plan.is (sym (number-then Said.plan _ _ _ (sym c.number_at-in-Plan.ensures ∙ c.in_ok-number_at-in-Plan.was) ∙ hex-of _ _ _ _ h)); lies = h.lies }
 

@@ -32,8 +32,7 @@ of-requires-in-Wrap-3 c =
 
 pub on_wrap-requires : goal.on_wrap-requires
 on_wrap-requires c =
-    let words = lies _ _ _ c.requires.0 c.in-Wrap.is in
-    (
+    let words = lies _ _ _ c.requires.0 c.in-Wrap.is in (
       rw c.of-in-Wrap.ensures (part-short _ _ _ _ words.0),
       rw c.of-in-Wrap-2.ensures (part-short _ _ _ _ words.1),
       rw c.of-in-Wrap-3.ensures (part-short _ _ _ _ words.2),

@@ -14,10 +14,10 @@ loop-i-preserved g c =
     let h : i < length (drop a.w a.d.now) = simp length-drop (omega arith) in
     let q : i + a.w ≡ a.w + i = omega arith in
     front-more (drop a.w a.d.now) a.d.now _ z _ i h (omega arith) c.loop-i.invariant
-        (c.index-d-i.is
-        ∙ front-behind (drop a.w a.d.now) a.d.now _ z i (i + a.w) (omega arith) (omega arith) c.loop-i.invariant (omega arith)
-        ∙ ap (λ (n : ℕ). get_or a.d.now n z) q
-        ∙ sym (get_or-drop a.w a.d.now i z))
+    (c.index-d-i.is
+    ∙ front-behind (drop a.w a.d.now) a.d.now _ z i (i + a.w) (omega arith) (omega arith) c.loop-i.invariant (omega arith)
+    ∙ ap (λ (n : ℕ). get_or a.d.now n z) q
+    ∙ sym (get_or-drop a.w a.d.now i z))
 
 pub returns : goal.returns
 returns g c = shifted-done _ _ _ _ c.requires c.loop-i-test.false (omega arith) c.loop-i.invariant

@@ -32,4 +32,4 @@ unfolding ascii
 returns c =
     let first = word_some c.next_word-word.ensures c.is_empty.ensures c.if-is_empty.false in
     other-told _ _ _ c.if-line-gt-LINE_LIMIT.false first _ _ _ (rw c.of-verb.ensures at c.equal.ensures) c.if-equal.false
-        (rw c.of-verb.ensures at c.equal-2.ensures) c.if-equal-2.false (rw c.of-verb.ensures at c.equal-3.ensures) c.if-equal-3.false
+    (rw c.of-verb.ensures at c.equal-2.ensures) c.if-equal-2.false (rw c.of-verb.ensures at c.equal-3.ensures) c.if-equal-3.false
