@@ -6,7 +6,7 @@ use native.Mathlib.Omega.{arith}
 use mathlib.Core.Path.{◌≡◌, refl, sym, ap, ◌∙◌}
 use mathlib.Core.List.{List, [], ◌∷◌, ◌++◌, append_assoc}
 use lib.ListN.{length, take, drop, get_or, set, length-append, length-drop, get_or-append, drop_of_length-le}
-use lib.Seq.{drop-cons, sets, sets-eq, take_at, drop_at, drop-drop, length-take-le, take_all, take-take, take-append-le, take-append-add, drop-append-add, get_or-take, get_or-drop, get_or-append-add, take-add, ext_get_or}
+use lib.Seq.{sets, sets-eq, take_at, drop_at, drop-drop, length-take-le, take_all, take-take, take-append-le, take-append-add, drop-append-add, get_or-take, get_or-drop, get_or-append-add, take-add, ext_get_or}
 use lib.Dec.{ltb}
 use borrow.Author.Tests.{ltb-true, ltb-false}
 use Rattle.meaning.specs.Lists.{append-nil, by-test}
@@ -192,14 +192,6 @@ copied_more s e from to m i k le lk h l p =
     ∙ ap (mid to (i + k) s) w
 
 -- ---- a text by eights and by fours
-
--- a part whose length is written as a difference
-pub mid-put : (t n k : ℕ) (d e l : List ℕ) → n ≡ k → e ≡ l → mid t n d e ≡ mid t k d l
-mid-put t n k d e l p y = rw (p, y) refl
-
--- a part that is the same by another name
-pub mid-same : (t k : ℕ) (d e l m : List ℕ) → e ≡ mid t k d l → l ≡ m → e ≡ mid t k d m
-mid-same t k d e l m p q = p ∙ ap (mid t k d) q
 
 -- d is src as far as place m
 pub record Laid (m : ℕ) (src d : List ℕ) : Type 0 where

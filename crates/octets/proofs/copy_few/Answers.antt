@@ -1,16 +1,11 @@
-use Prim.Native.Nat.{ℕ, ◌≤◌, ◌<◌, ◌-◌, ◌+◌}
+use Prim.Native.Nat.{ℕ, ◌<◌, ◌+◌}
 use native.Mathlib.Omega.{arith}
-use mathlib.Core.Path.{◌≡◌, refl, sym, ap, ◌∙◌}
+use mathlib.Core.Path.{◌≡◌, sym, ap, ◌∙◌}
 use mathlib.Core.List.{List}
-use lib.ListN.{length, take, drop, get_or, length-set, length-drop}
+use lib.ListN.{length, take, drop, get_or, length-drop}
 use lib.Seq.{get_or-drop}
-use borrow.Author.Rules.{rules}
-use Rattle.octets.specs.Part.{mid}
-use Rattle.octets.proofs.Parts.{mid-more, mid_none, mid-before}
+use Rattle.octets.proofs.Parts.{mid-more, mid-before}
 use Rattle.octets.proofs.copy_few.Goals as goal
-
-pub loop-i-init : goal.loop-i-init
-loop-i-init c = mid_none c.args.to c.args.s.now
 
 pub loop-i-preserved : goal.loop-i-preserved
 loop-i-preserved c =
@@ -21,8 +16,3 @@ loop-i-preserved c =
     ap (λ (s : List ℕ). get_or s (a.from + i) 0) c.loop-i.invariant
     ∙ mid-before a.to i a.s.now (take i (drop a.from a.s.now)) 0 (a.from + i) (omega arith) (omega arith) in
     mid-more (drop a.from a.s.now) a.s.now c.loop-i.s 0 _ a.to i h (omega arith) c.loop-i.invariant (unmoved ∙ sym (get_or-drop a.from a.s.now i 0))
-
-pub returns : goal.returns
-returns c =
-    let e : c.loop-i.i ≡ c.args.n = omega arith in
-    rw (← e) c.loop-i.invariant

@@ -1,22 +1,13 @@
-use Prim.Native.Nat.{◌+◌, ◌-◌, ◌≤◌}
+use Prim.Native.Nat.{◌+◌, ◌-◌}
 use native.Mathlib.Omega.{arith}
-use mathlib.Core.Path.{◌≡◌, refl, ◌∙◌}
+use mathlib.Core.Path.{◌∙◌}
 use lib.ListN.{length}
-use borrow.Author.Rules.{rules}
-use Rattle.octets.proofs.Parts.{Laid, laid_none, laid_more, laid-all}
+use Rattle.octets.proofs.Parts.{laid_more, laid-all}
 use Rattle.octets.proofs.copy_text.Goals as goal
-
-pub loop-i-init : goal.loop-i-init
-loop-i-init c = (refl, omega arith, laid_none _ _ c.requires)
 
 pub loop-i-preserved : goal.loop-i-preserved
 loop-i-preserved c =
     (c.dst-in-loop-i-1.given ∙ c.loop-i.invariant.0, omega arith, laid_more 8 c.loop-i.i c.loop-i.i c.args.src.now _ _ c.loop-i.invariant.2 (omega arith) (omega arith) c.lay_part.ensures)
-
-pub shape_of-dst : goal.shape_of-dst
-shape_of-dst c =
-    let the-loop = c.loop-i in
-    c.dst-2-1.given ∙ the-loop.invariant.0
 
 pub returns : goal.returns
 returns c =

@@ -1,9 +1,7 @@
 use Prim.Native.Nat.{◌+◌, ◌-◌, ◌≤◌}
-use native.Mathlib.Omega.{arith}
-use mathlib.Core.Path.{◌≡◌, refl, ◌∙◌}
+use mathlib.Core.Path.{◌≡◌}
 use lib.ListN.{length}
-use borrow.Author.Rules.{rules}
-use Rattle.octets.proofs.Parts.{Laid, laid_none, laid_more, laid-all}
+use Rattle.octets.proofs.Parts.{Laid}
 use Rattle.octets.proofs.copy_text.Given as goal
 
 abbrev pub invariant-loop-i : goal.invariant-loop-i

@@ -1,7 +1,6 @@
 use Prim.Native.Nat.{◌+◌, ◌-◌}
 use native.Mathlib.Omega.{arith}
 use lib.ListN.{length}
-use borrow.Author.Rules.{rules}
 use Rattle.octets.proofs.Parts.{Laid, laid_none, laid_more, laid-all}
 use Rattle.octets.proofs.copy_three.Goals as goal
 

@@ -1,14 +1,10 @@
-use Prim.Native.Nat.{ℕ, ◌≤◌, ◌-◌, ◌+◌}
+use Prim.Native.Nat.{ℕ, ◌-◌, ◌+◌}
 use native.Mathlib.Omega.{arith}
-use mathlib.Core.Path.{◌≡◌, refl, ap, ◌∙◌}
-use lib.ListN.{length, take, drop}
-use borrow.Author.Rules.{rules}
+use mathlib.Core.Path.{◌≡◌, ap, ◌∙◌}
+use lib.ListN.{take, drop}
 use Rattle.octets.specs.Part.{mid}
-use Rattle.octets.proofs.Parts.{mid_none, copied_more}
+use Rattle.octets.proofs.Parts.{copied_more}
 use Rattle.octets.proofs.copy_within.Goals as goal
-
-pub loop-i-init : goal.loop-i-init
-loop-i-init c = (omega arith, refl, mid_none c.args.to c.args.s.now)
 
 pub loop-i-preserved : goal.loop-i-preserved
 loop-i-preserved c =
@@ -17,11 +13,6 @@ loop-i-preserved c =
       c.s-in-loop-i-1.given ∙ c.loop-i.invariant.1,
       c.copy_eight.ensures ∙ copied_more a.s.now c.loop-i.s a.from a.to c.loop-i.i c.loop-i.i 8 (omega arith) (omega arith) (omega arith) (omega arith) c.loop-i.invariant.2,
     )
-
-pub shape_of-s : goal.shape_of-s
-shape_of-s c =
-    let the-loop = c.loop-i in
-    c.s-2-1.given ∙ the-loop.invariant.1
 
 pub returns : goal.returns
 returns c =

@@ -3,7 +3,6 @@ use native.Mathlib.Omega.{arith}
 use mathlib.Core.Path.{refl, ap₂, ◌∙◌}
 use mathlib.Core.Bool.{◌&&◌}
 use Rattle.octets.proofs.Same.{same-join}
-use borrow.Author.Rules.{rules}
 use Rattle.octets.proofs.equal_eight.Goals as goal
 
 pub returns : goal.returns

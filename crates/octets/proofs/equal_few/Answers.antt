@@ -1,7 +1,7 @@
 use Prim.Native.Nat.{◌+◌, ◌-◌}
 use native.Mathlib.Omega.{arith}
 use mathlib.Core.Path.{◌≡◌, sym, ap, ◌∙◌}
-use lib.ListN.{length, drop_of_length-le}
+use lib.ListN.{drop_of_length-le}
 use Rattle.meaning.specs.Octets.{same}
 use Rattle.meaning.specs.Lists.{same_refl}
 use Rattle.octets.proofs.Same.{same-differ, same-before-at, same_first}
@@ -11,11 +11,6 @@ pub returns-then-a-eq4 : goal.returns-then-a-eq4
 returns-then-a-eq4 c =
     let a = c.args in
     c.equal_four.ensures ∙ same_first 4 4 a.a.now a.b.now (omega arith) (drop_of_length-le a.a.now {i = 4} (omega arith) ∙ sym (drop_of_length-le a.b.now {i = 4} (omega arith)))
-
-pub loop-i-init : goal.loop-i-init
-loop-i-init c =
-    let a = c.args in
-    drop_of_length-le a.a.now {i = length a.a.now} (omega arith) ∙ sym (drop_of_length-le a.b.now {i = length a.a.now} (omega arith))
 
 pub returns-then-a-i : goal.returns-then-a-i
 returns-then-a-i c = sym (same-differ _ _ _ c.if-a-i.true)

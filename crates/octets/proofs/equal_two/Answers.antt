@@ -1,6 +1,5 @@
 use native.Mathlib.Omega.{arith}
 use Rattle.octets.proofs.Same.{same-two}
-use borrow.Author.Rules.{rules}
 use Rattle.octets.proofs.equal_two.Goals as goal
 
 pub returns : goal.returns

@@ -2,7 +2,6 @@ use Prim.Native.Nat.{◌+◌, ◌-◌}
 use native.Mathlib.Omega.{arith}
 use mathlib.Core.Path.{◌∙◌}
 use Rattle.octets.proofs.Fours.{four-part}
-use borrow.Author.Rules.{rules}
 use Rattle.octets.proofs.four_at.Goals as goal
 
 pub returns-then-last-s : goal.returns-then-last-s

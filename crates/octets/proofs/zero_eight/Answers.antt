@@ -4,7 +4,6 @@ use mathlib.Core.Path.{refl, ap₂, ◌∙◌}
 use mathlib.Core.Bool.{◌&&◌}
 use lib.ListN.{replicate}
 use Rattle.octets.proofs.Same.{same-join}
-use borrow.Author.Rules.{rules}
 use Rattle.octets.proofs.zero_eight.Goals as goal
 
 pub returns : goal.returns
