@@ -182,6 +182,25 @@ class Stack(unittest.TestCase):
         most = re.search(r"CARD_LAYERS_MOST = (\d+)", HEADER).group(1)
         self.assertEqual({str(times) for times in stack.DEEPEST.values()}, {most})
 
+    def test_a_jump_by_a_table(self):
+        listing = """0000000000000000 <f>:
+   0:\tlea    0x0(%rip),%rcx
+\t\t\t3: R_X86_64_PC32\t.rodata.f-0x4
+   7:\tjmp    *%rax
+   9:\tsub    $0x40,%rsp
+   d:\tadd    $0x40,%rsp
+  11:\tret
+"""
+        records = """RELOCATION RECORDS FOR [.rodata.f]:
+OFFSET           TYPE              VALUE
+0000000000000000 R_X86_64_PC32     .text.f+0x0000000000000009
+0000000000000004 R_X86_64_PC32     .text.f+0x0000000000000015
+"""
+        steps, entries = stack.functions_in(listing)["f"], stack.tables_in(records)["f"]
+        # the second entry is reckoned from its own place, four octets behind the table's beginning
+        self.assertEqual(stack.jumps(steps, entries), {0x9, 0x11})
+        self.assertEqual(stack.deepest(steps, entries), (8 + 0x40, {}))
+
     def test_what_cannot_be_followed(self):
         for step in ("jmp    *%rax", "call   *%rax", "sub    %rax,%rsp", "and    $-0x20,%rsp"):
             with self.assertRaises(stack.CannotFollow):
