@@ -1,4 +1,5 @@
 // The text of an answer: a line of the bench program, laid to the front of a lent text part by part.
+// Kept: each part takes the text and a place, and gives the place behind it: the text is the program's (no heap), and a line is defined part after part.
 #![tactic(auto)]
 
 ghost use Rattle.std.specs.Prelude.{◌+◌, ◌*◌, ◌≤◌, ◌≡◌, [], ◌∷◌, ◌++◌, length, take};
@@ -107,10 +108,8 @@ fn add_branches(
     ensures upper_bound { result ≤ from + branches_space }
 {
     let mut at = from;
-    let mut i = 0;
-    while i < branches.len() {
-        at = add_branch(text, at, before, between, i, branches[i]);
-        i += 1;
+    for (i, &label) in branches.iter().enumerate() {
+        at = add_branch(text, at, before, between, i, label);
     }
     at
 }
