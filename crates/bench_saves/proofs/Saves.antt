@@ -3,7 +3,7 @@ use Prim.Native.Nat.{ℕ, ◌-◌, ◌*◌, ◌≤◌, min}
 use native.Mathlib.Nat.{le_trans}
 use native.Mathlib.Omega.{arith}
 use mathlib.Core.Path.{◌≡◌, refl, ap, ◌∙◌}
-use mathlib.Core.Bool.{Bool, true, false}
+use mathlib.Core.Bool.{Bool, true, false, not}
 use mathlib.Core.List.{List}
 use lib.ListN.{length, take, drop}
 use borrow.Author.Tests.{ltb-false}
@@ -11,10 +11,9 @@ use lib.Dec.{ltb}
 use Rattle.meaning.specs.Lists.{by-test}
 use Rattle.meaning.specs.Card.{Card}
 use Rattle.meaning.specs.Events.{room_short}
-use Rattle.meaning_save.specs.Save.{Form, old, new, form_of, save_limit, saved, fits_save, save, restore, table_in, is_save, Moved, not_moved, move, newer, older}
+use Rattle.meaning_save.specs.Save.{Form, old, new, form_of, save_limit, saved, fits_save, save, restore, table_in, is_save, Moved, not_moved, move}
 use Rattle.meaning.specs.Calls.{Hands}
 use Rattle.save_mover.specs.Moves.{Gives}
-use Rattle.bench_words.specs.Words.{ascii}
 use Rattle.bench_verbs.specs.Line.{Said}
 use Rattle.bench_orders.specs.Tells.{SaveLies}
 use Rattle.bench_lines.specs.Text.{count_line, event_line, text_space}
@@ -30,30 +29,6 @@ module _ (b : Bool) where
   pub most-old : b ≡ false → (save_limit old ≡ save_limit (form_of b)) × (save_limit old ≤ save_limit new)
   unfolding form_of
   most-old e = rw e (refl, omega arith)
-
-  pub saved-new : (l : List ℕ) (a r : ℕ) (o text : List ℕ) → b ≡ true → l ≡ event_line (ascii "save2") a o → l ≡ event_line (save_word (form_of b)) a o
-  unfolding form_of save_word
-  saved-new l a r o text e h = rw e h
-
-  pub saved-old : (l : List ℕ) (a r : ℕ) (o text : List ℕ) → b ≡ false → l ≡ event_line (ascii "save") a o → l ≡ event_line (save_word (form_of b)) a o
-  unfolding form_of save_word
-  saved-old l a r o text e h = rw e h
-
-  pub restored-new : (l : List ℕ) (a : ℕ) → b ≡ true → l ≡ count_line (ascii "restore2") a → l ≡ count_line (restore_word (form_of b)) a
-  unfolding form_of restore_word
-  restored-new l a e h = rw e h
-
-  pub restored-old : (l : List ℕ) (a : ℕ) → b ≡ false → l ≡ count_line (ascii "restore") a → l ≡ count_line (restore_word (form_of b)) a
-  unfolding form_of restore_word
-  restored-old l a e h = rw e h
-
-  pub moves-new : (number room : ℕ) (c : Card) (o text : List ℕ) (r : ℕ) → b ≡ true → Says (reply_to number room c (Said.moves new o)) r text c → Says (reply_to number room c (Said.moves (form_of b) o)) r text c
-  unfolding form_of
-  moves-new number room c o text r e h = rw e h
-
-  pub moves-old : (number room : ℕ) (c : Card) (o text : List ℕ) (r : ℕ) → b ≡ false → Says (reply_to number room c (Said.moves old o)) r text c → Says (reply_to number room c (Said.moves (form_of b) o)) r text c
-  unfolding form_of
-  moves-old number room c o text r e h = rw e h
 
 -- ---- a save, lent as much as the longest of its form has, or the room
 
@@ -78,25 +53,17 @@ move-fits f g room o =
     (λ h. rw (s, h) (omega arith)))
     (λ s. rw s (omega arith))
 
-pub newer-fits : (l a most : ℕ) (o part : List ℕ) → Gives (newer l o) a part → l ≤ most → length part ≤ most
-unfolding newer
-newer-fits l a most o part h k = rw h.hands (omega (arith, move-fits old new l o))
-
-pub older-fits : (l a most : ℕ) (o part : List ℕ) → Gives (older l o) a part → l ≤ most → length part ≤ most
-unfolding older
-older-fits l a most o part h k = rw h.hands (omega (arith, move-fits new old l o))
+pub moved-fits : (f g : Form) (l a most : ℕ) (o part : List ℕ) → Gives (move f g l o) a part → l ≤ most → length part ≤ most
+moved-fits f g l a most o part h k = rw h.hands (omega (arith, move-fits f g l o))
 
 says-shifted : (word : List ℕ) (m : Moved) (c : Card) (room a : ℕ) (part text : List ℕ) (r : ℕ) → Gives m a part → r ≤ text_space → take r text ≡ event_line word a part → Says (shifted word m c room) r text c
 unfolding shifted
 says-shifted word m c room a part text r h k e = record { short = k; line = e ∙ rw (h.answers, h.hands) refl; leaves = refl }
 
-pub says-newer : (number room l : ℕ) (c : Card) (o s : List ℕ) (a : ℕ) (part text : List ℕ) (r : ℕ) → l ≡ min room (save_limit new) → s ≡ o → Gives (newer l s) a part → r ≤ text_space → take r text ≡ event_line (ascii "newer") a part → Says (reply_to number room c (Said.moves old o)) r text c
-unfolding reply_to newer move_word other
-says-newer number room l c o s a part text r el es h k e = rw (← es, ← el) (says-shifted (ascii "newer") (move old new l s) c room a part text r h k e)
-
-pub says-older : (number room l : ℕ) (c : Card) (o s : List ℕ) (a : ℕ) (part text : List ℕ) (r : ℕ) → l ≡ min room (save_limit old) → s ≡ o → Gives (older l s) a part → r ≤ text_space → take r text ≡ event_line (ascii "older") a part → Says (reply_to number room c (Said.moves new o)) r text c
-unfolding reply_to older move_word other
-says-older number room l c o s a part text r el es h k e = rw (← es, ← el) (says-shifted (ascii "older") (move new old l s) c room a part text r h k e)
+pub says-moved : (b : Bool) (number room l : ℕ) (c : Card) (o s : List ℕ) (a : ℕ) (part text : List ℕ) (r : ℕ) → l ≡ min room (save_limit (form_of (not b))) → s ≡ o → Gives (move (form_of b) (form_of (not b)) l s) a part → r ≤ text_space → take r text ≡ event_line (move_word (form_of b)) a part → Says (reply_to number room c (Said.moves (form_of b) o)) r text c
+unfolding reply_to other form_of
+says-moved true number room l c o s a part text r el es h k e = rw (← es, ← el) (says-shifted (move_word new) (move new old l s) c room a part text r h k e)
+says-moved false number room l c o s a part text r el es h k e = rw (← es, ← el) (says-shifted (move_word old) (move old new l s) c room a part text r h k e)
 
 -- the word of HEX is no longer than the longest save's digits
 pub lies-most : (b : Bool) (l : List ℕ) (s e : ℕ) → SaveLies (form_of b) l s e → length (take (e - s) (drop s l)) ≤ 2 * save_limit new

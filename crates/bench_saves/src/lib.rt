@@ -1,16 +1,16 @@
 // The orders of the bench on saves: the call of either form that each is, and the line that tells of it, at the front of a lent text.
 #![tactic(auto)]
 
-ghost use Rattle.std.specs.Prelude.{◌≡◌, ℕ, ◌≤◌, ◌*◌, length, take};
+ghost use Rattle.std.specs.Prelude.{◌≡◌, ℕ, ◌≤◌, ◌*◌, length};
 ghost use Rattle.meaning.specs.Card.{Card};
-ghost use Rattle.meaning_save.specs.Save.{old, new, form_of, save_limit};
-ghost use Rattle.bench_lines.specs.Text.{text_space, count_line, event_line};
+ghost use Rattle.meaning_save.specs.Save.{new, form_of, save_limit};
+ghost use Rattle.bench_lines.specs.Text.{text_space};
 ghost use Rattle.memory.specs.Memory.{card_of};
 ghost use Rattle.bench_words.specs.Words.{octets_of};
 ghost use Rattle.bench_verbs.specs.Line.{Said};
 ghost use Rattle.bench_orders.specs.Tells.{meant, InLine};
 ghost use Rattle.bench_replies.specs.Kinds.{Kind, kind_of};
-ghost use Rattle.bench_replies.specs.Reply.{save_word, restore_word, reply_to, Says};
+ghost use Rattle.bench_replies.specs.Reply.{save_word, restore_word, move_word, reply_to, Says};
 
 use bench_orders::{OLD_SAVE_LIMIT, Order};
 use meaning::SAVE_LIMIT;
@@ -25,12 +25,6 @@ fn longest_save() -> [u8; SAVE_LIMIT]
     [0; SAVE_LIMIT]
 }
 
-fn longest_old() -> [u8; OLD_SAVE_LIMIT]
-    ensures { save_limit old ≡ length result }
-{
-    [0; OLD_SAVE_LIMIT]
-}
-
 // The octets that a save of the form is lent: as many as the longest has.
 fn most_of(second: bool) -> usize
     ensures { (result ≡ save_limit (form_of second)) × (result ≤ save_limit new) }
@@ -38,26 +32,23 @@ fn most_of(second: bool) -> usize
     if second { SAVE_LIMIT } else { OLD_SAVE_LIMIT }
 }
 
-// The line of save or save2.
-fn put_saved(text: &mut [u8], second: bool, answer: u32, octets: &[u8]) -> usize
-    requires { (length octets.now ≤ save_limit new) × (text_space ≤ length text.old) }
-    ensures { (take result text.new ≡ event_line (save_word (form_of second)) answer octets.now) × (result ≤ text_space) }
+fn save_word(second: bool) -> &'static [u8]
+    ensures { (result.now ≡ save_word (form_of second)) × (length result.now ≤ 8) }
 {
-    if second {
-        return bench_lines::put_event(text, b"save2", answer, octets);
-    }
-    bench_lines::put_event(text, b"save", answer, octets)
+    if second { b"save2" } else { b"save" }
 }
 
-// The line of restore or restore2.
-fn put_restored(text: &mut [u8], second: bool, answer: u32) -> usize
-    requires { text_space ≤ length text.old }
-    ensures { (take result text.new ≡ count_line (restore_word (form_of second)) answer) × (result ≤ text_space) }
+fn restore_word(second: bool) -> &'static [u8]
+    ensures { (result.now ≡ restore_word (form_of second)) × (length result.now ≤ 8) }
 {
-    if second {
-        return bench_lines::put_count(text, b"restore2", answer as u64);
-    }
-    bench_lines::put_count(text, b"restore", answer as u64)
+    if second { b"restore2" } else { b"restore" }
+}
+
+// From this form to the other.
+fn move_word(second: bool) -> &'static [u8]
+    ensures { (result.now ≡ move_word (form_of second)) × (length result.now ≤ 8) }
+{
+    if second { b"older" } else { b"newer" }
 }
 
 // ---- the orders
@@ -84,7 +75,7 @@ fn on_save(
         bench_replies::lent(&mut out[..most], room),
         &mut answer,
     );
-    put_saved(text, second, answer, octets)
+    bench_lines::put_event(text, save_word(second), answer, octets)
 }
 
 fn on_restore(
@@ -112,63 +103,33 @@ fn on_restore(
         &mut spare_names,
         &mut spare_save,
     );
-    put_restored(text, second, answer)
+    bench_lines::put_count(text, restore_word(second), answer as u64)
 }
 
-// A save of the old form becomes one of the new form; the card has no part in it.
-fn on_newer(hex: &[u8], room: u32, text: &mut [u8]) -> usize
-    requires { (length hex.now ≤ 2 * save_limit new) × (text_space ≤ length text.old) }
-    ensures { (number : ℕ) (c : Card) → Says (reply_to number room c (Said.moves old (octets_of hex.now))) result text.new c }
-{
-    let mut octets = longest_save();
-    let n = bench_words::decode_hex(hex, &mut octets);
-    let mut spare_numbers = [0u64; NUMBER_COUNT];
-    let mut spare_names = [0u8; OCTET_COUNT];
-    let mut spare_save = [0u8; SAVE_LIMIT];
-    let mut out = longest_save();
-    let mut answer: u32 = 0;
-    let moved = save_mover::newer(
-        &octets[..n],
-        &mut spare_numbers,
-        &mut spare_names,
-        &mut spare_save,
-        bench_replies::lent(&mut out, room),
-        &mut answer,
-    );
-    bench_lines::put_event(text, b"newer", answer, moved)
-}
-
-// The way back.
-fn on_older(hex: &[u8], room: u32, text: &mut [u8]) -> usize
-    requires { (length hex.now ≤ 2 * save_limit new) × (text_space ≤ length text.old) }
-    ensures { (number : ℕ) (c : Card) → Says (reply_to number room c (Said.moves new (octets_of hex.now))) result text.new c }
-{
-    let mut octets = longest_save();
-    let n = bench_words::decode_hex(hex, &mut octets);
-    let mut spare_numbers = [0u64; NUMBER_COUNT];
-    let mut spare_names = [0u8; OCTET_COUNT];
-    let mut spare_save = [0u8; SAVE_LIMIT];
-    let mut out = longest_old();
-    let mut answer: u32 = 0;
-    let moved = save_mover::older(
-        &octets[..n],
-        &mut spare_numbers,
-        &mut spare_names,
-        &mut spare_save,
-        bench_replies::lent(&mut out, room),
-        &mut answer,
-    );
-    bench_lines::put_event(text, b"older", answer, moved)
-}
-
+// A save of this form becomes one of the other; the card has no part in it.
 fn on_move(second: bool, hex: &[u8], room: u32, text: &mut [u8]) -> usize
     requires { (length hex.now ≤ 2 * save_limit new) × (text_space ≤ length text.old) }
     ensures { (number : ℕ) (c : Card) → Says (reply_to number room c (Said.moves (form_of second) (octets_of hex.now))) result text.new c }
 {
-    if second {
-        return on_older(hex, room, text);
-    }
-    on_newer(hex, room, text)
+    let mut octets = longest_save();
+    let n = bench_words::decode_hex(hex, &mut octets);
+    let mut spare_numbers = [0u64; NUMBER_COUNT];
+    let mut spare_names = [0u8; OCTET_COUNT];
+    let mut spare_save = [0u8; SAVE_LIMIT];
+    let mut space = longest_save();
+    let most = most_of(!second);
+    let out = bench_replies::lent(&mut space[..most], room);
+    let mut answer: u32 = 0;
+    let k = save_mover::move_core(
+        &octets[..n],
+        second,
+        &mut spare_numbers,
+        &mut spare_names,
+        &mut spare_save,
+        &mut *out,
+        &mut answer,
+    );
+    bench_lines::put_event(text, move_word(second), answer, &out[..k])
 }
 
 // An order on saves: no other comes here.

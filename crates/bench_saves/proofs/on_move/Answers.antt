@@ -1,14 +1,23 @@
 -- `bench_saves::on_move` meets its contract, in either form. Assumes nothing.
-use Rattle.bench_saves.proofs.Saves.{moves-new, moves-old}
-use borrow.Author.Rules.{rules}
+use Rattle.std.proofs.Common.{min, ◌≡◌, ap, ◌∙◌, arith, length, take}
+use lib.Seq.{length-take-le}
+use Rattle.meaning_save.specs.Save.{new, save_limit}
+use Rattle.save_mover.proofs.Moving.{given, given-count}
+use Rattle.bench_words.proofs.Words.{front-is}
+use Rattle.bench_saves.proofs.Saves.{moved-fits, says-moved}
 use Rattle.bench_saves.proofs.on_move.Goals as goal
 
-pub returns-then-second : goal.returns-then-second
-returns-then-second c =
-    let the-if1 = c.if-second in
-    λ number d. moves-new _ number _ d _ _ _ the-if1.true (c.on_older.ensures number d)
+pub slice_bounds-put_event-end : goal.slice_bounds-put_event-end
+slice_bounds-put_event-end c = given-count _ _ _ _ _ c.move_core-k.ensures
+
+pub put_event-requires : goal.put_event-requires
+put_event-requires c =
+    let most = c.most_of-most in
+    let whole = length-take-le most.result c.longest_save-space.result (omega (arith, most.ensures.1, c.longest_save-space.ensures)) in
+    (c.move_word.ensures.1, moved-fits _ _ _ _ (save_limit new) _ _ (given _ _ _ _ _ c.move_core-k.ensures) (omega (arith, c.lent-out.ensures.1, most.ensures.1, whole)), c.requires.1)
 
 pub returns : goal.returns
 returns c =
-    let the-if1 = c.if-second in
-    λ number d. moves-old _ number _ d _ _ _ the-if1.false (c.on_newer.ensures number d)
+    let most = c.most_of-most in
+    let whole : length (take most.result c.longest_save-space.result) ≡ most.result = length-take-le _ _ (omega (arith, most.ensures.1, c.longest_save-space.ensures)) in
+    λ number d. says-moved c.args.second number c.args.room _ d _ _ _ _ _ _ (c.lent-out.ensures.1 ∙ ap (min c.args.room) (whole ∙ most.ensures.0)) (front-is c.decode_hex-n.ensures.puts) (given _ _ _ _ _ c.move_core-k.ensures) c.put_event.ensures.upper_bound (rw c.move_word.ensures.0 at c.put_event.ensures.text_after)

@@ -13,12 +13,12 @@ use Rattle.bench_saves.proofs.on_save.Goals as goal
 pub slice_bounds-lent-end : goal.slice_bounds-lent-end
 slice_bounds-lent-end c = sym (length-take-le _ _ (omega (arith, c.most_of-most.ensures.1, c.longest_save-out.ensures)))
 
-pub put_saved-requires : goal.put_saved-requires
-put_saved-requires c =
+pub put_event-requires : goal.put_event-requires
+put_event-requires c =
     let the_lent = c.lent in
     let the-most-of = c.most_of-most in
     let the-longest-save = c.longest_save-out in
-    (part-fits _ (save_limit new) c.save-octets.ensures.0 (save-fits _ _ _) (omega (arith, the_lent.ensures.1, the-most-of.ensures.1, length-take-le the-most-of.result the-longest-save.result (omega (arith, the-most-of.ensures.1, the-longest-save.ensures)))), c.requires)
+    (c.save_word.ensures.1, part-fits _ (save_limit new) c.save-octets.ensures.0 (save-fits _ _ _) (omega (arith, the_lent.ensures.1, the-most-of.ensures.1, length-take-le the-most-of.result the-longest-save.result (omega (arith, the-most-of.ensures.1, the-longest-save.ensures)))), c.requires)
 
 pub returns : goal.returns
 returns c =
@@ -27,4 +27,4 @@ returns c =
     let the_lent = c.lent in
     let the-save = c.save-octets in
     let whole : length (take the-most-of.result the-longest-save.result) ≡ the-most-of.result = length-take-le _ _ (omega (arith, the-most-of.ensures.1, the-longest-save.ensures)) in
-    λ number. says-saved (form_of c.args.second) number c.args.room _ _ _ _ _ _ (the_lent.ensures.1 ∙ ap (min c.args.room) (whole ∙ the-most-of.ensures.0)) the-save.ensures.0 c.put_saved.ensures.1 c.put_saved.ensures.0
+    λ number. says-saved (form_of c.args.second) number c.args.room _ _ _ _ _ _ (the_lent.ensures.1 ∙ ap (min c.args.room) (whole ∙ the-most-of.ensures.0)) the-save.ensures.0 c.put_event.ensures.upper_bound (rw c.save_word.ensures.0 at c.put_event.ensures.text_after)
