@@ -3,11 +3,15 @@ use Prim.Native.Nat.{ℕ, ◌+◌, ◌-◌, ◌*◌, ◌≤◌, ◌<◌}
 use native.Mathlib.Numerals.{add-one}
 use native.Mathlib.Omega.{arith}
 use mathlib.Core.Path.{◌≡◌, refl, sym, ap, ◌∙◌}
-use mathlib.Core.Bool.{Bool, true, false}
+use mathlib.Core.Bool.{Bool, true, false, ◌&&◌}
 use mathlib.Core.List.{List, [], ◌∷◌, ◌++◌, append_assoc}
-use lib.ListN.{length, take, get_or}
+use lib.Dec.{eqb}
+use lib.ListN.{length, take, drop, get_or}
+use lib.Pointwise.{pointwise}
 use lib.Seq.{take_all, take-suc}
-use borrow.Author.Tests.{eq-eqb, ne_eqb}
+use denote.Ref.{Bor}
+use Rattle.std.proofs.Common.{Option, Some, None}
+use Rattle.std.specs.Option.{MatchOption, unwrap_or}
 use Rattle.meaning.specs.Lists.{append-nil, never}
 use Rattle.meaning.specs.Card.{Tree, Card, tree_at, bare}
 use Rattle.meaning_save.specs.Save.{Form, new, form_of, save_limit, table_in, is_save, is_tree}
@@ -73,18 +77,31 @@ module _ {b : Bool} {t : List ℕ} {c : Card} (s : Shows b t c) where
 
 -- ---- the input
 
-pub hex-none : (l : List ℕ) → length l ≡ 0 → take (length l) l ≡ hex_in l
-unfolding hex_in
-hex-none [] e = refl
-hex-none (c ∷ l) e = absurd (omega arith)
+last-by : (x : ℕ) (l : List ℕ) → pointwise eqb (drop (length l) (x ∷ l)) (10 ∷ []) ≡ eqb (get_or (x ∷ l) (length l) 0) 10
+last-by x [] = and-true (eqb x 10)
+  where
+    and-true : (b : Bool) → (b && true) ≡ b
+    and-true true = refl
+    and-true false = refl
+last-by x (y ∷ ys) = last-by y ys
 
-pub hex-ended : (l : List ℕ) → get_or l (length l - 1) 0 ≡ 10 → take (length l - 1) l ≡ hex_in l
-unfolding hex_in
-hex-ended l e = rw (eq-eqb (get_or l (length l - 1) 0) 10 e) refl
+ends-by : (l : List ℕ) → pointwise eqb (drop (length l - 1) l) (10 ∷ []) ≡ eqb (get_or l (length l - 1) 0) 10
+ends-by [] = refl
+ends-by (x ∷ l) = let e : length (x ∷ l) - 1 ≡ length l = omega arith in rw e (last-by x l)
 
-pub hex-open : (l : List ℕ) → (get_or l (length l - 1) 0 ≡ 10 → ⊥) → take (length l) l ≡ hex_in l
-unfolding hex_in
-hex-open l e = rw (ne_eqb (get_or l (length l - 1) 0) 10 e) (take_all (length l) l (omega arith))
+module _ (l : List ℕ) where
+  hex-ended : (w : List ℕ) → pointwise eqb (drop (length l - 1) l) (10 ∷ []) ≡ true → w ≡ take (length l - 1) l → w ≡ hex_in l
+  unfolding hex_in
+  hex-ended w h e = rw (sym (ends-by l) ∙ h) e
+
+  hex-open : pointwise eqb (drop (length l - 1) l) (10 ∷ []) ≡ false → l ≡ hex_in l
+  unfolding hex_in
+  hex-open h = rw (sym (ends-by l) ∙ h) refl
+
+-- the input without the line's end, where it has one
+pub hex-or : (l : Bor (List ℕ)) (r : Option (Bor (List ℕ))) → MatchOption r (pointwise eqb (drop (length l.now - 1) l.now) (10 ∷ []) ≡ false) (λ x. (pointwise eqb (drop (length l.now - 1) l.now) (10 ∷ []) ≡ true) × (x.now ≡ take (length l.now - 1) l.now) × (length x.now + 1 ≡ length l.now)) → (unwrap_or r l).now ≡ hex_in l.now
+hex-or l None h = hex-open l.now h
+hex-or l (Some x) h = hex-ended l.now x.now h.0 h.1
 
 module _ (l w : List ℕ) (p : w ≡ hex_in l) (b : Bool) (q : b ≡ is_hex_to (2 * save_limit new) w) {card : Card} where
   pub shows-hex : {taken : Bool} → b ≡ true → Shows taken (shown_of (octets_of w)) card → Shows taken (shown l) card

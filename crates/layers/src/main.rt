@@ -89,10 +89,8 @@ fn put_trees(text: &mut [u8], numbers: &[u64], names: &[u8]) -> usize
 {
     let n = memory::tree_count(numbers);
     let mut at = 0;
-    let mut i = 0;
-    while i < n {
+    for i in 0..n {
         at = add_tree(text, at, numbers, names, i);
-        i += 1;
     }
     at
 }
@@ -110,24 +108,15 @@ fn is_taken(octets: &[u8], numbers: &mut [u64], names: &mut [u8]) -> bool
     requires { Numbers numbers.old × Names names.old }
     ensures { Shows result (shown_of octets.now) (card_of numbers.new names.new) }
 {
-    if save_reader::is_taken(octets, false, numbers, names) {
-        return true;
-    }
-    save_reader::is_taken(octets, true, numbers, names)
+    save_reader::is_taken(octets, false, numbers, names)
+        || save_reader::is_taken(octets, true, numbers, names)
 }
 
-// Where the HEX ends.
-fn hex_end(input: &[u8]) -> usize
-    ensures { (take result input.now ≡ hex_in input.now) × (result ≤ length input.now) }
+// The HEX of an input.
+fn hex_in(input: &[u8]) -> &[u8]
+    ensures { result.now ≡ hex_in input.now }
 {
-    let n = input.len();
-    if n == 0 {
-        return n;
-    }
-    if input[n - 1] == b'\n' {
-        return n - 1;
-    }
-    n
+    input.strip_suffix(b"\n").unwrap_or(input)
 }
 
 // The same of octets in HEX of no more digits than the longest save's.
@@ -144,11 +133,8 @@ fn is_taken_input(input: &[u8], octets: &mut [u8], numbers: &mut [u64], names: &
     requires { (save_limit new ≤ length octets.old) × Numbers numbers.old × Names names.old }
     ensures { Shows result (shown input.now) (card_of numbers.new names.new) }
 {
-    let n = hex_end(input);
-    if bench_words::is_hex_to(&input[..n], SAVE_DIGITS) {
-        return is_taken_hex(&input[..n], octets, numbers, names);
-    }
-    false
+    let hex = hex_in(input);
+    bench_words::is_hex_to(hex, SAVE_DIGITS) && is_taken_hex(hex, octets, numbers, names)
 }
 
 // What is printed for an input. All that is lent may hold anything before, and but for the text anything after.
