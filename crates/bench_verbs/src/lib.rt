@@ -1,4 +1,5 @@
 // The verb of a line of the bench program.
+// Kept: tests of whole words, as the definition has them: a `match` over the words was tried, and asks an answer for each octet at which a word may part, eleven for two words.
 #![tactic(auto)]
 
 ghost use Rattle.std.specs.Prelude.{◌≡◌};
