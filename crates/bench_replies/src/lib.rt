@@ -25,9 +25,6 @@ pub fn output() -> [u8; SENT_LIMIT]
 pub fn lent(out: &mut [u8], room: u32) -> &mut [u8]
     ensures { (result.now ≡ take room out.old) × (length result.now ≡ min room (length out.old)) }
 {
-    let n = room as usize;
-    if n < out.len() {
-        return &mut out[..n];
-    }
-    out
+    let n = out.len().min(room as usize);
+    &mut out[..n]
 }
