@@ -19,7 +19,7 @@ use Rattle.memory.specs.Sizes.{root_names}
 use Rattle.memory.specs.Memory.{card_of, text_at, Column, in_column, tree_count, tree_in, tree_name}
 use Rattle.memory.proofs.Trees.{trees-start, named-at}
 
-one_more : (j w : ℕ) → (j + 1) * w ≡ j * w + w
+pub one_more : (j w : ℕ) → (j + 1) * w ≡ j * w + w
 one_more j w = rw (add-one j) (suc-mul j w)
 
 -- the jth of n spaces ends before the last does

@@ -162,10 +162,13 @@ fn next_like(names: &[u8], k: usize, from: usize, i: usize, n: usize, s: &[u8]) 
     requires { Names names.now × (i ≤ n) × Column k from n }
     ensures { (i ≤ result) × (result ≤ n) × ((j : ℕ) → i ≤ j → j < result → same (in_column k from names.now j) s.now ≡ false) }
 {
+    let w = k + 1;
+    let mut a = from + i * w;
     for j in i..n {
-        if may_be(names, k, from + j * (k + 1), s) {
+        if may_be(names, k, a, s) {
             return j;
         }
+        a += w;
     }
     n
 }

@@ -30,13 +30,32 @@ pub fn is_empty(numbers: &[u64], i: usize) -> bool
 }
 
 // What a tree counts that has so many branches, and a leaf or none.
+// Kept: by cases; with `u64::from` of the tests a change of a leaf took 125 instructions for 79 (docs/BENCHMARK.md), since the compiler put
+// the count of the branches behind the change, and kept all sixteen until then.
 fn counts_of(leaf: bool, branches: u64) -> Counts
     ensures { ((t : Tree) → leaf ≡ t.leaf → branches ≡ count is_branch t.branches → (result.standing ≡ one_standing t) × (result.lone ≡ one_lone t))
         × (result.standing ≤ 1) × (result.lone ≤ 1) }
 {
-    Counts {
-        standing: u64::from(leaf || branches != 0),
-        lone: u64::from(!leaf && branches == 1),
+    if leaf {
+        Counts {
+            standing: 1,
+            lone: 0,
+        }
+    } else if branches == 0 {
+        Counts {
+            standing: 0,
+            lone: 0,
+        }
+    } else if branches == 1 {
+        Counts {
+            standing: 1,
+            lone: 1,
+        }
+    } else {
+        Counts {
+            standing: 1,
+            lone: 0,
+        }
     }
 }
 

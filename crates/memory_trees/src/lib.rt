@@ -1,7 +1,7 @@
 // Trees in the card's memory: what is asked of them.
 #![tactic(auto)]
 
-ghost use Rattle.std.specs.Prelude.{◌≡◌, true, List, ℕ, ◌+◌, ◌≤◌, ◌<◌, length, get_or, set};
+ghost use Rattle.std.specs.Prelude.{◌≡◌, true, false, ◌⊎◌, List, ℕ, ◌+◌, ◌≤◌, ◌<◌, length, get_or, set};
 ghost use Rattle.meaning.specs.Octets.{pick, place, any, count};
 ghost use Rattle.meaning.specs.Wire.{name_limit};
 ghost use Rattle.meaning.specs.Card.{tree_place, tree_at, is_branch, held_for, carries, label_count, tree_limit, neighbour_count, nobody};
@@ -106,13 +106,20 @@ pub fn count_of(numbers: &[u64], i: usize, n: usize) -> u64
     0
 }
 
+// A function of its own: compiled, a place with no branch then takes two steps of `any_other`, where tests in one condition took six.
+fn is_other(k: usize, n: usize, but: usize) -> bool
+    ensures { (result ≡ true → (k ≡ n → ⊥) × (k ≡ but → ⊥)) × (result ≡ false → (k ≡ n) ⊎ (k ≡ but)) }
+{
+    k != n && k != but
+}
+
 // Whether the tree has a branch of another neighbour than n and `but`. Most have one of a low number, and the first ends the search.
 fn any_other(numbers: &[u64], i: usize, n: usize, but: usize) -> bool
     requires { Numbers numbers.now × StandsAt numbers.now i }
     ensures { (os : List ℕ) → result ≡ any is_branch (set (set (tree_at i (card_of numbers.now os)).branches n 0) but 0) }
 {
     for k in 0..NEIGHBOUR_COUNT {
-        if branch(numbers, i, k) != 0 && k != n && k != but {
+        if branch(numbers, i, k) != 0 && is_other(k, n, but) {
             return true;
         }
     }

@@ -225,6 +225,8 @@ fn copy_three(dst: &mut [u8], src: &[u8])
 // The same as `copy`, for a text whose length nobody foresees: by eights, of which the last goes over some that are there already, where
 // `copy` takes what is left octet by octet. For a few octets of a fixed number `copy` is the quicker.
 // Kept: by eights; a save went from 76,266 to 69,945 instructions (docs/BENCHMARK.md). `step_by(8)` asks twice in each turn.
+// Not put into its callers: with it the writer of a record was too large to be put into its own, and a move took half the stack more.
+#[inline(never)]
 pub fn copy_text(dst: &mut [u8], src: &[u8])
     requires { length src.now ≡ length dst.old }
     ensures { dst.new ≡ src.now }
