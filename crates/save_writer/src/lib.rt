@@ -186,6 +186,8 @@ pub fn write_save(numbers: &[u64], names: &[u8], second: bool, out: &mut [u8]) -
 // ---- the call: `second` says that the save is of the new form
 
 // The save at the front of the output, and how many octets it has. Where it is refused the output stays.
+// It is put into its callers, and `save_core` into none: so compiled, the Result between them takes no stack.
+#[inline(always)]
 pub fn save_into(
     numbers: &[u64],
     names: &[u8],
@@ -205,6 +207,7 @@ pub fn save_into(
     Ok(write_save(numbers, names, second, out))
 }
 
+#[inline(never)]
 pub fn save_core(
     numbers: &[u64; NUMBER_COUNT],
     names: &[u8; OCTET_COUNT],
