@@ -9,7 +9,7 @@ ghost use Rattle.meaning.specs.Events.{need_all};
 ghost use Rattle.meaning.specs.Calls.{over};
 ghost use Rattle.memory.specs.Sizes.{Numbers, Names};
 ghost use Rattle.memory.specs.Memory.{card_of};
-ghost use Rattle.meaning_plan.specs.Plan.{Move, may_have, no_choice, choice, is_before, insert, need_list, proposal, is_found};
+ghost use Rattle.meaning_plan.specs.Plan.{Move, may_have, no_choice, choice, is_below, is_before, insert, need_list, proposal, is_found};
 ghost use Rattle.meaning_plan.specs.PlanOctets.{allowed_in, entry_size, entry_of, entries_in, list_in, list_limit, planned_octets};
 ghost use Rattle.plan_check.specs.Verdict.{numbered};
 ghost use Rattle.plan_make.specs.Plan.{plan_of, list_made, entries_of, Readable};
@@ -58,11 +58,25 @@ fn choose(numbers: &[u64], names: &[u8], n: u64, sets: &[u8], root: &[u8]) -> u6
 
 // ---- the order of roots
 
-// The shorter first, each by rising address: by the first octet that differs.
+// By the first octet that differs.
+// Kept: octet by octet; with `<` of slices a plan of 32 roots took 1.5 times the instructions, of 16 octets each twice as many.
+fn is_below(a: &[u8], b: &[u8]) -> bool
+    requires { length a.now ≡ length b.now }
+    ensures { result ≡ is_below a.now b.now }
+{
+    for i in 0..a.len() {
+        if a[i] != b[i] {
+            return a[i] < b[i];
+        }
+    }
+    false
+}
+
+// The shorter first, each by rising address.
 fn is_before(a: &[u8], b: &[u8]) -> bool
     ensures { result ≡ is_before a.now b.now }
 {
-    a.len() < b.len() || (a.len() == b.len() && a < b)
+    a.len() < b.len() || (a.len() == b.len() && is_below(a, b))
 }
 
 // ---- the rows of a list
