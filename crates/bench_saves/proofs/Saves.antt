@@ -2,7 +2,7 @@
 use Prim.Native.Nat.{ℕ, ◌-◌, ◌*◌, ◌≤◌, min}
 use native.Mathlib.Nat.{le_trans}
 use native.Mathlib.Omega.{arith}
-use mathlib.Core.Path.{◌≡◌, refl, ap, ◌∙◌}
+use mathlib.Core.Path.{◌≡◌, refl, sym, ap, ◌∙◌}
 use mathlib.Core.Bool.{Bool, true, false, not}
 use mathlib.Core.List.{List}
 use lib.ListN.{length, take, drop}
@@ -29,6 +29,20 @@ module _ (b : Bool) where
   pub most-old : b ≡ false → (save_limit old ≡ save_limit (form_of b)) × (save_limit old ≤ save_limit new)
   unfolding form_of
   most-old e = rw e (refl, omega arith)
+
+-- the space of the other form
+pub limit-most : (b : Bool) → save_limit (form_of (not b)) ≤ save_limit new
+unfolding form_of
+limit-most true = omega arith
+limit-most false = omega arith
+
+pub other-old : (b : Bool) (l : ℕ) → b ≡ true → save_limit old ≡ l → l ≡ save_limit (form_of (not b))
+unfolding form_of
+other-old b l e h = rw e (sym h)
+
+pub other-new : (b : Bool) (l : ℕ) → b ≡ false → save_limit new ≡ l → l ≡ save_limit (form_of (not b))
+unfolding form_of
+other-new b l e h = rw e (sym h)
 
 -- ---- a save, lent as much as the longest of its form has, or the room
 

@@ -1,23 +1,9 @@
--- `bench_saves::on_move` meets its contract, in either form. Assumes nothing.
-use Rattle.std.proofs.Common.{min, ◌≡◌, ap, ◌∙◌, arith, length, take}
-use lib.Seq.{length-take-le}
-use Rattle.meaning_save.specs.Save.{new, save_limit}
-use Rattle.save_mover.proofs.Moving.{given, given-count}
-use Rattle.bench_words.proofs.Words.{front-is}
-use Rattle.bench_saves.proofs.Saves.{moved-fits, says-moved}
+-- `bench_saves::on_move` meets its contract: the space is that of the other form. Assumes nothing.
+use Rattle.bench_saves.proofs.Saves.{other-old, other-new}
 use Rattle.bench_saves.proofs.on_move.Goals as goal
 
-pub slice_bounds-put_event-end : goal.slice_bounds-put_event-end
-slice_bounds-put_event-end c = given-count _ _ _ _ _ c.move_core-k.ensures
+pub move_into-requires : goal.move_into-requires
+move_into-requires c = (c.requires.0, c.requires.1, other-old _ _ c.if-second.true c.longest_old-space.ensures)
 
-pub put_event-requires : goal.put_event-requires
-put_event-requires c =
-    let most = c.most_of-most in
-    let whole = length-take-le most.result c.longest_save-space.result (omega (arith, most.ensures.1, c.longest_save-space.ensures)) in
-    (c.move_word.ensures.1, moved-fits _ _ _ _ (save_limit new) _ _ (given _ _ _ _ _ c.move_core-k.ensures) (omega (arith, c.lent-out.ensures.1, most.ensures.1, whole)), c.requires.1)
-
-pub returns : goal.returns
-returns c =
-    let most = c.most_of-most in
-    let whole : length (take most.result c.longest_save-space.result) ≡ most.result = length-take-le _ _ (omega (arith, most.ensures.1, c.longest_save-space.ensures)) in
-    λ number d. says-moved c.args.second number c.args.room _ d _ _ _ _ _ _ (c.lent-out.ensures.1 ∙ ap (min c.args.room) (whole ∙ most.ensures.0)) (front-is c.decode_hex-n.ensures.puts) (given _ _ _ _ _ c.move_core-k.ensures) c.put_event.ensures.upper_bound (rw c.move_word.ensures.0 at c.put_event.ensures.text_after)
+pub move_into-requires-else-second : goal.move_into-requires-else-second
+move_into-requires-else-second c = (c.requires.0, c.requires.1, other-new _ _ c.if-second.false c.longest_save-space.ensures)
