@@ -116,7 +116,7 @@ pub record SaveHex (g : Form → List ℕ → Said) (l : List ℕ) (f : Form) (w
   pub means : g f (octets_of (text_of v l)) ≡ with_save g f (text_of w l ∷ [])
   pub lies : SaveLies f l v.start v.end
 
-save-lies : (f : Form) (l : List ℕ) (w : Word) → Within w l → is_save_hex f (text_of w l) ≡ true → SaveLies f l w.start w.end
+pub save-lies : (f : Form) (l : List ℕ) (w : Word) → Within w l → is_save_hex f (text_of w l) ≡ true → SaveLies f l w.start w.end
 unfolding is_save_hex
 save-lies old l w h t = hex-lies (2 * save_limit old) l w.start w.end (omega arith) h.0 h.1 t
 save-lies new l w h t = hex-lies (2 * save_limit new) l w.start w.end (omega arith) h.0 h.1 t

@@ -31,6 +31,11 @@ module _ (c : Card) (n : ℕ) (m : Message) where
   unfolding on_message
   says-release e = rw (ne_eqb m.kind mapping (λ p. omega (arith, p, e)), ne_eqb m.kind withdraw (λ p. omega (arith, p, e)), eq-eqb m.kind release e) refl
 
+  -- another kind is refused 3; the code meets none, since `wire_reader::Kind` has these three and another type is refused before
+  pub says_nothing : (m.kind ≡ mapping → ⊥) → (m.kind ≡ withdraw → ⊥) → (m.kind ≡ release → ⊥) → refused 3 ≡ on_message c n m
+  unfolding on_message
+  says_nothing p q r = rw (ne_eqb m.kind mapping p, ne_eqb m.kind withdraw q, ne_eqb m.kind release r) refl
+
 -- ---- a message, or its refusal
 
 pub unless-refused : (k : ℕ) (o : Outcome) → 0 < k → unless k o ≡ refused k

@@ -88,7 +88,7 @@ look-some id (suc n) s e = refl
 
 -- ---- a PDU's head
 
-head-most : (id : List ℕ) (left : ℕ) (s : List ℕ) → IfSome (head_in (look id left s)) (λ n. n ≤ body_limit)
+pub head-most : (id : List ℕ) (left : ℕ) (s : List ℕ) → IfSome (head_in (look id left s)) (λ n. n ≤ body_limit)
 head-most id left s = by (look id left s) (look-tells id left s)
   where
     by : (l : Look) → Tells left s l → IfSome (head_in l) (λ n. n ≤ body_limit)

@@ -93,7 +93,7 @@ module _ (ns b o : List ℕ) (h : Held) (lim k : ℕ) (b1 : List ℕ) (is : IsHe
   first-few : h.count + k ≤ limit h.left
   first-few = omega (arith, is.few)
 
-  first-held : (fill (left_in ns) (held_at ns b) 0 o).held ≡ take (h.count + k) (drop h.place b1)
+  pub first-held : (fill (left_in ns) (held_at ns b) 0 o).held ≡ take (h.count + k) (drop h.place b1)
   unfolding fill held_at
   first-held =
       let t : take k o ≡ take (lim - h.count) o = ap (λ (j : ℕ). take j o) is-k ∙ take_min (lim - h.count) o in

@@ -44,11 +44,11 @@ gives-pair l n v w b h g p q =
 -- ---- the orders
 
 module _ (l : List ℕ) (g : Given) (r : Option (ℕ × Word)) (gives : Gives l g r) where
-  given-none : r ≡ None → g ≡ none
+  pub given-none : r ≡ None → g ≡ none
   unfolding pair_in
   given-none e = let z : none ≡ g = rw e at gives.means in sym z
 
-  given_is : (p : ℕ × Word) → r ≡ Some p → (g ≡ given p.0 (octets_of (text_of p.1 l))) × Lies l p.1.start p.1.end
+  pub given_is : (p : ℕ × Word) → r ≡ Some p → (g ≡ given p.0 (octets_of (text_of p.1 l))) × Lies l p.1.start p.1.end
   unfolding pair_in
   given_is p q = let z : given p.0 (octets_of (text_of p.1 l)) ≡ g = rw q at gives.means in (sym z, rw q at gives.lies)
 

@@ -1,14 +1,28 @@
--- One of the streams: each has its numbers and its buffer. Assumes nothing.
-use Prim.Native.Nat.{ℕ, ◌<◌}
+-- One of the streams: each has its numbers and its buffer. And a part of a list that is anew. Assumes nothing.
+use Prim.Native.Nat.{ℕ, ◌+◌, ◌-◌, ◌≤◌, ◌<◌}
+use native.Mathlib.Omega.{arith}
 use mathlib.Core.Path.{◌≡◌, refl}
-use mathlib.Core.List.{List, []}
-use lib.ListN.{length, get_or, set}
-use lib.Seq.{get_or-set_same, get_or-set_other}
+use mathlib.Core.List.{List, [], ◌++◌}
+use lib.ListN.{length, take, drop, get_or, set}
+use lib.Seq.{length-take-le, take_at, drop_at, get_or-set_same, get_or-set_other}
+use Rattle.octets.specs.Part.{mid}
 use Rattle.octets.proofs.Tab.{tab-get, tab-set}
 use Rattle.session.specs.Stream.{empty}
 use Rattle.session.specs.Lent.{stream_of}
 use Rattle.session_orders.specs.Told.{stream_count}
 use Rattle.session_replies.specs.Four.{lent_at, streams_of}
+
+-- ---- a part anew
+
+pub width : (a w : ℕ) → a + w - a ≡ w
+width a w = omega arith
+
+pub part_same : (a w : ℕ) (xs ys : List ℕ) → a ≤ length xs → length ys ≡ w → take w (drop a (mid a w xs ys)) ≡ ys
+part_same a w xs ys h e =
+    rw (drop_at (take a xs) (ys ++ drop w (drop a xs)) a (length-take-le a xs h))
+    (take_at ys (drop w (drop a xs)) w e)
+
+-- ---- one of the streams
 
 pub four-at : (ns bs : List (List ℕ)) (n : ℕ) → n < stream_count → get_or (streams_of ns bs) n empty ≡ stream_of (lent_at ns n) (lent_at bs n)
 unfolding streams_of
