@@ -71,7 +71,7 @@ pub fn answer_of<T>(done: &Result<T, Refusal>) -> u32
     }
 }
 
-// For a caller that is told a number and a count: both are 0 where the other is not.
+// For a caller that is told a number and a count: 0 and the count, or the number and 0.
 pub fn tell(done: Result<usize, Refusal>, answer: &mut u32) -> usize
     ensures answer { answer.new ≡ answer_of done }
     ensures count { result ≡ count_of done }
