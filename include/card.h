@@ -30,14 +30,14 @@
  * The most stack that each call takes, in octets, its return address counted and its arguments not. It is read from
  * the object code, over every path (tools/stack), and memcpy and memset come on top:
  *
- *     card_start          8     card_notice        40     card_layers        56     card_serve         432
- *     card_receive      368     card_read_notice   32     card_layer         88     card_is_stopped      8
- *     card_join         352     card_save         248     card_wrap         136     card_holds_message  16
- *     card_leave        336     card_save2        232     card_unwrap       120     card_lose          264
- *     card_route        464     card_restore      824                               card_pack          128
- *     card_lost         264     card_restore2     824     card_check_list   296
- *     card_lookup_label   8     card_newer        840     card_plan         856
- *     card_lookup_name  136     card_older        840
+ *     card_start          8     card_notice        40     card_layers        56     card_serve         296
+ *     card_receive      344     card_read_notice   32     card_layer         88     card_is_stopped      8
+ *     card_join         200     card_save         232     card_wrap         136     card_holds_message  16
+ *     card_leave        312     card_save2        232     card_unwrap       120     card_lose          216
+ *     card_route        312     card_restore      920                               card_pack          128
+ *     card_lost         216     card_restore2     920     card_check_list   296
+ *     card_lookup_label   8     card_newer        920     card_plan         840
+ *     card_lookup_name  136     card_older        920
  *     card_free_labels    8
  */
 #ifndef CARD_H
